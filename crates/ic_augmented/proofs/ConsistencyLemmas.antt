@@ -19,10 +19,10 @@ times_top p leaf e = absurd (none_not p e)
 times_top p (fork c a q b) e = let h : one_at p q ≡ 1 = rw (some_same e) (one_at_self p) in omega arith
 
 -- p stands at the root alone
-apart_left : (q p : Place) (c : Color) (a b : Tree) → ((x : Place) → times x (fork c a p b) ≤ 1) → 1 ≤ times q a → q ≢ p
+pub apart_left : (q p : Place) (c : Color) (a b : Tree) → ((x : Place) → times x (fork c a p b) ≤ 1) → 1 ≤ times q a → q ≢ p
 apart_left q p c a b once m e = let k : one_at q p ≡ 1 = rw e (one_at_self p) in omega (arith, k, m, once q)
 
-apart_right : (q p : Place) (c : Color) (a b : Tree) → ((x : Place) → times x (fork c a p b) ≤ 1) → 1 ≤ times q b → q ≢ p
+pub apart_right : (q p : Place) (c : Color) (a b : Tree) → ((x : Place) → times x (fork c a p b) ≤ 1) → 1 ≤ times q b → q ≢ p
 apart_right q p c a b once m e = let k : one_at q p ≡ 1 = rw e (one_at_self p) in omega (arith, k, m, once q)
 
 where_is : (i k : ℕ) → 1 ≤ i + k → (1 ≤ i) ⊎ (1 ≤ k)
@@ -38,11 +38,11 @@ module _ {S : Type 0} where
   pub not_stale : (z : Sums S) (p q : Place) (x : S) → z.fresh p ≡ None → z.fresh q ≡ Some x → q ≢ p
   not_stale z p q x none some e = none_not x (sym none ∙ (ap z.fresh (sym e) ∙ some))
 
-  seen_same : (z w : Sums S) (o : Option Place) → ((c : Place) → o ≡ Some c → IsSameAt z w c) → seen w o ≡ seen z o
+  pub seen_same : (z w : Sums S) (o : Option Place) → ((c : Place) → o ≡ Some c → IsSameAt z w c) → seen w o ≡ seen z o
   seen_same z w None k = refl
   seen_same z w (Some c) k = (k c refl).fresh
 
-  under_same : (z w : Sums S) (q : Place) (o : Option Place) → IsUnder z q o → ((c : Place) → o ≡ Some c → IsSameAt z w c) → IsUnder w q o
+  pub under_same : (z w : Sums S) (q : Place) (o : Option Place) → IsUnder z q o → ((c : Place) → o ≡ Some c → IsSameAt z w c) → IsUnder w q o
   under_same z w q None h k = tt
   under_same z w q (Some c) h k = (ap is_fresh (k c refl).fresh ∙ h.0, (k c refl).upper ∙ h.1)
 
@@ -218,7 +218,7 @@ module _ {S : Type 0} where
     still : (q : Place) (x : S) → w.fresh q ≡ Some x → old.fresh q ≡ Some x
     still q x e = h.fresh q x (sym (k.others q (not_stale w p q x k.stale e)) ∙ e)
 
-  stale_none : (o : Option S) → is_fresh o ≡ false → o ≡ None
+  pub stale_none : (o : Option S) → is_fresh o ≡ false → o ≡ None
   stale_none None e = refl
   stale_none (Some x) e = let k : true ≡ false = e in cc
 
@@ -258,21 +258,32 @@ module _ {E S : Type 0} (n : E → Node) where
   pub invalidated_starts : (v : Table E) (z : Sums S) (s : List Place) (o : Option Place) → IsConsistent n v z s → IsConsistentBut n v z s o
   invalidated_starts v z s o h q m but x e = h q m (none_not q) x e
 
-  -- A WRITE at a place whose summary is stale
-  pub written_stale : (v w : Table E) (z : Sums S) (s : List Place) (p : Place) → z.fresh p ≡ None → ChangesOnly v w p → IsConsistent n v z s → IsConsistent n w z s
-  written_stale v w z s p none only h q m but x e =
+  -- the same place by another name
+  pub edge_there : (v : Table E) (z : Sums S) (s : List Place) (p q : Place) (o : Option Place) → o ≡ Some p → p ≡ q → IsConsistentBut n v z s o → IsConsistentBut n v z s (Some q)
+  edge_there v z s p q o is e h = subst (λ (y : Option Place). IsConsistentBut n v z s y) (is ∙ ap Some e) h
+
+  -- A WRITE at a place whose summary is stale, and one that keeps the children, where one place is left out
+  pub edge_written : (v w : Table E) (z : Sums S) (s : List Place) (p : Place) (o : Option Place) → z.fresh p ≡ None → ChangesOnly v w p → IsConsistentBut n v z s o → IsConsistentBut n w z s o
+  edge_written v w z s p o none only h q m but x e =
       subst (λ (k : E). IsJoined z q (n k).left (n k).right x) (sym (only.others q (not_stale z p q x none e))) (h q m but x e)
 
-  -- a write that keeps the children
-  pub written_beside : (v w : Table E) (z : Sums S) (s : List Place) (p : Place) → (n (w.entry p)).left ≡ (n (v.entry p)).left → (n (w.entry p)).right ≡ (n (v.entry p)).right
-      → ChangesOnly v w p → IsConsistent n v z s → IsConsistent n w z s
-  written_beside v w z s p el er only h q m but x e = elim (same_or_not q p) [
+  pub edge_beside : (v w : Table E) (z : Sums S) (s : List Place) (p : Place) (o : Option Place) → (n (w.entry p)).left ≡ (n (v.entry p)).left → (n (w.entry p)).right ≡ (n (v.entry p)).right
+      → ChangesOnly v w p → IsConsistentBut n v z s o → IsConsistentBut n w z s o
+  edge_beside v w z s p o el er only h q m but x e = elim (same_or_not q p) [
     | inl i ↦
         let l : (n (w.entry q)).left ≡ (n (v.entry q)).left = subst (λ (y : Place). (n (w.entry y)).left ≡ (n (v.entry y)).left) (sym i) el in
         let r : (n (w.entry q)).right ≡ (n (v.entry q)).right = subst (λ (y : Place). (n (w.entry y)).right ≡ (n (v.entry y)).right) (sym i) er in
         subst (λ (y : Option Place). IsJoined z q y (n (w.entry q)).right x) (sym l) (subst (λ (y : Option Place). IsJoined z q (n (v.entry q)).left y x) (sym r) (h q m but x e))
     | inr other ↦ subst (λ (k : E). IsJoined z q (n k).left (n k).right x) (sym (only.others q other)) (h q m but x e)
   ]
+
+  -- with no place left out
+  pub written_stale : (v w : Table E) (z : Sums S) (s : List Place) (p : Place) → z.fresh p ≡ None → ChangesOnly v w p → IsConsistent n v z s → IsConsistent n w z s
+  written_stale v w z s p none only h = edge_written v w z s p None none only h
+
+  pub written_beside : (v w : Table E) (z : Sums S) (s : List Place) (p : Place) → (n (w.entry p)).left ≡ (n (v.entry p)).left → (n (w.entry p)).right ≡ (n (v.entry p)).right
+      → ChangesOnly v w p → IsConsistent n v z s → IsConsistent n w z s
+  written_beside v w z s p el er only h = edge_beside v w z s p None el er only h
 
   -- a tree that the table holds
   pub consistent_tree : (v : Table E) (z : Sums S) (s : List Place) (up : Option Place) (t : Tree) → IsConsistent n v z s → IsTree n v.entry up t → ((q : Place) → times q t ≤ times_in q s) → IsConsistentTree z t

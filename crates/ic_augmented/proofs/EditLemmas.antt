@@ -10,7 +10,7 @@ use Rattle.ic_link_ops.specs.Trees.{in_order}
 use Rattle.ic_link_ops.specs.RedBlackTree.{Node, Shows}
 use Rattle.ic_link_ops.specs.Times.{one_at, times, times_in}
 use Rattle.ic_link_ops.proofs.Times.{one_at_self, one_at_other, times_append, times_order, absent_times}
-use Rattle.ic_link_ops.proofs.ShownTrees.{holds_once, shows_beside, free_absent}
+use Rattle.ic_link_ops.proofs.ShownTrees.{holds_once, shows_beside, free_absent, one_sequence}
 use Rattle.ic_rbtree.specs.Closed.{IsNode}
 use Rattle.ic_rbtree.specs.Height.{height}
 use Rattle.ic_rbtree.specs.Insertion.{IsHole, Attaches}
@@ -51,6 +51,11 @@ module _ {E : Type 0} (n : E → Node) where
   pub free_member : (old : Table E) (root : Option Place) (s t : List Place) (p : Place) → t ≡ s → Shows n old root s → (n (old.entry p)).linked ≡ false → IsAbsent p t
   free_member old root s t p e h free = subst (IsAbsent p) (sym e) (free_absent h free)
 
+  -- a place that is put in is shown then
+  pub attached_shows : (v w : Table E) (root new_root parent : Option Place) (d : Side) (p : Place) (gap : Cut) → Attaches n v w root new_root parent d p
+      → IsNode n v p → IsAbsent p (join gap) → Shows n v root (join gap) → IsHole n v parent d gap → Shows n w new_root (insert gap p)
+  attached_shows v w root new_root parent d p gap done linked out h hole = shows_of n (done v gap [] (loose_shown v root (join gap) p h out linked) hole)
+
 module _ {E S : Type 0} (n : E → Node) where
   fewer_consistent : (v : Table E) (z : Sums S) (s t : List Place) → ((q : Place) → times_in q t ≤ times_in q s) → IsConsistent n v z s → IsConsistent n v z t
   fewer_consistent v z s t k h q m but x e = h q (omega (arith, m, k q)) but x e
@@ -68,6 +73,12 @@ module _ {E S : Type 0} (n : E → Node) where
         (keeps (p ∷ join gap) (stale_more v y (join gap) p none (invalidated.consistent (join gap) h.1))),
   )
 
+  -- with a stale place in it, each fresh summary is right
+  pub stale_with : (v : Table E) (z y : Sums S) (p : Place) (gap : Cut) → y.fresh p ≡ None → KeepsConsistent n v v z y → IsConsistent n v z (join gap) → IsConsistent n v y (insert gap p)
+  stale_with v z y p gap none invalidated h =
+      fewer_consistent v y (p ∷ join gap) (insert gap p) (λ q. omega (arith, times_append q gap.front gap.back, times_append q gap.front (p ∷ gap.back)))
+      (stale_more v y (join gap) p none (invalidated.consistent (join gap) h))
+
   -- A REMOVAL
   pub taken : (v w : Table E) (z y x : Sums S) (root new_root : Option Place) (p : Place) (front back : List Place)
       → TakesAway n v w root new_root p → ((s : List Place) → IsConsistent n v z s → IsConsistent n w y s) → KeepsConsistent n w w y x
@@ -84,14 +95,17 @@ module _ {E S : Type 0} (n : E → Node) where
     members : (q : Place) → times q h.0.tree ≤ times_in q s
     members q = let k : times_in q (in_order h.0.tree) ≡ times_in q s = ap (times_in q) h.0.held.order in omega (arith, k, times_order q h.0.tree)
 
-  -- ALL IS FRESH
-  pub refreshed : (v : Table E) (z y : Sums S) (root : Option Place) (s : List Place) (h : ShowsConsistent n z v root s) → Refreshes IsConsistentTree z y None h.0.tree 67 → ShowsSummed n y v root s
-  refreshed v z y root s h f = record {
-    shows = h.0;
-    summed = f.summed (holds_once h.0.held) (consistent_shown v z root s h) (omega (arith, low));
+  -- ALL IS FRESH, of a tree that is consistent
+  pub refreshed_tree : (v : Table E) (z y : Sums S) (root : Option Place) (s : List Place) (h : Shows n v root s) → IsConsistentTree z h.tree → Refreshes IsConsistentTree z y None h.tree 67 → ShowsSummed n y v root s
+  refreshed_tree v z y root s h k f = record {
+    shows = h;
+    summed = f.summed (holds_once h.held) k (omega (arith, low));
   } where
-    low : height h.0.tree ≤ 66
-    low = path_few n h.0 [] h.0.tree (height h.0.tree) refl (omega arith)
+    low : height h.tree ≤ 66
+    low = path_few n h [] h.tree (height h.tree) refl (omega arith)
+
+  pub refreshed : (v : Table E) (z y : Sums S) (root : Option Place) (s : List Place) (h : ShowsConsistent n z v root s) → Refreshes IsConsistentTree z y None h.0.tree 67 → ShowsSummed n y v root s
+  refreshed v z y root s h f = refreshed_tree v z y root s h.0 (consistent_shown v z root s h) f
 
   -- and so consistent
   pub still_consistent : (v : Table E) (z : Sums S) (root : Option Place) (s : List Place) → ShowsSummed n z v root s → ShowsConsistent n z v root s
@@ -125,3 +139,23 @@ module _ {E S : Type 0} (n : E → Node) where
     fewer q =
         let k : times_in q (join i.gap) ≡ times_in q (join gap) = ap (times_in q) (i.same ∙ sym same) in
         omega (arith, k, times_append q i.gap.front i.gap.back, times_append q gap.front gap.back, times_append q i.gap.front (p ∷ i.gap.back), times_append q gap.front (p ∷ gap.back))
+
+  -- an insert in order, into a tree that is summed then
+  pub inserts_summed : {at : Place → Ordering} (old w : Table E) (x : Sums S) (root : Option Place) (s : List Place) (p : Place) (gap : Cut) → ShowsSummed n x w root (insert gap p)
+      → InsertsInOrder (Shows n) at old w root s p → InsertsInOrder (ShowsSummed n x) at old w root s p
+  inserts_summed old w x root s p gap h i = record {
+    gap = i.gap;
+    same = i.same;
+    border = i.border;
+    inserted = record { shows = subst (ShowsSummed n x w root) (one_sequence h.shows i.inserted.shows) h; frame = i.inserted.frame };
+  }
+
+  -- and so consistent
+  pub inserts_still : {at : Place → Ordering} (old w : Table E) (x : Sums S) (root : Option Place) (s : List Place) (p : Place)
+      → InsertsInOrder (ShowsSummed n x) at old w root s p → InsertsInOrder (ShowsConsistent n x) at old w root s p
+  inserts_still old w x root s p i = record {
+    gap = i.gap;
+    same = i.same;
+    border = i.border;
+    inserted = record { shows = still_consistent w x root (insert i.gap p) i.inserted.shows; frame = i.inserted.frame };
+  }

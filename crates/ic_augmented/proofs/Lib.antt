@@ -4,6 +4,7 @@ mod CountLemmas
 mod SubtreeLemmas
 mod RankLemmas
 mod PathLemmas
+mod ChangeLemmas
 mod SumTableLemmas
 mod OverlapLemmas
 pub mod AllOverlaps

@@ -63,6 +63,12 @@ module _ {E S : Type 0} (n : E → Node) where
     pub marks : MarksAlone z y
     pub join : y.join ≡ z.join
 
+  -- from the one place at which a fresh summary may be wrong to another, an edit keeps what is right beside it, and writes no summary
+  pub record KeepsEdge (v w : Table E) (z y : Sums S) (was is : Option Place) : Type 0 where
+    pub consistent : (s : List Place) → IsConsistentBut v z s was → IsConsistentBut w y s is
+    pub marks : MarksAlone z y
+    pub join : y.join ≡ z.join
+
   -- THE TABLE SHOWS s, and each fresh summary is right
   abbrev pub ShowsConsistent : Sums S → Table E → Option Place → List Place → Type 0
   ShowsConsistent z v root s = Shows n v root s × IsConsistent v z s

@@ -3,6 +3,8 @@ pub mod MarkLaws
 pub mod Summed
 pub mod Consistent
 pub mod QuietEdits
+pub mod Marking
+pub mod Changes
 pub mod SumTables
 pub mod Counts
 pub mod Greatest

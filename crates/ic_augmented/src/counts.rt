@@ -5,7 +5,7 @@
 //! summed.sums.cover(1000)?;
 //! ```
 
-ghost use Rattle.std.specs.Prelude.{◌≡◌};
+ghost use Rattle.std.specs.Prelude.{◌≡◌, IfSome};
 
 use crate::sum_table::{Joins, SumTable};
 use std::alloc::Global;
@@ -15,6 +15,7 @@ pub type Counts<A = Global> = SumTable<(), u64, A>;
 
 /// Nothing stands at a place, and each member counts as one. A count stays at `u64::MAX` where it would exceed that.
 impl Joins<u64> for () {
+    ghost use Rattle.ic_augmented.specs.Changes.{Rejoins};
     ghost use Rattle.ic_augmented.specs.Counts.{counted};
     ghost use Rattle.std.proofs.Common.{refl};
 
@@ -30,6 +31,21 @@ impl Joins<u64> for () {
     {
         let below = left.unwrap_or(0).saturating_add(right.unwrap_or(0));
         below.saturating_add(1)
+    }
+
+    #[inline]
+    fn rejoin(self, was: u64, from: u64, to: u64) -> Option<u64>
+        ensures { IfSome result (Rejoins (counted self) from to was) }
+    {
+        if was == u64::MAX {
+            return None;
+        }
+        was.checked_sub(from)?.checked_add(to)
+    }
+
+    #[inline]
+    fn is_same(a: &u64, b: &u64) -> bool {
+        *a == *b
     }
 
     ghost tells = { λ x y e. refl };

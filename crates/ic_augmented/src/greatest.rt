@@ -6,7 +6,7 @@
 //! propagate(&mut summed, place);
 //! ```
 
-ghost use Rattle.std.specs.Prelude.{◌≡◌, max};
+ghost use Rattle.std.specs.Prelude.{◌≡◌, max, IfSome};
 
 use crate::sum_table::{Joins, SumTable};
 use std::alloc::Global;
@@ -24,6 +24,7 @@ fn greater(a: u64, b: u64) -> u64
 
 /// Of numbers the greatest is kept.
 impl Joins<u64> for u64 {
+    ghost use Rattle.ic_augmented.specs.Changes.{Rejoins};
     ghost use Rattle.ic_augmented.specs.Greatest.{greatest_of};
     ghost use Rattle.ic_augmented.specs.GreatestLaws.{greatest_tells};
 
@@ -40,6 +41,21 @@ impl Joins<u64> for u64 {
         ensures { result ≡ greatest_of self left right }
     {
         greater(self, greater(left.unwrap_or(0), right.unwrap_or(0)))
+    }
+
+    #[inline]
+    fn rejoin(self, was: u64, from: u64, to: u64) -> Option<u64>
+        ensures { IfSome result (Rejoins (greatest_of self) from to was) }
+    {
+        if to < from {
+            return None;
+        }
+        Some(greater(was, to))
+    }
+
+    #[inline]
+    fn is_same(a: &u64, b: &u64) -> bool {
+        *a == *b
     }
 
     ghost tells = { greatest_tells };

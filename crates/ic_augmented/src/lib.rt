@@ -10,11 +10,14 @@
 //! ```
 #![tactic(auto)]
 
+mod climb;
 mod counts;
 mod edits;
 mod exceeding;
+mod fresh;
 mod greatest;
 mod linking;
+mod marking;
 mod no_sums;
 mod overlaps;
 mod pooled;
@@ -25,8 +28,9 @@ mod summed;
 mod sums;
 
 pub use counts::Counts;
-pub use edits::{attach, propagate, refresh, unlink};
+pub use edits::{attach, attach_fresh, propagate, refresh, unlink};
 pub use exceeding::first_greater;
+pub use fresh::insert_fresh;
 pub use greatest::Greatest;
 pub use linking::{insert_keyed, remove};
 pub use no_sums::NoSums;

@@ -14,10 +14,11 @@ ghost use Rattle.ic_link_ops.specs.Trees.{Tree, top};
 ghost use Rattle.ic_link_ops.specs.Tables.{Table};
 ghost use Rattle.ic_link_ops.specs.Times.{times};
 ghost use Rattle.ic_rbtree.specs.Closed.{IsNode};
-ghost use Rattle.ic_augmented.specs.Consistent.{IsSameAt, IsConsistentTree, IsConsistentBelow, IsConsistentBeside, KeepsConsistent, Refreshes};
+ghost use Rattle.ic_augmented.specs.Consistent.{IsSameAt, IsConsistent, IsConsistentBut, IsConsistentTree, IsConsistentBelow, IsConsistentBeside, KeepsConsistent, KeepsEdge, Refreshes};
 ghost use Rattle.ic_augmented.specs.Subtrees.{IsSubtree};
 ghost use Rattle.ic_augmented.specs.Sums.{seen, IsSummed};
 
+use crate::ranks::is_at;
 use crate::sums::{RenewSums, Sums};
 use ic_rbtree::Nodes;
 use ic_unsafe_ref::Place;
@@ -27,6 +28,8 @@ use ic_unsafe_ref::Place;
 pub(crate) fn invalidate_up<N: Nodes, M: Sums>(_links: &N, sums: &mut M, place: Place)
     ensures stale { (M.sums sums.new).fresh place ≡ None }
     ensures covers { (q : Place) → M.Covers sums.old q → M.Covers sums.new q }
+    ensures closed { (s : List Place) → IsConsistentBut N.node (N.table _links.now) (M.sums sums.old) s (Some place)
+        → IsConsistent N.node (N.table _links.now) (M.sums sums.new) s }
     ensures consistent { KeepsConsistent N.node (N.table _links.now) (N.table _links.now) (M.sums sums.old) (M.sums sums.new) }
 {
     let mut at = Some(place);
@@ -37,6 +40,44 @@ pub(crate) fn invalidate_up<N: Nodes, M: Sums>(_links: &N, sums: &mut M, place: 
         sums.invalidate(here);
         at = sums.upper(here);
     }
+}
+
+// Makes the summaries from `edge` up to a place stale, so that no other than that of the place may be wrong.
+fn invalidate_up_to<N: Nodes, M: Sums>(_links: &N, sums: &mut M, edge: Option<Place>, place: Place)
+    ensures covers { (q : Place) → M.Covers sums.old q → M.Covers sums.new q }
+    ensures edge { KeepsEdge N.node (N.table _links.now) (N.table _links.now) (M.sums sums.old) (M.sums sums.new) edge (Some place) }
+{
+    let mut from = edge;
+    while let Some(here) = from {
+        if is_at(Some(here), place) {
+            return;
+        }
+        if !sums.is_fresh(here) {
+            return;
+        }
+        sums.invalidate(here);
+        from = sums.upper(here);
+    }
+}
+
+// Makes the summary of a place stale, and those from `edge` up to it: what was made of it is above, and may be wrong now.
+#[inline]
+pub(crate) fn invalidate_from<N: Nodes, M: Sums>(
+    links: &N,
+    sums: &mut M,
+    edge: Option<Place>,
+    place: Place,
+) -> Option<Place>
+    ensures stale { (M.sums sums.new).fresh place ≡ None }
+    ensures covers { (q : Place) → M.Covers sums.old q → M.Covers sums.new q }
+    ensures edge { KeepsEdge N.node (N.table links.now) (N.table links.now) (M.sums sums.old) (M.sums sums.new) edge result }
+{
+    if !sums.is_fresh(place) {
+        return edge;
+    }
+    invalidate_up_to(links, sums, edge, place);
+    sums.invalidate(place);
+    sums.upper(place)
 }
 
 // Writes the stale summaries at an end and below it, and tells the one at the end. It goes down where they are stale alone.
@@ -89,7 +130,7 @@ fn refresh_at<N: Nodes, M: RenewSums>(
 // Writes the summary of a place, after the stale ones below it. The climb has it in its own loop, without a call.
 #[inline(always)]
 #[cycle(refresh)]
-fn renew<N: Nodes, M: RenewSums>(
+pub(crate) fn renew<N: Nodes, M: RenewSums>(
     links: &N,
     sums: &mut M,
     here: Place,

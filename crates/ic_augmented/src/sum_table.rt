@@ -5,10 +5,11 @@
 //! lengths.cover(1000)?; // the only call that takes memory
 //! ```
 
-ghost use Rattle.std.specs.Prelude.{◌≡◌, ◌≢◌, ◌<◌, ◌≤◌, ◌↔◌, ⊤, Err, OnOk, OnErr, IsOk, max, Option, Some, List};
+ghost use Rattle.std.specs.Prelude.{◌≡◌, ◌≢◌, ◌<◌, ◌≤◌, ◌↔◌, ⊤, Err, OnOk, OnErr, IsOk, IsTrue, IfSome, max, Option, Some, List};
 ghost use Rattle.ic_unsafe_ref.specs.declared.place.Place.{Place};
 ghost use Rattle.ic_unsafe_ref.specs.Places.{index_of};
 ghost use Rattle.ic_link_ops.specs.declared.errors.CoverError.TheVariants as CoverError;
+ghost use Rattle.ic_augmented.specs.Changes.{Rejoins};
 ghost use Rattle.ic_augmented.specs.Consistent.{IsConsistent, IsSameAt};
 ghost use Rattle.ic_augmented.specs.SumTables.{joined, room_of, value_of};
 ghost use Rattle.ic_augmented.specs.Summed.{links_of, sums_of};
@@ -37,6 +38,14 @@ pub trait Joins<S>: Copy + Drop {
     /// The summary of a subtree whose root has this value, of those on its left and on its right, `None` where there is no member.
     fn join(self, left: Option<S>, right: Option<S>) -> S
         ensures { result ≡ join self left right };
+
+    /// What the summary `was` becomes where that of the subtree on one side was `from` and is `to`, `None` where these alone do not tell it.
+    fn rejoin(self, was: S, from: S, to: S) -> Option<S>
+        ensures { IfSome result (Rejoins (join self) from to was) };
+
+    /// Whether two summaries are known to be the same.
+    fn is_same(a: &S, b: &S) -> bool
+        ensures { IsTrue result → a.now ≡ b.now };
 
     // The law: the summaries tell the value.
     ghost tells: { (x y : Self) → ((a b : Option S) → join x a b ≡ join y a b) → x ≡ y };
@@ -208,6 +217,23 @@ impl<V: Joins<S>, S: Copy + Drop, A: Allocator> RenewSums for SumTable<V, S, A> 
     #[inline]
     fn fresh(&self, place: Place) -> Option<S> {
         self.summary(Some(place))
+    }
+
+    #[inline]
+    fn rejoin(&mut self, place: Place, from: S, to: S, upper: Option<Place>) -> Option<(S, S)> {
+        let index = place.index();
+        let cell = &self.cells[index];
+        let was = cell.summary?;
+        let is = cell.value.rejoin(was, from, to)?;
+        let renewed = &mut self.cells[index];
+        renewed.summary = Some(is);
+        renewed.upper = PlaceWord::of(upper);
+        Some((was, is))
+    }
+
+    #[inline]
+    fn is_same(a: &S, b: &S) -> bool {
+        V::is_same(a, b)
     }
 
     #[inline]

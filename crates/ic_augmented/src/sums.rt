@@ -4,8 +4,9 @@
 //! sums.invalidate(place); // its summary is stale now
 //! ```
 
-ghost use Rattle.std.specs.Prelude.{◌≡◌, ◌<◌, ℕ, true, Some};
+ghost use Rattle.std.specs.Prelude.{◌≡◌, ◌<◌, ℕ, true, Some, IfSome, IfNone, IsTrue};
 ghost use Rattle.ic_unsafe_ref.specs.declared.place.Place.{Place};
+ghost use Rattle.ic_augmented.specs.Changes.{Rejoins};
 ghost use Rattle.ic_augmented.specs.Sums as specs;
 ghost use Rattle.ic_augmented.specs.Sums.{is_fresh, Invalidates, Writes};
 
@@ -51,6 +52,27 @@ pub trait RenewSums: Sums {
     /// The summary of `place`, `None` where it is stale. O(1).
     fn fresh(&self, place: Place) -> Option<Self::Summary>
         ensures { result ≡ (Self.sums self.now).fresh place };
+
+    /// Renews the summary of `place`, where that of one subtree had been `from` and is `to`, sets its parent, and returns what the summary was and
+    /// is. `None` says that it is stale, or cannot be told from these alone, and that nothing has changed. It requires room for a summary there.
+    /// O(1).
+    fn rejoin(
+        &mut self,
+        place: Place,
+        from: Self::Summary,
+        to: Self::Summary,
+        upper: Option<Place>,
+    ) -> Option<(Self::Summary, Self::Summary)>
+        requires covered { Self.Covers self.old place }
+        ensures covers { (q : Place) → Self.Covers self.old q → Self.Covers self.new q }
+        ensures was { IfSome result (λ change. (Self.sums self.old).fresh place ≡ Some change.0) }
+        ensures written { IfSome result (λ change. Writes (Self.sums self.old) (Self.sums self.new) place (Some change.1) upper) }
+        ensures is { IfSome result (λ change. Rejoins ((Self.sums self.old).join place) from to change.0 change.1) }
+        ensures kept { IfNone result (self.new ≡ self.old) };
+
+    /// Whether two summaries are known to be the same. O(1).
+    fn is_same(a: &Self::Summary, b: &Self::Summary) -> bool
+        ensures { IsTrue result → a.now ≡ b.now };
 
     /// Writes what the value of `place` makes of these summaries of its subtrees, and returns it. It requires room for a summary there. O(1).
     fn write(

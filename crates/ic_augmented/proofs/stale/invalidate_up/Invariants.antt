@@ -1,6 +1,6 @@
 use Rattle.std.proofs.Common.{◌≡◌, Some, None, List, ◌⊎◌}
 use Rattle.ic_unsafe_ref.specs.declared.place.Place.{Place}
-use Rattle.ic_augmented.specs.Consistent.{IsConsistent, IsConsistentBut}
+use Rattle.ic_augmented.specs.Consistent.{IsConsistentBut}
 use Rattle.ic_augmented.specs.Sums.{MarksAlone}
 use Rattle.ic_augmented.proofs.stale.invalidate_up.Given as goal
 
@@ -11,7 +11,7 @@ invariant-loop-at g l =
     let z = g.M.Sums.sums l.sums in
     record {
       stale : (l.at ≡ Some l.fn.place) ⊎ (z.fresh l.fn.place ≡ None);
-      consistent : (s : List Place) → IsConsistent n v (g.M.Sums.sums l.fn.sums) s → IsConsistentBut n v z s l.at;
+      consistent : (s : List Place) → IsConsistentBut n v (g.M.Sums.sums l.fn.sums) s (Some l.fn.place) → IsConsistentBut n v z s l.at;
       marks : MarksAlone (g.M.Sums.sums l.fn.sums) z;
       covers : (q : Place) → g.M.Sums.Covers l.fn.sums q → g.M.Sums.Covers l.sums q;
       join : z.join ≡ (g.M.Sums.sums l.fn.sums).join;

@@ -1,0 +1,44 @@
+use Rattle.std.proofs.Common.{◌≡◌, ◌∙◌, sym, None, List}
+use Rattle.ic_unsafe_ref.specs.declared.place.Place.{Place}
+use Rattle.ic_link_ops.specs.Sequences.{insert}
+use Rattle.ic_link_ops.specs.RedBlackTree.{Shows}
+use Rattle.ic_augmented.proofs.EditLemmas.{attached_shows, stale_with, refreshed_tree, still_consistent}
+use Rattle.ic_augmented.proofs.edits.attach_fresh.Goals as goal
+
+pub settle-requires-clause-member : goal.settle-requires-clause-member
+settle-requires-clause-member g c =
+    let r = c.requires.hole in
+    (_, record { front = r.0.front; back = r.0.back; shown = attached_shows g.N.Nodes.node _ _ _ _ c.args.parent c.args.side c.args.place r.0 c.attach_marking-edge.ensures.attached r.1 r.2 r.3 r.4 })
+
+pub settle-requires-clause-covered : goal.settle-requires-clause-covered
+settle-requires-clause-covered g c q is =
+    c.attach_marking-edge.ensures.covers q (c.invalidate_up.ensures.covers q (c.requires.covered q (sym (c.attach_marking-edge.ensures.linked q) ∙ is)))
+
+pub refresh_below-requires-clause-tree : goal.refresh_below-requires-clause-tree
+refresh_below-requires-clause-tree g c =
+    let r = c.requires.hole in
+    let h = attached_shows g.N.Nodes.node _ _ _ _ c.args.parent c.args.side c.args.place r.0 c.attach_marking-edge.ensures.attached r.1 r.2 r.3 r.4 in
+    (None, h.tree, h.held.entries, c.root-top.ensures ∙ h.starts)
+
+pub refresh_below-requires-clause-covered : goal.refresh_below-requires-clause-covered
+refresh_below-requires-clause-covered g c q is =
+    c.settle.ensures.covers q (c.attach_marking-edge.ensures.covers q (c.invalidate_up.ensures.covers q (c.requires.covered q (sym (c.attach_marking-edge.ensures.linked q) ∙ is))))
+
+pub returns-clause-summed : goal.returns-clause-summed
+returns-clause-summed g c gap linked out h hole =
+    let n = g.N.Nodes.node in
+    let v = g.N.Nodes.table c.args.summed.now.links in
+    let shown = attached_shows n v _ _ _ c.args.parent c.args.side c.args.place gap c.attach_marking-edge.ensures.attached linked out h.0 hole in
+    let kept = stale_with n v _ _ c.args.place gap c.invalidate_up.ensures.stale c.invalidate_up.ensures.consistent h.1 in
+    let right = c.settle.ensures.consistent _ gap.front gap.back shown (c.attach_marking-edge.ensures.consistent (insert gap c.args.place) kept) in
+    refreshed_tree n _ _ _ _ (insert gap c.args.place) shown right (c.refresh_below.ensures.refreshed None shown.tree shown.held.entries (c.root-top.ensures ∙ shown.starts))
+
+pub returns-clause-consistent : goal.returns-clause-consistent
+returns-clause-consistent g c gap linked out h hole = still_consistent g.N.Nodes.node _ _ _ (insert gap c.args.place) (returns-clause-summed g c gap linked out h hole)
+
+pub returns-clause-join : goal.returns-clause-join
+returns-clause-join g c =
+    let r = c.requires.hole in
+    let h = attached_shows g.N.Nodes.node _ _ _ _ c.args.parent c.args.side c.args.place r.0 c.attach_marking-edge.ensures.attached r.1 r.2 r.3 r.4 in
+    (c.refresh_below.ensures.refreshed None h.tree h.held.entries (c.root-top.ensures ∙ h.starts)).join
+    ∙ (c.settle.ensures.join ∙ (c.attach_marking-edge.ensures.join ∙ c.invalidate_up.ensures.consistent.join))

@@ -1,0 +1,81 @@
+use Rattle.std.proofs.Common.{◌<◌, ◌∙◌, ap, refl, sym, subst, List}
+use Rattle.ic_unsafe_ref.specs.declared.place.Place.{Place}
+use Rattle.ic_unsafe_ref.specs.Places.{index_of}
+use Rattle.ic_unsafe_ref.specs.Objects.{Objects}
+use Rattle.ic_link_ops.specs.Sequences.{join}
+use Rattle.ic_link_ops.specs.RedBlackTree.{Shows}
+use Rattle.ic_link_ops.specs.Tables.{Extent}
+use Rattle.ic_rbtree.specs.Comparing.{compared, own_order}
+use Rattle.ic_rbtree.specs.Ordered.{InsertsInOrder}
+use Rattle.ic_rbtree.proofs.Removing.{shown_of}
+use Rattle.ic_rbtree.proofs.ShownClosed.{among, shown_closed, with_place, shown_closed_but, with_itself, hole_in}
+use Rattle.ic_rbtree.proofs.InOrder.{still_shown, fits, fitted, own_is}
+use Rattle.ic_augmented.specs.Consistent.{ShowsSummed}
+use Rattle.ic_augmented.proofs.EditLemmas.{free_member, acquired_consistent, inserts_summed, inserts_still}
+use Rattle.ic_augmented.proofs.fresh.insert_fresh.Goals as goal
+
+pub search-hole-requires-clause-safe : goal.search-hole-requires-clause-safe
+search-hole-requires-clause-safe g c =
+    let n = g.L.RBTreeOps.node in
+    let r = c.requires.shown in
+    let l = g.met.L.LinkOps.does_replay _ _ _ c.if-not-acquire_link.ensures.acquired in
+    let closed = shown_closed n (shown_of n (still_shown n g.L.LinkOps.linked g.met.L.RBTreeOps.linked_alike l.was l.is c.acquire_link.ensures.frame refl r.1)) in
+    (λ q. among q r.0, closed, λ p m. g.met.L.LinkValues.covered_has_value _ p (g.met.L.LinkOps.linked_is_covered _ p (sym (g.met.L.RBTreeOps.linked_alike _) ∙ closed.linked p m)))
+
+pub attach_fresh-requires-clause-safe : goal.attach_fresh-requires-clause-safe
+attach_fresh-requires-clause-safe g c =
+    let n = g.L.RBTreeOps.node in
+    let r = c.requires.shown in
+    let l = g.met.L.LinkOps.does_replay _ _ _ c.if-not-acquire_link.ensures.acquired in
+    let f = fits n g.L.LinkOps.linked g.met.L.RBTreeOps.linked_alike l.was l.is c.acquire_link.ensures.frame r.1 refl c.search-hole.ensures.ends c.get.ensures in
+    (with_place c.place-place.result (join f.gap), shown_closed_but n f.shown, (with_itself n f.shown, (hole_in n (g.L.LinkOps.table c.acquire_link.new.self) c.place-place.result _ _ f.gap f.hole, tt)))
+
+pub attach_fresh-requires-clause-hole : goal.attach_fresh-requires-clause-hole
+attach_fresh-requires-clause-hole g c =
+    let n = g.L.RBTreeOps.node in
+    let alike = g.met.L.RBTreeOps.linked_alike in
+    let r = c.requires.shown in
+    let l = g.met.L.LinkOps.does_replay _ _ _ c.if-not-acquire_link.ensures.acquired in
+    let f = fits n g.L.LinkOps.linked alike l.was l.is c.acquire_link.ensures.frame r.1 refl c.search-hole.ensures.ends c.get.ensures in
+    let there = still_shown n g.L.LinkOps.linked alike l.was l.is c.acquire_link.ensures.frame refl r.1 in
+    (f.gap, alike _ ∙ l.is, free_member n _ _ r.0 (join f.gap) c.place-place.result f.same r.1 (alike _ ∙ l.was), subst (λ (s : List Place). Shows n (g.L.LinkOps.table c.acquire_link.new.self) c.args.tree.now.root s) (sym f.same) there, f.hole)
+
+pub attach_fresh-requires-clause-covered : goal.attach_fresh-requires-clause-covered
+attach_fresh-requires-clause-covered g c q is =
+    c.requires.room q (subst (λ (e : Extent). index_of q < e.places) c.acquire_link.ensures.frame.extent
+    (g.met.L.LinkOps.linked_is_covered _ q (sym (g.met.L.RBTreeOps.linked_alike _) ∙ is)))
+
+pub returns-clause-inserted : goal.returns-clause-inserted
+returns-clause-inserted g c s shown =
+    let n = g.L.RBTreeOps.node in
+    let alike = g.met.L.RBTreeOps.linked_alike in
+    let l = g.met.L.LinkOps.does_replay _ _ _ c.if-not-acquire_link.ensures.acquired in
+    let own = own_order g.A.Key.Ord.cmp (g.A.KeyAdapter.key_of c.args.tree.now.adapter) in
+    let before = g.L.LinkOps.table c.args.summed.now.links in
+    let after = g.L.LinkOps.table c.attach_fresh.new.summed.links in
+    let new_sums = g.M.Sums.sums c.attach_fresh.new.summed.sums in
+    let values = g.L.Values.values c.acquire_link.new.self in
+    let f = fits n g.L.LinkOps.linked alike l.was l.is c.acquire_link.ensures.frame shown.0 refl c.search-hole.ensures.ends c.get.ensures in
+    let free = alike _ ∙ l.was in
+    let kept = c.attach_fresh.ensures.summed f.gap (alike _ ∙ l.is) (free_member n _ _ s (join f.gap) c.place-place.result f.same shown.0 free)
+    (acquired_consistent n _ _ _ _ s (join f.gap) c.place-place.result f.same free c.acquire_link.ensures.frame shown) f.hole in
+    subst (λ (p : Place). InsertsInOrder (ShowsSummed n new_sums) (compared (own (g.L.Values.values c.args.summed.now.links) p) (g.L.Values.values c.args.summed.now.links)) before after c.attach_fresh.new.tree.root s p) c.place-place.ensures
+    (subst (λ (o : Objects g.row.A-Value.Denot). InsertsInOrder (ShowsSummed n new_sums) (compared (own o c.place-place.result) o) before after c.attach_fresh.new.tree.root s c.place-place.result)
+    (g.met.L.LinkValues.values_stay _ _ c.acquire_link.ensures.frame.extent)
+    (subst (λ order. InsertsInOrder (ShowsSummed n new_sums) (compared order values) before after c.attach_fresh.new.tree.root s c.place-place.result)
+    (own_is g.A.Key.Ord.cmp g.A.KeyAdapter.key_of values (c.new-probe.ensures.adapter ∙ c.adapter-adapter.ensures)
+    (c.new-probe.ensures.key ∙ (c.get_key.ensures ∙ ap (λ z. g.A.KeyAdapter.key_of z c.value.result.now) c.adapter-adapter.ensures)) refl c.value.ensures)
+    (inserts_summed n before after new_sums c.attach_fresh.new.tree.root s c.place-place.result f.gap kept
+    (fitted n g.L.LinkOps.linked alike l.was l.is c.acquire_link.ensures.frame f c.attach_fresh.ensures.attached))))
+
+pub returns-clause-consistent : goal.returns-clause-consistent
+returns-clause-consistent g c s shown = inserts_still g.L.RBTreeOps.node _ _ _ _ s _ (returns-clause-inserted g c s shown)
+
+pub returns-clause-extent : goal.returns-clause-extent
+returns-clause-extent g c =
+    let n = g.L.RBTreeOps.node in
+    let alike = g.met.L.RBTreeOps.linked_alike in
+    let r = c.requires.shown in
+    let l = g.met.L.LinkOps.does_replay _ _ _ c.if-not-acquire_link.ensures.acquired in
+    let f = fits n g.L.LinkOps.linked alike l.was l.is c.acquire_link.ensures.frame r.1 refl c.search-hole.ensures.ends c.get.ensures in
+    (fitted n g.L.LinkOps.linked alike l.was l.is c.acquire_link.ensures.frame f c.attach_fresh.ensures.attached).inserted.frame.extent

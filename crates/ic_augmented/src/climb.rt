@@ -1,0 +1,157 @@
+//! Summaries renewed from a place up, as far as they change.
+//!
+//! ```text
+//! settle(&links, &mut sums, place, edge); // up to the edge, and on while summaries change
+//! ```
+
+ghost use Rattle.std.specs.Prelude.{◌≡◌, Option, Some, None, List, ◌∷◌, ◌++◌, IsTrue, IfSome, IfNone};
+ghost use Rattle.ic_unsafe_ref.specs.declared.place.Place.{Place};
+ghost use Rattle.ic_link_ops.specs.Frames.{Frame, plug};
+ghost use Rattle.ic_link_ops.specs.Positions.{HasMember};
+ghost use Rattle.ic_link_ops.specs.RedBlackTree.{Shows};
+ghost use Rattle.ic_link_ops.specs.Trees.{Tree, top};
+ghost use Rattle.ic_link_ops.specs.Times.{times};
+ghost use Rattle.ic_rbtree.specs.Closed.{IsNode};
+ghost use Rattle.ic_augmented.specs.Changes.{IsAmong, RenewsAt, PassesOn, ClimbsTo};
+ghost use Rattle.ic_augmented.specs.Consistent.{IsSameAt, IsConsistentBut, IsConsistentTree};
+ghost use Rattle.ic_augmented.specs.Subtrees.{IsSubtree};
+
+use crate::ranks::is_at;
+use crate::stale::{invalidate_up, renew};
+use crate::sums::RenewSums;
+use ic_rbtree::Nodes;
+use ic_unsafe_ref::Place;
+
+// Whether the edge stands above the place.
+fn is_above<N: Nodes>(links: &N, place: Place, edge: Place, turns: u32) -> bool
+    requires { (fs : List Frame) × (t : Tree) × IsSubtree N.node (N.table links.now) fs t × (top t ≡ Some place) }
+    ensures { IsTrue result → (fs : List Frame) (t : Tree) → IsSubtree N.node (N.table links.now) fs t → top t ≡ Some place → IsAmong edge fs }
+{
+    if turns == 0 {
+        return false;
+    }
+    let Some(above) = links.parent(place) else {
+        return false;
+    };
+    if is_at(Some(above), edge) {
+        return true;
+    }
+    is_above(links, above, edge, turns - 1)
+}
+
+// Renews the summary of a place, where that of one child had been `from` and is `to`: what it was and is, none where it is stale.
+#[inline(always)]
+fn renew_at<N: Nodes, M: RenewSums>(
+    links: &N,
+    sums: &mut M,
+    place: Place,
+    from: M::Summary,
+    to: M::Summary,
+    upper: Option<Place>,
+) -> Option<(M::Summary, M::Summary)>
+    requires covered { (q : Place) → IsNode N.node (N.table links.now) q → M.Covers sums.old q }
+    requires subtree { (fs : List Frame) × (t : Tree) × IsSubtree N.node (N.table links.now) fs t × (top t ≡ Some place) }
+    requires upper { (N.node ((N.table links.now).entry place)).parent ≡ upper }
+    ensures covers { (q : Place) → M.Covers sums.old q → M.Covers sums.new q }
+    ensures join { (M.sums sums.new).join ≡ (M.sums sums.old).join }
+    ensures frame { (fs : List Frame) (t : Tree) → IsSubtree N.node (N.table links.now) fs t → top t ≡ Some place
+        → (q : Place) → times q t ≡ 0 → IsSameAt (M.sums sums.old) (M.sums sums.new) q }
+    ensures was { IfSome result (λ change. (M.sums sums.old).fresh place ≡ Some change.0) }
+    ensures is { IfSome result (λ change. (M.sums sums.new).fresh place ≡ Some change.1) }
+    ensures renewed { IfSome result (λ change. RenewsAt N.node (N.table links.now) (M.sums sums.old) (M.sums sums.new) place from to upper) }
+    ensures stale { IfNone result (((M.sums sums.old).fresh place ≡ None) × (sums.new ≡ sums.old)) }
+{
+    if let Some(change) = sums.rejoin(place, from, to, upper) {
+        return Some(change);
+    }
+    let was = sums.fresh(place)?;
+    Some((was, renew(links, sums, place, upper, 66)))
+}
+
+// Renews the summaries from a place up as far as they change, where that of one child had been `from` and is `to`.
+fn pass_on<N: Nodes, M: RenewSums>(
+    links: &N,
+    sums: &mut M,
+    place: Place,
+    from: M::Summary,
+    to: M::Summary,
+    turns: u32,
+)
+    requires covered { (q : Place) → IsNode N.node (N.table links.now) q → M.Covers sums.old q }
+    requires subtree { (fs : List Frame) × (t : Tree) × IsSubtree N.node (N.table links.now) fs t × (top t ≡ Some place) }
+    ensures covers { (q : Place) → M.Covers sums.old q → M.Covers sums.new q }
+    ensures join { (M.sums sums.new).join ≡ (M.sums sums.old).join }
+    ensures others { (fs : List Frame) (t : Tree) → IsSubtree N.node (N.table links.now) fs t → top t ≡ Some place
+        → (q : Place) → times q (plug fs t) ≡ 0 → IsSameAt (M.sums sums.old) (M.sums sums.new) q }
+    ensures consistent { PassesOn N.node (N.table links.now) (M.sums sums.old) (M.sums sums.new) place from to turns }
+{
+    if turns == 0 {
+        return;
+    }
+    let upper = links.parent(place);
+    let Some(change) = renew_at(links, sums, place, from, to, upper) else {
+        return;
+    };
+    let (was, is) = change;
+    if M::is_same(&was, &is) {
+        return;
+    }
+    let Some(above) = upper else {
+        return;
+    };
+    pass_on(links, sums, above, was, is, turns - 1);
+}
+
+// Renews the summaries from a place up to the edge, and those above as far as they change.
+fn climb<N: Nodes, M: RenewSums>(links: &N, sums: &mut M, place: Place, edge: Place, turns: u32)
+    requires covered { (q : Place) → IsNode N.node (N.table links.now) q → M.Covers sums.old q }
+    requires subtree { (fs : List Frame) × (t : Tree) × IsSubtree N.node (N.table links.now) fs t × (top t ≡ Some place) }
+    ensures covers { (q : Place) → M.Covers sums.old q → M.Covers sums.new q }
+    ensures join { (M.sums sums.new).join ≡ (M.sums sums.old).join }
+    ensures others { (fs : List Frame) (t : Tree) → IsSubtree N.node (N.table links.now) fs t → top t ≡ Some place
+        → (q : Place) → times q (plug fs t) ≡ 0 → IsSameAt (M.sums sums.old) (M.sums sums.new) q }
+    ensures consistent { ClimbsTo N.node (N.table links.now) (M.sums sums.old) (M.sums sums.new) place edge turns }
+{
+    if turns == 0 {
+        return;
+    }
+    let upper = links.parent(place);
+    let was = sums.fresh(place);
+    let is = renew(links, sums, place, upper, 66);
+    let Some(above) = upper else {
+        return;
+    };
+    if !is_at(Some(place), edge) {
+        climb(links, sums, above, edge, turns - 1);
+        return;
+    }
+    let Some(was) = was else {
+        return;
+    };
+    pass_on(links, sums, above, was, is, turns - 1);
+}
+
+// Renews what an insert of the place has left stale below the edge, and what changes above. If the edge is not above the place, the
+// summaries above the edge are made stale.
+pub(crate) fn settle<N: Nodes, M: RenewSums>(
+    links: &N,
+    sums: &mut M,
+    place: Place,
+    edge: Option<Place>,
+)
+    requires member { (root : Option Place) × HasMember (Shows N.node (N.table links.now) root) place }
+    requires covered { (q : Place) → IsNode N.node (N.table links.now) q → M.Covers sums.old q }
+    ensures covers { (q : Place) → M.Covers sums.old q → M.Covers sums.new q }
+    ensures join { (M.sums sums.new).join ≡ (M.sums sums.old).join }
+    ensures consistent { (root : Option Place) (front back : List Place) (h : Shows N.node (N.table links.now) root (front ++ place ∷ back))
+        → IsConsistentBut N.node (N.table links.now) (M.sums sums.old) (front ++ place ∷ back) edge → IsConsistentTree (M.sums sums.new) h.tree }
+{
+    let Some(edge) = edge else {
+        return;
+    };
+    if !is_above(links, place, edge, 67) {
+        invalidate_up(links, sums, edge);
+        return;
+    }
+    climb(links, sums, place, edge, 67);
+}

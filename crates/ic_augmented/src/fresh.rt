@@ -1,0 +1,68 @@
+//! Members that come with their summaries fresh.
+//!
+//! ```text
+//! insert_fresh(&mut tree, &mut summed, object)?;
+//! len(&tree, &summed) // no call renews the counts in between
+//! ```
+
+ghost use Rattle.std.specs.Prelude.{◌≡◌, OnOk, OnErr, IfErr, List, [], ◌∷◌};
+ghost use Rattle.ic_unsafe_ref.specs.declared.place.Place.{Place};
+ghost use Rattle.ic_link_ops.specs.LinkSteps.{acquires};
+ghost use Rattle.ic_link_ops.specs.RedBlackTree.{Shows};
+ghost use Rattle.ic_link_ops.specs.Tables.{IsCovered};
+ghost use Rattle.ic_rbtree.specs.Comparing.{compared, own_order};
+ghost use Rattle.ic_rbtree.specs.Ordered.{InsertsInOrder};
+ghost use Rattle.ic_rbtree.specs.Tree.{root_of, adapter_of};
+ghost use Rattle.ic_augmented.specs.Summed.{links_of, sums_of};
+ghost use Rattle.ic_augmented.specs.Consistent.{ShowsConsistent, ShowsSummed};
+
+use crate::edits::attach_fresh;
+use crate::summed::Summed;
+use crate::sums::RenewSums;
+use ic_link_ops::rbtree::RBTreeOps;
+use ic_link_ops::{AlreadyLinked, LinkOps, LinkValues, Side};
+use ic_rbtree::{KeyAdapter, KeyProbe, RBTree};
+use ic_unsafe_ref::{UnsafeRef, Values};
+
+/// Inserts the object as [`insert_keyed`](crate::insert_keyed) does, and renews the stale summaries of the tree: then it is summed.
+///
+/// It does what `insert_keyed` and [`refresh`](crate::refresh) do, and is faster. It requires that the object's place is covered, that the
+/// links show a tree, and that there is room for a summary at each covered place. A refused object comes back, and the tree, its links and its
+/// summaries are as they were. O(log n + v) for v summaries that were stale before.
+pub fn insert_fresh<A: KeyAdapter, L: RBTreeOps + LinkValues<A::Value>, M: RenewSums>(
+    tree: &mut RBTree<A>,
+    summed: &mut Summed<L, M>,
+    object: UnsafeRef<A::Value>,
+) -> Result<(), AlreadyLinked<A::Value>>
+    requires covered { IsCovered (L.table (links_of summed.old)) object }
+    requires shown { (s : List Place) × Shows L.node (L.table (links_of summed.old)) (root_of tree.old) s }
+    requires room { (q : Place) → IsCovered (L.table (links_of summed.old)) q → M.Covers (sums_of summed.old) q }
+    ensures inserted { (s : List Place)
+        → ShowsConsistent L.node (M.sums (sums_of summed.old)) (L.table (links_of summed.old)) (root_of tree.old) s
+        → OnOk result (InsertsInOrder (ShowsSummed L.node (M.sums (sums_of summed.new)))
+        (compared (own_order A.Key.cmp (A.key_of (adapter_of tree.old)) (L.values (links_of summed.old)) object) (L.values (links_of summed.old)))
+        (L.table (links_of summed.old)) (L.table (links_of summed.new)) (root_of tree.new) s object) }
+    ensures consistent { (s : List Place)
+        → ShowsConsistent L.node (M.sums (sums_of summed.old)) (L.table (links_of summed.old)) (root_of tree.old) s
+        → OnOk result (InsertsInOrder (ShowsConsistent L.node (M.sums (sums_of summed.new)))
+        (compared (own_order A.Key.cmp (A.key_of (adapter_of tree.old)) (L.values (links_of summed.old)) object) (L.values (links_of summed.old)))
+        (L.table (links_of summed.old)) (L.table (links_of summed.new)) (root_of tree.new) s object) }
+    ensures acquired { OnOk result (L.Does (links_of summed.old) (links_of summed.new) (acquires object ∷ [])) }
+    ensures join { (M.sums (sums_of summed.new)).join ≡ (M.sums (sums_of summed.old)).join }
+    ensures covers { (q : Place) → M.Covers (sums_of summed.old) q → M.Covers (sums_of summed.new) q }
+    ensures extent { (L.table (links_of summed.new)).extent ≡ (L.table (links_of summed.old)).extent }
+    ensures adapter { adapter_of tree.new ≡ adapter_of tree.old }
+    ensures refused { OnErr result (L.Refused (links_of summed.old) (links_of summed.new) object) }
+    ensures unchanged { IfErr result (λ refused. (refused.0 ≡ object) × (tree.new ≡ tree.old) × (sums_of summed.new ≡ sums_of summed.old)) }
+{
+    let place = object.place();
+    if !summed.links.acquire_link(place) {
+        return Err(AlreadyLinked(object));
+    }
+    let links = &summed.links;
+    let adapter = tree.adapter();
+    let mut probe = KeyProbe::new(adapter, adapter.get_key(links.value(place)));
+    let hole = tree.search(links, links, &mut probe, Side::Right);
+    attach_fresh(tree, summed, hole.parent.get(), hole.side, place);
+    Ok(())
+}
