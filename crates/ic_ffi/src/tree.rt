@@ -218,12 +218,27 @@ pub(crate) fn replace(
     true
 }
 
-// Why no number is handed out: there is no member, or its place is not linked.
-//
-// It is out of line, so that a walk keeps no register for a status that few calls return.
-#[cold]
-#[inline(never)]
-fn nothing_found(member: Option<Place>) -> u32
+// Writes the number of the member, if there is one and it is linked, and says whether.
+#[inline(always)]
+fn tell(links: &RawTable<'_, RawThree>, member: Option<Place>, found: &mut u32) -> bool
+    requires { IsIn (has_place (lent_table links.now)) member }
+    ensures told { result ≡ true → (q : Place) × (member ≡ Some q) × IsLinked is_linked_three (lent_table links.now) q × HasNumber q found.new }
+    ensures not_told { result ≡ false → found.new ≡ found.old }
+    ensures stands { Stands is_linked_three (lent_table links.now) member → member ≢ None → result ≡ true }
+{
+    let Some(place) = member else {
+        return false;
+    };
+    if !links.at(place).is_linked() {
+        return false;
+    }
+    *found = number_of(place);
+    true
+}
+
+// Why no number is told: there is no member, or its place is not linked.
+#[inline]
+fn nothing_told(member: Option<Place>) -> u32
     ensures null { (result ≡ 4) ↔ (member ≡ None) }
     ensures why { result ≢ 4 → result ≡ 5 }
     ensures refused { result ≢ 0 }
@@ -232,6 +247,17 @@ fn nothing_found(member: Option<Place>) -> u32
         None => NULL,
         Some(_) => BROKEN,
     }
+}
+
+// The same out of line, so that a walk keeps no register for a status that few calls return.
+#[cold]
+#[inline(never)]
+fn nothing_found(member: Option<Place>) -> u32
+    ensures null { (result ≡ 4) ↔ (member ≡ None) }
+    ensures why { result ≢ 4 → result ≡ 5 }
+    ensures refused { result ≢ 0 }
+{
+    nothing_told(member)
 }
 
 // Hands out the number of the member, or says why not: there is none, or the place is not linked.
@@ -248,14 +274,10 @@ pub(crate) fn hand_out(
     ensures null { (result ≡ 4) ↔ (member ≡ None) }
     ensures why { result ≢ 0 → result ≢ 4 → result ≡ 5 }
 {
-    let Some(place) = member else {
-        return nothing_found(None);
-    };
-    if !links.at(place).is_linked() {
-        return nothing_found(member);
+    if tell(links, member, found) {
+        return OK;
     }
-    *found = number_of(place);
-    OK
+    nothing_told(member)
 }
 
 // Hands out the outermost member on the other side of this one.
@@ -299,9 +321,9 @@ pub(crate) fn step(
     if !stand(links, tree, Some(member)) {
         return links.refusal_of(member);
     }
-    hand_out(
-        links,
-        step_within(links, tree.root(), Some(member), side),
-        found,
-    )
+    let beside = step_within(links, tree.root(), Some(member), side);
+    if tell(links, beside, found) {
+        return OK;
+    }
+    nothing_found(beside)
 }
