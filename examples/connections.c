@@ -20,7 +20,7 @@ static void print(const char *name, uint32_t head) {
 }
 
 int main(void) {
-    uint32_t status = ic_ring_init(links, PLACES, BUSY), oldest;
+    uint32_t status = ic_ring_init(links, PLACES, BUSY), oldest = IC_NONE;
     if (status == IC_OK)
         status = ic_ring_init(links, PLACES, IDLE);
     for (uint32_t connection = 0; connection < CONNECTIONS && status == IC_OK; connection++)
