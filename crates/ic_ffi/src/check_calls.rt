@@ -78,7 +78,7 @@ pub extern "C" fn ic_stack_check(table: &mut [RawOne], list: &RawFront, members:
 
 /// Hands out how many members the words show for a tree, or returns [`BROKEN`] where they show no red-black tree. O(n).
 ///
-/// It writes nothing else, and asks for no keys. Where it returns [`OK`], each call does what it says of a tree that is shown.
+/// It writes nothing else, and requires no keys. Where it returns [`OK`], each call does what it says of a tree that is shown.
 #[unsafe(no_mangle)]
 pub extern "C" fn ic_tree_check(table: &mut [RawThree], tree: &RawRoot, members: &mut u64) -> u32
     ensures shown { result ≡ 0 → IsShown (ShowsTree table.old tree.now) members.new }
