@@ -1,42 +1,36 @@
 -- For callers: the first that passes a test, and the first behind each, are all that pass, in order.
-use Rattle.std.proofs.Common.{◌≡◌, Bool, true, false, cond, Option, Some, None, List, [], ◌∷◌, ◌++◌, refl, sym, ap, ◌∙◌, subst, arith}
+use Rattle.std.proofs.Common.{◌≡◌, Bool, true, false, cond, Some, None, List, [], ◌∷◌, ◌++◌, refl, sym, ap, ◌∙◌}
 use Rattle.std.specs.List.{filter}
 use Rattle.ic_unsafe_ref.specs.declared.place.Place.{Place}
-use Rattle.ic_link_ops.specs.RedBlackTree.{Node, Shows}
-use Rattle.ic_link_ops.specs.Sequences.{first, IsAbsent}
-use Rattle.ic_link_ops.specs.Tables.{Table}
+use Rattle.ic_link_ops.specs.Sequences.{first}
 use Rattle.ic_link_ops.proofs.SequenceLemmas.{none_not, some_same}
-use Rattle.ic_link_ops.proofs.Times.{one_at_self, distinct_times, times_absent, times_append}
+
+-- p stands in s, and those of s that pass are it and those behind it that do
+pub record FirstFound (test : Place → Bool) (s : List Place) (p : Place) : Type 0 where
+  pub front : List Place
+  pub back : List Place
+  pub same : s ≡ front ++ p ∷ back
+  pub passing : filter test s ≡ p ∷ filter test back
 
 module _ (test : Place → Bool) where
-  -- the first that passes does
-  first_passes : (s : List Place) (p : Place) → first (filter test s) ≡ Some p → test p ≡ true
-  first_passes [] p e = absurd (none_not p e)
-  first_passes (x ∷ s) p e = pick (first_passes s p) (test x) refl where
-    pick : (first (filter test s) ≡ Some p → test p ≡ true) → (b : Bool) → test x ≡ b → test p ≡ true
-    pick on true k = subst (λ (y : Place). test y ≡ true) (some_same (sym (ap (λ (b : Bool). first (cond b (x ∷ filter test s) (filter test s))) k) ∙ e)) k
-    pick on false k = on (sym (ap (λ (b : Bool). first (cond b (x ∷ filter test s) (filter test s))) k) ∙ e)
+  -- THE FIRST THAT PASSES, and the rest
+  pub first_found : (s : List Place) (p : Place) → first (filter test s) ≡ Some p → FirstFound test s p
+  first_found [] p e = absurd (none_not p e)
+  first_found (x ∷ s) p e = by (first_found s p) (test x) refl where
+    passes : (b : Bool) → test x ≡ b → filter test (x ∷ s) ≡ cond b (x ∷ filter test s) (filter test s)
+    passes b k = ap (λ (c : Bool). cond c (x ∷ filter test s) (filter test s)) k
 
-  -- and those that pass are it, and those behind it that do
-  first_splits : (front : List Place) (p : Place) (back : List Place) → IsAbsent p front → first (filter test (front ++ p ∷ back)) ≡ Some p → filter test (front ++ p ∷ back) ≡ p ∷ filter test back
-  first_splits [] p back out e = ap (λ (b : Bool). cond b (p ∷ filter test back) (filter test back)) (first_passes (p ∷ back) p e)
-  first_splits (x ∷ front) p back out e = pick (first_splits front p back out.1) (test x) refl where
-    rest : List Place
-    rest = filter test (front ++ p ∷ back)
-
-    pick : (first rest ≡ Some p → rest ≡ p ∷ filter test back) → (b : Bool) → test x ≡ b → filter test (x ∷ (front ++ p ∷ back)) ≡ p ∷ filter test back
-    pick on true k = absurd (out.0 (sym (some_same (sym (ap (λ (b : Bool). first (cond b (x ∷ rest) rest)) k) ∙ e))))
-    pick on false k = ap (λ (b : Bool). cond b (x ∷ rest) rest) k ∙ on (sym (ap (λ (b : Bool). first (cond b (x ∷ rest) rest)) k) ∙ e)
+    by : (first (filter test s) ≡ Some p → FirstFound test s p) → (b : Bool) → test x ≡ b → FirstFound test (x ∷ s) p
+    by on true k =
+        let here : x ≡ p = some_same (sym (ap first (passes true k)) ∙ e) in
+        record { front = []; back = s; same = ap (λ (y : Place). y ∷ s) here; passing = passes true k ∙ ap (λ (y : Place). y ∷ filter test s) here }
+    by on false k =
+        let r = on (sym (ap first (passes false k)) ∙ e) in
+        record { front = x ∷ r.front; back = r.back; same = ap (λ (t : List Place). x ∷ t) r.same; passing = passes false k ∙ r.passing }
 
   -- where none is the first none passes
   pub none_passes : (s : List Place) → first (filter test s) ≡ None → filter test s ≡ []
-  none_passes s e = pick (filter test s) refl where
-    pick : (w : List Place) → filter test s ≡ w → filter test s ≡ []
-    pick [] k = k
-    pick (x ∷ w) k = absurd (none_not x (sym e ∙ ap first k))
-
-  -- ALL THAT PASS in a shown sequence
-  pub first_and_rest : {E : Type 0} (n : E → Node) (v : Table E) (root : Option Place) (front : List Place) (p : Place) (back : List Place) → Shows n v root (front ++ p ∷ back)
-      → first (filter test (front ++ p ∷ back)) ≡ Some p → filter test (front ++ p ∷ back) ≡ p ∷ filter test back
-  first_and_rest n v root front p back h e =
-      first_splits front p back (times_absent p front (omega (arith, distinct_times (front ++ p ∷ back) h.held.distinct p, times_append p front (p ∷ back), one_at_self p))) e
+  none_passes s e = by (filter test s) refl where
+    by : (w : List Place) → filter test s ≡ w → filter test s ≡ []
+    by [] k = k
+    by (x ∷ w) k = absurd (none_not x (sym e ∙ ap first k))

@@ -1,22 +1,24 @@
 -- A summary that has changed, passed on to those above it.
-use Rattle.std.proofs.Common.{◌≡◌, ◌≢◌, ◌≤◌, ◌<◌, ◌+◌, ◌-◌, ℕ, true, false, Option, Some, None, List, [], ◌∷◌, ◌++◌, length, refl, sym, ap, ◌∙◌, subst, arith, inl, inr, ◌⊎◌}
-use Rattle.std.proofs.Math.Nat.{le-max_left, le-max_right}
+use Rattle.std.proofs.Common.{◌≡◌, ◌≢◌, ◌≤◌, ◌+◌, ◌-◌, ℕ, true, false, Option, Some, None, List, [], ◌∷◌, ◌++◌, refl, sym, ap, ◌∙◌, subst, arith, inl, inr}
 use Rattle.ic_unsafe_ref.specs.declared.place.Place.{Place}
 use Rattle.ic_link_ops.specs.declared.color.Color.{Color}
 use Rattle.ic_link_ops.specs.declared.side.Side.{Side}
 use Rattle.ic_link_ops.specs.declared.side.Side.TheVariants.{Left, Right}
 use Rattle.ic_link_ops.specs.Frames.{Frame, frame, plug, put_in, above, IsAround}
 use Rattle.ic_link_ops.specs.RedBlackTree.{Node, IsTree, Shows}
+use Rattle.ic_link_ops.specs.Sequences.{IsAbsent, IsDisjoint}
 use Rattle.ic_link_ops.specs.Tables.{Table}
 use Rattle.ic_link_ops.specs.Times.{one_at, times, times_in, times_around}
 use Rattle.ic_link_ops.specs.Trees.{Tree, leaf, fork, top, in_order}
 use Rattle.ic_link_ops.proofs.SequenceLemmas.{none_not, some_same}
-use Rattle.ic_link_ops.proofs.Times.{one_at_self, apart, times_plug, times_order}
+use Rattle.ic_link_ops.proofs.ShownTrees.{holds_out}
+use Rattle.ic_link_ops.proofs.Times.{one_at_self, apart, times_plug, times_order, absent_times}
 use Rattle.ic_augmented.specs.Sums.{Sums, is_fresh, seen, IsSummed, Writes}
-use Rattle.ic_augmented.specs.Consistent.{IsUnder, IsJoined, IsSameAt, IsConsistentTree, IsConsistentBelow, IsConsistentBut, Refreshes}
+use Rattle.ic_augmented.specs.Consistent.{IsUnder, IsJoined, IsSameAt, IsConsistentTree, IsConsistentBelow, IsConsistentBut, IsConsistent, Refreshes}
 use Rattle.ic_augmented.specs.Changes.{IsAmong, Rejoins, seen_upper, join_on, IsJoinedOn, IsConsistentAbove, IsEdgeAbove, IsEdgeAt, RenewsAt, PassesOn, ClimbsTo}
 use Rattle.ic_augmented.specs.Subtrees.{IsSubtree}
 use Rattle.ic_augmented.proofs.ConsistencyLemmas.{times_top, apart_left, apart_right, seen_same, under_same, joined_same, consistent_kept, same_on, writes_same, summed_consistent_tree}
+use Rattle.ic_augmented.proofs.EditLemmas.{others_consistent}
 use Rattle.ic_augmented.proofs.PathLemmas.{OthersStay}
 use Rattle.ic_augmented.proofs.SubtreeLemmas.{lower, member_subtree, subtree_left, subtree_right, subtree_parent}
 
@@ -30,6 +32,14 @@ among_times p (frame d c q b ∷ fs) h = elim h [
   | inl i ↦ let k : one_at p q ≡ 1 = rw i (one_at_self p) in omega (arith, k)
   | inr r ↦ omega (arith, among_times p fs r)
 ]
+
+-- a member of t is none of s if these share none
+pub member_out : (q : Place) (s t : List Place) → IsDisjoint s t → 1 ≤ times_in q t → IsAbsent q s
+member_out q [] t apart m = tt
+member_out q (x ∷ s) t apart m = (
+  (λ e. let none : times_in q t ≡ 0 = subst (λ (y : Place). times_in y t ≡ 0) (sym e) (absent_times x t apart.0) in absurd (omega (arith, none, m))),
+  member_out q s t apart.1 m,
+)
 
 module _ {S : Type 0} where
   under_of : (z : Sums S) (p : Place) (o : Option Place) → is_fresh (seen z o) ≡ true → seen_upper z o ≡ Some p → IsUnder z p o
@@ -375,3 +385,16 @@ module _ {E S : Type 0} (n : E → Node) (v : Table E) where
       (λ q. let e : times_in q (in_order h.tree) ≡ times_in q (front ++ p ∷ back) = ap (times_in q) h.held.order in omega (arith, e, times_order q h.tree, ap (times q) x.same)) in
       let r = below_edge n v z (front ++ p ∷ back) edge k x.fs x.c x.a p x.b x.subtree members (among x.fs t x.subtree refl) in
       subst (λ (u : Tree). IsConsistentTree y u) x.same (climbs x.fs t x.subtree refl (omega (arith, x.low)) r.0 r.1)
+
+  -- and each of another tree
+  pub others_settled : (z y : Sums S) (root other : Option Place) (front : List Place) (p edge : Place) (back t : List Place) → y.join ≡ z.join → OthersStay n v z y p
+      → ((fs : List Frame) (t : Tree) → IsSubtree n v fs t → top t ≡ Some p → IsAmong edge fs) → Shows n v root (front ++ p ∷ back) → Shows n v other t → IsDisjoint (front ++ p ∷ back) t
+      → IsConsistentBut n v z t (Some edge) → IsConsistent n v y t
+  others_settled z y root other front p edge back t ej stays among h k apart but =
+      let x = member_subtree n v root front p back h in
+      let u : Tree = fork x.c x.a p x.b in
+      let out : (q : Place) → 1 ≤ times_in q t → times q (plug x.fs u) ≡ 0 = λ q m. ap (times q) x.same ∙ holds_out h.held q (member_out q (front ++ p ∷ back) t apart m) in
+      let there : 1 ≤ times edge (plug x.fs u) = omega (arith, among_times edge x.fs (among x.fs u x.subtree refl), times_plug edge x.fs u) in
+      let other_than : (q : Place) → 1 ≤ times_in q t → Some edge ≡ Some q → ⊥ =
+      λ q m i. let here : 1 ≤ times q (plug x.fs u) = subst (λ (r : Place). 1 ≤ times r (plug x.fs u)) (some_same i) there in absurd (omega (arith, here, out q m)) in
+      (others_consistent n v z y other t ej (λ q m. stays x.fs u x.subtree refl q (out q m)) (k, λ q m none. but q m (other_than q m))).1

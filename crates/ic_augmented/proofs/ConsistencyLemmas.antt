@@ -295,23 +295,19 @@ module _ {E S : Type 0} (n : E → Node) where
     consistent_tree v z s (Some p) b h t.2 (λ q. omega (arith, m q)),
   )
 
-  -- a summed tree is right everywhere
-  pub summed_consistent : (v : Table E) (z : Sums S) (up : Option Place) (t : Tree) → IsSummed z up t → IsTree n v.entry up t → (q : Place) → 1 ≤ times q t → (x : S) → z.fresh q ≡ Some x
+  -- and at each of its members, where its children are those of the tree
+  pub tree_consistent : (v : Table E) (z : Sums S) (up : Option Place) (t : Tree) → IsConsistentTree z t → IsTree n v.entry up t → (q : Place) → 1 ≤ times q t → (x : S) → z.fresh q ≡ Some x
       → IsJoined z q (n (v.entry q)).left (n (v.entry q)).right x
-  summed_consistent v z up leaf h t q m x e = absurd (omega (arith, m))
-  summed_consistent v z up (fork c a p b) h t q m x e = elim (same_or_not q p) [
+  tree_consistent v z up leaf h t q m x e = absurd (omega (arith, m))
+  tree_consistent v z up (fork c a p b) h t q m x e = elim (same_or_not q p) [
     | inl i ↦
-        let j : IsJoined z p (top a) (top b) x = record {
-          joined = some_same (sym e ∙ (ap z.fresh i ∙ h.0)) ∙ sym (join_seen z p (Some p) a b h.2 h.3);
-          left_is = under_here z p a h.2;
-          right_is = under_here z p b h.3;
-        } in
+        let j : IsJoined z p (top a) (top b) x = h.0 x (sym (ap z.fresh i) ∙ e) in
         let k : IsJoined z p (n (v.entry p)).left (n (v.entry p)).right x =
         subst (λ (y : Option Place). IsJoined z p y (n (v.entry p)).right x) (sym t.0.left) (subst (λ (y : Option Place). IsJoined z p (top a) y x) (sym t.0.right) j) in
         subst (λ (y : Place). IsJoined z y (n (v.entry y)).left (n (v.entry y)).right x) (sym i) k
     | inr other ↦ elim (where_is (times q a) (times q b) (omega (arith, m, one_at_other q p other))) [
-      | inl l ↦ summed_consistent v z (Some p) a h.2 t.1 q l x e
-      | inr r ↦ summed_consistent v z (Some p) b h.3 t.2 q r x e
+      | inl l ↦ tree_consistent v z (Some p) a h.1 t.1 q l x e
+      | inr r ↦ tree_consistent v z (Some p) b h.2 t.2 q r x e
     ]
   ]
 

@@ -4,24 +4,26 @@ use Rattle.std.proofs.Common.{◌≡◌, ◌≢◌, ◌≤◌, ◌+◌, true, fa
 use Rattle.ic_unsafe_ref.specs.declared.place.Place.{Place}
 use Rattle.ic_unsafe_ref.proofs.PlaceLemmas.{same_or_not}
 use Rattle.ic_link_ops.specs.declared.side.Side.{Side}
-use Rattle.ic_link_ops.specs.Sequences.{Cut, join, insert, IsAbsent}
+use Rattle.ic_link_ops.specs.Sequences.{Cut, join, insert, IsAbsent, IsDisjoint}
 use Rattle.ic_link_ops.specs.Tables.{Table, ChangesOnly}
 use Rattle.ic_link_ops.specs.Trees.{in_order}
 use Rattle.ic_link_ops.specs.RedBlackTree.{Node, Shows}
 use Rattle.ic_link_ops.specs.Times.{one_at, times, times_in}
 use Rattle.ic_link_ops.proofs.Times.{one_at_self, one_at_other, times_append, times_order, absent_times}
-use Rattle.ic_link_ops.proofs.ShownTrees.{holds_once, shows_beside, free_absent, one_sequence}
+use Rattle.ic_link_ops.proofs.SequenceLemmas.{disjoint_cons}
+use Rattle.ic_link_ops.proofs.ShownTrees.{holds_once, shows_beside, shows_frame, free_absent, one_sequence}
 use Rattle.ic_rbtree.specs.Closed.{IsNode}
 use Rattle.ic_rbtree.specs.Height.{height}
 use Rattle.ic_rbtree.specs.Insertion.{IsHole, Attaches}
 use Rattle.ic_rbtree.specs.Ordered.{InsertsInOrder}
 use Rattle.ic_rbtree.specs.Transplants.{TakesAway}
 use Rattle.ic_rbtree.specs.Pieces.{loose, Shown}
+use Rattle.ic_rbtree.proofs.Attaching.{inserts}
 use Rattle.ic_rbtree.proofs.Removing.{shown_of, shows_of}
 use Rattle.ic_rbtree.proofs.Climbed.{path_few}
 use Rattle.ic_augmented.specs.Sums.{Sums}
-use Rattle.ic_augmented.specs.Consistent.{IsConsistent, IsConsistentTree, KeepsConsistent, ShowsConsistent, ShowsSummed, Refreshes, IsJoined}
-use Rattle.ic_augmented.proofs.ConsistencyLemmas.{not_stale, consistent_tree, summed_consistent}
+use Rattle.ic_augmented.specs.Consistent.{IsSameAt, IsConsistent, IsConsistentTree, KeepsConsistent, ShowsConsistent, ShowsSummed, Refreshes, IsJoined}
+use Rattle.ic_augmented.proofs.ConsistencyLemmas.{not_stale, consistent_tree, tree_consistent, consistent_kept, summed_consistent_tree}
 
 module _ {E : Type 0} (n : E → Node) where
   -- a linked place beside the tree
@@ -51,10 +53,22 @@ module _ {E : Type 0} (n : E → Node) where
   pub free_member : (old : Table E) (root : Option Place) (s t : List Place) (p : Place) → t ≡ s → Shows n old root s → (n (old.entry p)).linked ≡ false → IsAbsent p t
   free_member old root s t p e h free = subst (IsAbsent p) (sym e) (free_absent h free)
 
+  -- a member stands in the tree as often as in the sequence
+  member_times : (v : Table E) (root : Option Place) (s : List Place) (h : Shows n v root s) (q : Place) → times q h.tree ≡ times_in q s
+  member_times v root s h q = sym (times_order q h.tree) ∙ ap (times_in q) h.held.order
+
   -- a place that is put in is shown then
   pub attached_shows : (v w : Table E) (root new_root parent : Option Place) (d : Side) (p : Place) (gap : Cut) → Attaches n v w root new_root parent d p
       → IsNode n v p → IsAbsent p (join gap) → Shows n v root (join gap) → IsHole n v parent d gap → Shows n w new_root (insert gap p)
   attached_shows v w root new_root parent d p gap done linked out h hole = shows_of n (done v gap [] (loose_shown v root (join gap) p h out linked) hole)
+
+  -- and a tree that shares no place with it is as it was
+  pub attached_others : (v w : Table E) (root new_root parent other : Option Place) (d : Side) (p : Place) (gap : Cut) (t : List Place) → Attaches n v w root new_root parent d p
+      → IsNode n v p → IsAbsent p (join gap) → Shows n v root (join gap) → IsHole n v parent d gap → IsDisjoint t (join gap) → IsAbsent p t → Shows n v other t → Shows n w other t
+  attached_others v w root new_root parent other d p gap t done linked out h hole apart absent k =
+      let only : ChangesOnly v v p = record { extent = refl; others = λ q other. refl } in
+      let put = inserts n v v w root new_root p gap only (done v gap [] (loose_shown v root (join gap) p h out linked) hole) in
+      shows_frame k (disjoint_cons p t (join gap) absent apart) put.frame
 
 module _ {E S : Type 0} (n : E → Node) where
   fewer_consistent : (v : Table E) (z : Sums S) (s t : List Place) → ((q : Place) → times_in q t ≤ times_in q s) → IsConsistent n v z s → IsConsistent n v z t
@@ -91,9 +105,7 @@ module _ {E S : Type 0} (n : E → Node) where
 
   -- the shown tree is consistent
   pub consistent_shown : (v : Table E) (z : Sums S) (root : Option Place) (s : List Place) (h : ShowsConsistent n z v root s) → IsConsistentTree z h.0.tree
-  consistent_shown v z root s h = consistent_tree n v z s None h.0.tree h.1 h.0.held.entries members where
-    members : (q : Place) → times q h.0.tree ≤ times_in q s
-    members q = let k : times_in q (in_order h.0.tree) ≡ times_in q s = ap (times_in q) h.0.held.order in omega (arith, k, times_order q h.0.tree)
+  consistent_shown v z root s h = consistent_tree n v z s None h.0.tree h.1 h.0.held.entries (λ q. omega (arith, member_times n v root s h.0 q))
 
   -- ALL IS FRESH, of a tree that is consistent
   pub refreshed_tree : (v : Table E) (z y : Sums S) (root : Option Place) (s : List Place) (h : Shows n v root s) → IsConsistentTree z h.tree → Refreshes IsConsistentTree z y None h.tree 67 → ShowsSummed n y v root s
@@ -107,11 +119,20 @@ module _ {E S : Type 0} (n : E → Node) where
   pub refreshed : (v : Table E) (z y : Sums S) (root : Option Place) (s : List Place) (h : ShowsConsistent n z v root s) → Refreshes IsConsistentTree z y None h.0.tree 67 → ShowsSummed n y v root s
   refreshed v z y root s h f = refreshed_tree v z y root s h.0 (consistent_shown v z root s h) f
 
+  -- a shown tree that is consistent is so in its sequence
+  shown_consistent : (v : Table E) (z : Sums S) (root : Option Place) (s : List Place) (h : Shows n v root s) → IsConsistentTree z h.tree → IsConsistent n v z s
+  shown_consistent v z root s h k q m but x e = tree_consistent n v z None h.tree k h.held.entries q (omega (arith, m, member_times n v root s h q)) x e
+
   -- and so consistent
   pub still_consistent : (v : Table E) (z : Sums S) (root : Option Place) (s : List Place) → ShowsSummed n z v root s → ShowsConsistent n z v root s
-  still_consistent v z root s h = (h.shows, λ q m but x e. summed_consistent n v z None h.shows.tree h.summed h.shows.held.entries q (member q m) x e) where
-    member : (q : Place) → 1 ≤ times_in q s → 1 ≤ times q h.shows.tree
-    member q m = let k : times_in q (in_order h.shows.tree) ≡ times_in q s = ap (times_in q) h.shows.held.order in omega (arith, k, m, times_order q h.shows.tree)
+  still_consistent v z root s h = (h.shows, shown_consistent v z root s h.shows (summed_consistent_tree z None h.shows.tree h.summed))
+
+  -- WHERE ALL STAYS THAT IS KEPT at the members, each fresh summary is right still
+  pub others_consistent : (v : Table E) (z w : Sums S) (root : Option Place) (s : List Place) → w.join ≡ z.join → ((q : Place) → 1 ≤ times_in q s → IsSameAt z w q)
+      → ShowsConsistent n z v root s → ShowsConsistent n w v root s
+  others_consistent v z w root s ej same h =
+      let members : (q : Place) → 1 ≤ times q h.0.tree → IsSameAt z w q = λ q m. same q (omega (arith, m, member_times n v root s h.0 q)) in
+      (h.0, shown_consistent v w root s h.0 (consistent_kept z w h.0.tree ej members (consistent_shown v z root s h)))
 
   -- another place changes
   pub beside_consistent : (v w : Table E) (z : Sums S) (t : List Place) (p : Place) → IsAbsent p t → ChangesOnly v w p → IsConsistent n v z t → IsConsistent n w z t

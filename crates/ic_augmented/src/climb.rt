@@ -9,11 +9,12 @@ ghost use Rattle.ic_unsafe_ref.specs.declared.place.Place.{Place};
 ghost use Rattle.ic_link_ops.specs.Frames.{Frame, plug};
 ghost use Rattle.ic_link_ops.specs.Positions.{HasMember};
 ghost use Rattle.ic_link_ops.specs.RedBlackTree.{Shows};
+ghost use Rattle.ic_link_ops.specs.Sequences.{IsDisjoint};
 ghost use Rattle.ic_link_ops.specs.Trees.{Tree, top};
 ghost use Rattle.ic_link_ops.specs.Times.{times};
 ghost use Rattle.ic_rbtree.specs.Closed.{IsNode};
 ghost use Rattle.ic_augmented.specs.Changes.{IsAmong, RenewsAt, PassesOn, ClimbsTo};
-ghost use Rattle.ic_augmented.specs.Consistent.{IsSameAt, IsConsistentBut, IsConsistentTree};
+ghost use Rattle.ic_augmented.specs.Consistent.{IsSameAt, IsConsistent, IsConsistentBut, IsConsistentTree};
 ghost use Rattle.ic_augmented.specs.Subtrees.{IsSubtree};
 
 use crate::ranks::is_at;
@@ -145,6 +146,9 @@ pub(crate) fn settle<N: Nodes, M: RenewSums>(
     ensures join { (M.sums sums.new).join ≡ (M.sums sums.old).join }
     ensures consistent { (root : Option Place) (front back : List Place) (h : Shows N.node (N.table links.now) root (front ++ place ∷ back))
         → IsConsistentBut N.node (N.table links.now) (M.sums sums.old) (front ++ place ∷ back) edge → IsConsistentTree (M.sums sums.new) h.tree }
+    ensures others { (root other : Option Place) (front back t : List Place) → Shows N.node (N.table links.now) root (front ++ place ∷ back)
+        → Shows N.node (N.table links.now) other t → IsDisjoint (front ++ place ∷ back) t
+        → IsConsistentBut N.node (N.table links.now) (M.sums sums.old) t edge → IsConsistent N.node (N.table links.now) (M.sums sums.new) t }
 {
     let Some(edge) = edge else {
         return;

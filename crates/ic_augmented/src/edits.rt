@@ -9,7 +9,7 @@
 
 ghost use Rattle.std.specs.Prelude.{◌≡◌, Option, Some, List, [], ◌∷◌, ◌++◌};
 ghost use Rattle.ic_unsafe_ref.specs.declared.place.Place.{Place};
-ghost use Rattle.ic_link_ops.specs.Sequences.{Cut, join, insert, IsAbsent};
+ghost use Rattle.ic_link_ops.specs.Sequences.{Cut, join, insert, IsAbsent, IsDisjoint};
 ghost use Rattle.ic_link_ops.specs.Positions.{HasMember};
 ghost use Rattle.ic_link_ops.specs.RedBlackTree.{Shows};
 ghost use Rattle.ic_rbtree.specs.Closed.{IsNode, IsSafe, IsSafeBut, StaysClosed, ClosesAt, KeepsNodes};
@@ -58,8 +58,8 @@ pub fn attach<A, N: Nodes, M: Sums>(
 /// Puts `place` in, as [`attach`] does, and renews the stale summaries of the tree: then it is summed.
 ///
 /// It does what `attach` and [`refresh`] do, and is faster: the summaries above the place are renewed as far as they change, each by what has
-/// changed below. It requires what `RBTree::attach` requires, that the links show a tree with this hole, and that there is room for a
-/// summary at each linked place. O(log n + v) for v summaries that were stale before.
+/// changed below. Each fresh summary of another tree in the table stays right. It requires what `RBTree::attach` requires, that the links show a
+/// tree with this hole, and that there is room for a summary at each linked place. O(log n + v) for v summaries that were stale before.
 pub fn attach_fresh<A, N: Nodes, M: RenewSums>(
     tree: &mut RBTree<A>,
     summed: &mut Summed<N, M>,
@@ -79,6 +79,9 @@ pub fn attach_fresh<A, N: Nodes, M: RenewSums>(
         → ShowsConsistent N.node (M.sums (sums_of summed.old)) (N.table (links_of summed.old)) (root_of tree.old) (join gap)
         → IsHole N.node (N.table (links_of summed.old)) parent side gap
         → ShowsConsistent N.node (M.sums (sums_of summed.new)) (N.table (links_of summed.new)) (root_of tree.new) (insert gap place) }
+    ensures others { (s t : List Place) (other : Option Place) → Shows N.node (N.table (links_of summed.old)) (root_of tree.old) s → IsDisjoint t s → IsAbsent place t
+        → ShowsConsistent N.node (M.sums (sums_of summed.old)) (N.table (links_of summed.old)) other t
+        → ShowsConsistent N.node (M.sums (sums_of summed.new)) (N.table (links_of summed.new)) other t }
     ensures attached { Attaches N.node (N.table (links_of summed.old)) (N.table (links_of summed.new)) (root_of tree.old) (root_of tree.new) parent side place }
     ensures linked { KeepsNodes N.node (N.table (links_of summed.old)) (N.table (links_of summed.new)) }
     ensures quiet { N.Quiet (links_of summed.old) (links_of summed.new) }

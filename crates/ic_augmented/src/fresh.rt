@@ -5,10 +5,11 @@
 //! len(&tree, &summed) // no call renews the counts in between
 //! ```
 
-ghost use Rattle.std.specs.Prelude.{◌≡◌, OnOk, OnErr, IfErr, List, [], ◌∷◌};
+ghost use Rattle.std.specs.Prelude.{◌≡◌, Option, OnOk, OnErr, IfErr, List, [], ◌∷◌};
 ghost use Rattle.ic_unsafe_ref.specs.declared.place.Place.{Place};
 ghost use Rattle.ic_link_ops.specs.LinkSteps.{acquires};
 ghost use Rattle.ic_link_ops.specs.RedBlackTree.{Shows};
+ghost use Rattle.ic_link_ops.specs.Sequences.{IsDisjoint};
 ghost use Rattle.ic_link_ops.specs.Tables.{IsCovered};
 ghost use Rattle.ic_rbtree.specs.Comparing.{compared, own_order};
 ghost use Rattle.ic_rbtree.specs.Ordered.{InsertsInOrder};
@@ -26,9 +27,9 @@ use ic_unsafe_ref::{UnsafeRef, Values};
 
 /// Inserts the object as [`insert_keyed`](crate::insert_keyed) does, and renews the stale summaries of the tree: then it is summed.
 ///
-/// It does what `insert_keyed` and [`refresh`](crate::refresh) do, and is faster. It requires that the object's place is covered, that the
-/// links show a tree, and that there is room for a summary at each covered place. A refused object comes back, and the tree, its links and its
-/// summaries are as they were. O(log n + v) for v summaries that were stale before.
+/// It does what `insert_keyed` and [`refresh`](crate::refresh) do, and is faster. Each fresh summary of another tree in the table stays right. It
+/// requires that the object's place is covered, that the links show a tree, and that there is room for a summary at each covered place. A refused
+/// object comes back, and the tree, its links and its summaries are as they were. O(log n + v) for v summaries that were stale before.
 pub fn insert_fresh<A: KeyAdapter, L: RBTreeOps + LinkValues<A::Value>, M: RenewSums>(
     tree: &mut RBTree<A>,
     summed: &mut Summed<L, M>,
@@ -47,6 +48,9 @@ pub fn insert_fresh<A: KeyAdapter, L: RBTreeOps + LinkValues<A::Value>, M: Renew
         → OnOk result (InsertsInOrder (ShowsConsistent L.node (M.sums (sums_of summed.new)))
         (compared (own_order A.Key.cmp (A.key_of (adapter_of tree.old)) (L.values (links_of summed.old)) object) (L.values (links_of summed.old)))
         (L.table (links_of summed.old)) (L.table (links_of summed.new)) (root_of tree.new) s object) }
+    ensures others { (s t : List Place) (other : Option Place) → Shows L.node (L.table (links_of summed.old)) (root_of tree.old) s → IsDisjoint t s
+        → ShowsConsistent L.node (M.sums (sums_of summed.old)) (L.table (links_of summed.old)) other t
+        → ShowsConsistent L.node (M.sums (sums_of summed.new)) (L.table (links_of summed.new)) other t }
     ensures acquired { OnOk result (L.Does (links_of summed.old) (links_of summed.new) (acquires object ∷ [])) }
     ensures join { (M.sums (sums_of summed.new)).join ≡ (M.sums (sums_of summed.old)).join }
     ensures covers { (q : Place) → M.Covers (sums_of summed.old) q → M.Covers (sums_of summed.new) q }

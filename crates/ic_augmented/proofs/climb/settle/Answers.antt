@@ -1,9 +1,10 @@
-use Rattle.std.proofs.Common.{Option, Some, refl, subst, List, ◌++◌, ◌∷◌}
+use Rattle.std.proofs.Common.{Option, refl, subst, ◌++◌, ◌∷◌}
 use Rattle.ic_unsafe_ref.specs.declared.place.Place.{Place}
 use Rattle.ic_link_ops.specs.Trees.{fork}
 use Rattle.ic_augmented.specs.Consistent.{IsConsistentBut}
 use Rattle.ic_augmented.proofs.EditLemmas.{consistent_shown}
-use Rattle.ic_augmented.proofs.ChangeLemmas.{settled}
+use Rattle.ic_augmented.proofs.ChangeLemmas.{settled, others_settled}
+use Rattle.ic_augmented.proofs.ConsistencyLemmas.{invalidated_none}
 use Rattle.ic_augmented.proofs.SubtreeLemmas.{member_subtree}
 use Rattle.ic_augmented.proofs.climb.settle.Goals as goal
 
@@ -41,3 +42,22 @@ returns-clause-consistent g c root front back h k =
     let z = g.M.Sums.sums c.args.sums.now in
     settled n v z _ root front c.args.place c.in-Some.edge back c.climb.ensures.consistent (c.is_above.ensures c.if-not-is_above.false) h
     (subst (λ (o : Option Place). IsConsistentBut n v z (front ++ c.args.place ∷ back) o) c.in-Some.is k)
+
+pub returns-in_default-clause-others : goal.returns-in_default-clause-others
+returns-in_default-clause-others g c root other front back t h k apart but =
+    invalidated_none g.N.Nodes.node (g.N.Nodes.table c.args.links.now) (g.M.Sums.sums c.args.sums.now) t c.args.edge c.in_default.is but
+
+pub returns-then-not-is_above-clause-others : goal.returns-then-not-is_above-clause-others
+returns-then-not-is_above-clause-others g c root other front back t h k apart but =
+    let n = g.N.Nodes.node in
+    let v = g.N.Nodes.table c.args.links.now in
+    let z = g.M.Sums.sums c.args.sums.now in
+    c.invalidate_up.ensures.closed t (subst (λ (o : Option Place). IsConsistentBut n v z t o) c.in-Some.is but)
+
+pub returns-clause-others : goal.returns-clause-others
+returns-clause-others g c root other front back t h k apart but =
+    let n = g.N.Nodes.node in
+    let v = g.N.Nodes.table c.args.links.now in
+    let z = g.M.Sums.sums c.args.sums.now in
+    others_settled n v z _ root other front c.args.place c.in-Some.edge back t c.climb.ensures.join c.climb.ensures.others (c.is_above.ensures c.if-not-is_above.false) h k apart
+    (subst (λ (o : Option Place). IsConsistentBut n v z t o) c.in-Some.is but)

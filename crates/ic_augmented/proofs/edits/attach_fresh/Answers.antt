@@ -1,8 +1,9 @@
-use Rattle.std.proofs.Common.{◌≡◌, ◌∙◌, sym, None, List}
-use Rattle.ic_unsafe_ref.specs.declared.place.Place.{Place}
-use Rattle.ic_link_ops.specs.Sequences.{insert}
-use Rattle.ic_link_ops.specs.RedBlackTree.{Shows}
-use Rattle.ic_augmented.proofs.EditLemmas.{attached_shows, stale_with, refreshed_tree, still_consistent}
+use Rattle.std.proofs.Common.{◌∙◌, sym, subst, None}
+use Rattle.ic_link_ops.specs.Sequences.{insert, join, IsDisjoint}
+use Rattle.ic_link_ops.proofs.SequenceLemmas.{disjoint_insert, disjoint_sym}
+use Rattle.ic_link_ops.proofs.ShownTrees.{holds_out, one_sequence}
+use Rattle.ic_augmented.proofs.ChangeLemmas.{member_out}
+use Rattle.ic_augmented.proofs.EditLemmas.{attached_shows, attached_others, stale_with, refreshed_tree, still_consistent, others_consistent}
 use Rattle.ic_augmented.proofs.edits.attach_fresh.Goals as goal
 
 pub settle-requires-clause-member : goal.settle-requires-clause-member
@@ -42,3 +43,17 @@ returns-clause-join g c =
     let h = attached_shows g.N.Nodes.node _ _ _ _ c.args.parent c.args.side c.args.place r.0 c.attach_marking-edge.ensures.attached r.1 r.2 r.3 r.4 in
     (c.refresh_below.ensures.refreshed None h.tree h.held.entries (c.root-top.ensures ∙ h.starts)).join
     ∙ (c.settle.ensures.join ∙ (c.attach_marking-edge.ensures.join ∙ c.invalidate_up.ensures.consistent.join))
+
+pub returns-clause-others : goal.returns-clause-others
+returns-clause-others g c s t other shown apart absent h =
+    let n = g.N.Nodes.node in
+    let p = c.args.place in
+    let r = c.requires.hole in
+    let done = c.attach_marking-edge.ensures.attached in
+    let tree = attached_shows n _ _ _ _ c.args.parent c.args.side p r.0 done r.1 r.2 r.3 r.4 in
+    let from : IsDisjoint t (join r.0) = subst (IsDisjoint t) (one_sequence shown r.3) apart in
+    let still = attached_others n _ _ _ _ c.args.parent other c.args.side p r.0 t done r.1 r.2 r.3 r.4 from absent h.0 in
+    let both : IsDisjoint (insert r.0 p) t = disjoint_insert r.0.front r.0.back t p (disjoint_sym t (join r.0) from) absent in
+    let settled = c.settle.ensures.others _ other r.0.front r.0.back t tree still both (c.attach_marking-edge.ensures.consistent t (c.invalidate_up.ensures.consistent.consistent t h.1)) in
+    let fresh = c.refresh_below.ensures.refreshed None tree.tree tree.held.entries (c.root-top.ensures ∙ tree.starts) in
+    others_consistent n _ _ _ other t fresh.join (λ q m. fresh.frame q (holds_out tree.held q (member_out q (insert r.0 p) t both m))) (still, settled)

@@ -4,14 +4,15 @@ use Rattle.ic_unsafe_ref.specs.Places.{index_of}
 use Rattle.ic_unsafe_ref.specs.Objects.{Objects}
 use Rattle.ic_link_ops.specs.Sequences.{join}
 use Rattle.ic_link_ops.specs.RedBlackTree.{Shows}
-use Rattle.ic_link_ops.specs.Tables.{Extent}
+use Rattle.ic_link_ops.specs.Tables.{Table, Extent}
+use Rattle.ic_link_ops.proofs.ShownTrees.{free_absent}
 use Rattle.ic_rbtree.specs.Comparing.{compared, own_order}
 use Rattle.ic_rbtree.specs.Ordered.{InsertsInOrder}
 use Rattle.ic_rbtree.proofs.Removing.{shown_of}
 use Rattle.ic_rbtree.proofs.ShownClosed.{among, shown_closed, with_place, shown_closed_but, with_itself, hole_in}
 use Rattle.ic_rbtree.proofs.InOrder.{still_shown, fits, fitted, own_is}
-use Rattle.ic_augmented.specs.Consistent.{ShowsSummed}
-use Rattle.ic_augmented.proofs.EditLemmas.{free_member, acquired_consistent, inserts_summed, inserts_still}
+use Rattle.ic_augmented.specs.Consistent.{ShowsConsistent, ShowsSummed}
+use Rattle.ic_augmented.proofs.EditLemmas.{free_member, acquired_consistent, beside_shows, inserts_summed, inserts_still}
 use Rattle.ic_augmented.proofs.fresh.insert_fresh.Goals as goal
 
 pub search-hole-requires-clause-safe : goal.search-hole-requires-clause-safe
@@ -79,3 +80,17 @@ returns-clause-extent g c =
     let l = g.met.L.LinkOps.does_replay _ _ _ c.if-not-acquire_link.ensures.acquired in
     let f = fits n g.L.LinkOps.linked alike l.was l.is c.acquire_link.ensures.frame r.1 refl c.search-hole.ensures.ends c.get.ensures in
     (fitted n g.L.LinkOps.linked alike l.was l.is c.acquire_link.ensures.frame f c.attach_fresh.ensures.attached).inserted.frame.extent
+
+pub returns-clause-others : goal.returns-clause-others
+returns-clause-others g c s t other shown apart h =
+    let n = g.L.RBTreeOps.node in
+    let alike = g.met.L.RBTreeOps.linked_alike in
+    let l = g.met.L.LinkOps.does_replay _ _ _ c.if-not-acquire_link.ensures.acquired in
+    let only = c.acquire_link.ensures.frame in
+    let absent = free_absent h.0 (alike _ ∙ l.was) in
+    c.attach_fresh.ensures.others s t other (still_shown n g.L.LinkOps.linked alike l.was l.is only refl shown) apart absent (beside_shows n _ _ _ other t c.place-place.result absent only h)
+
+pub returns-then-not-acquire_link-clause-others : goal.returns-then-not-acquire_link-clause-others
+returns-then-not-acquire_link-clause-others g c s t other shown apart h =
+    subst (λ (v : Table g.row.L-Entry.Denot). ShowsConsistent g.L.RBTreeOps.node (g.M.Sums.sums c.args.summed.now.sums) v other t)
+    (sym (g.met.L.LinkOps.refused_keeps _ _ _ c.if-not-acquire_link.ensures.refused)) h
