@@ -1,6 +1,7 @@
-// The play page: calls on two lists, a stack and a tree, over the module that stands above as `MODULES`, by the classes of ic.mjs.
+// The play page: calls on lists, rings and a tree, over the module that stands above as `MODULES`, by the classes of ic.mjs.
 const PLACES = 16;
 const REASONS = {
+  NULL: "the call needs a place, and none is named",
   OUT_OF_RANGE: "the place is not one of the table",
   LINKED: "the place is linked already",
   NOT_LINKED: "a place that is named is not linked",
@@ -16,16 +17,18 @@ document.querySelector("#module").textContent = `${count} calls, with a memory o
 const ARROW = '<defs><marker id="tip" viewBox="0 0 8 8" refX="7" refY="4" markerWidth="7" markerHeight="7" orient="auto"><path d="M0 0 8 4 0 8z" fill="currentColor"/></marker></defs>';
 const svg = (width, height, parts, kind) => `<svg viewBox="0 0 ${width} ${height}" role="img" class="${kind}">${ARROW}${parts.join("")}</svg>`;
 const text = (x, y, words, kind = "") => `<text x="${x}" y="${y}" class="${kind}">${words}</text>`;
+const arrow = (path) => `<path d="${path}" class="edge" marker-end="url(#tip)"/>`;
 const shown = (place) => (place === null ? "-" : place);
 
-// The table: a column for each place, a row for each word.
-function drawTable(links, rows) {
+// The table: a column for each place, a row for each word. A head has a double border.
+function drawTable(links, rows, heads = new Set()) {
   const width = 34, parts = [];
   rows.forEach(([name, cell], row) => {
     parts.push(text(2, 17 + 22 * row, name, "head"));
     for (let place = 0; place < links.length; place++) {
       const x = 66 + width * place, isLinked = links.isLinked(place);
       parts.push(`<rect x="${x}" y="${1 + 22 * row}" width="${width}" height="22" class="cell${isLinked ? " on" : ""}"/>`);
+      if (!row && heads.has(place)) parts.push(`<rect x="${x + 3}" y="4" width="${width - 6}" height="16" class="box"/>`);
       parts.push(text(x + width / 2, 17 + 22 * row, cell(place), row && !isLinked ? "pale" : ""));
     }
   });
@@ -40,14 +43,46 @@ function drawList(list, isTwoWay) {
     parts.push(`<rect x="${x}" y="${y}" width="34" height="28" rx="4" class="box on"/>`, text(x + 17, y + 19, place));
     if (at + 1 === members.length) return;
     if (at % 10 === 9) {
-      parts.push(`<path d="M${x + 17} ${y + 28}v9H29v14" class="edge" marker-end="url(#tip)"/>`);
+      parts.push(arrow(`M${x + 17} ${y + 28}v9H29v14`));
       return;
     }
-    parts.push(`<path d="M${x + 35} ${y + (isTwoWay ? 10 : 14)}h21" class="edge" marker-end="url(#tip)"/>`);
-    if (isTwoWay) parts.push(`<path d="M${x + 57} ${y + 19}h-21" class="edge" marker-end="url(#tip)"/>`);
+    parts.push(arrow(`M${x + 35} ${y + (isTwoWay ? 10 : 14)}h21`));
+    if (isTwoWay) parts.push(arrow(`M${x + 57} ${y + 19}h-21`));
   });
   if (!members.length) parts.push(text(60, 34, "no members"));
   return svg(612, 118, parts, "members");
+}
+
+// The circles of a table side by side, ten places in a row where they are small. A head has a double border.
+function drawRings(rings) {
+  const parts = [];
+  let x = 0, y = 0, height = 0;
+  for (const circle of rings.circles()) {
+    const radius = Math.max(24, 26 * circle.length / Math.PI), size = 2 * radius + 46;
+    if (x + size > 612) [x, y, height] = [0, y + height, 0];
+    parts.push(`<g class="circle">${drawCircle(circle, rings.heads, x + size / 2, y + size / 2, radius).join("")}</g>`);
+    [x, height] = [x + size, Math.max(height, size)];
+  }
+  if (!parts.length) parts.push(text(60, 34, "no rings"));
+  return svg(612, Math.max(118, y + height), parts, "members");
+}
+
+// The places of a circle clockwise from the top. The outer arrows are next, and the inner ones prev.
+function drawCircle(places, heads, x, y, radius) {
+  const turn = 2 * Math.PI / places.length, parts = [];
+  const point = (angle, away) => `${(x + away * Math.sin(angle)).toFixed(1)} ${(y - away * Math.cos(angle)).toFixed(1)}`;
+  const arc = (from, to, away) => arrow(`M${point(from, away)}A${away} ${away} 0 ${Math.abs(to - from) > Math.PI ? 1 : 0} ${to > from ? 1 : 0} ${point(to, away)}`);
+  // How far from a place an arrow begins, as an angle, so that it keeps clear of the place's border.
+  const gap = (away) => Math.acos((away ** 2 + radius ** 2 - 18 ** 2) / (2 * away * radius));
+  places.forEach((place, at) => {
+    const outer = radius + 5, inner = radius - 5, [from, to] = [turn * at, turn * (at + 1)];
+    parts.push(arc(from + gap(outer), to - gap(outer), outer), arc(to - gap(inner), from + gap(inner), inner));
+    const [left, top] = point(from, radius).split(" ").map(Number);
+    parts.push(`<circle cx="${left}" cy="${top}" r="15" class="box on"/>`);
+    if (heads.has(place)) parts.push(`<circle cx="${left}" cy="${top}" r="12" class="box"/>`);
+    parts.push(text(left, top + 4, place));
+  });
+  return parts;
 }
 
 // The tree, each member by its key, in its color.
@@ -69,6 +104,48 @@ function drawTree(tree) {
   }
   if (!at.size) parts.push(text(60, 34, "no members"));
   return svg(612, 44 + 40 * Math.max(deepest, 3), parts, "members");
+}
+
+// The rings of a table, and the places that were made heads. What ic.h makes of one call of the module is made so here.
+class Rings {
+  constructor(links) {
+    [this.links, this.heads] = [links, new Set()];
+  }
+  edit(name, ...places) {
+    const { library, parts } = this.links;
+    library.done(library.calls[`ic_ring_${name}`](...parts, ...places.map((it) => it ?? NONE)));
+  }
+  init(head) {
+    this.edit("init", head);
+    this.heads.add(head);
+  }
+  remove(place) {
+    this.edit("remove", place);
+    this.heads.delete(place);
+  }
+  // A place beside a head: behind it by word 0, in front of it by word 1.
+  beside(head, word) {
+    return this.links.isLinked(head) ? this.links.place(head, word) : null;
+  }
+  pop(head, word) {
+    const member = this.beside(head, word);
+    if (member !== null && member === head) return null;
+    // Without a member the head is at fault, and the call says how.
+    this.remove(member ?? head);
+    return member;
+  }
+  // The places of each circle, from its first head on.
+  *circles() {
+    const seen = new Set();
+    for (const first of [...[...this.heads].sort((one, other) => one - other), ...Array(this.links.length).keys()]) {
+      const circle = [];
+      for (let at = first; at !== null && this.links.isLinked(at) && !seen.has(at); at = this.beside(at, 0)) {
+        seen.add(at);
+        circle.push(at);
+      }
+      if (circle.length) yield circle;
+    }
+  }
 }
 
 // What a call did, in words.
@@ -94,13 +171,13 @@ function run(calls, line) {
   return outcome(call, numbers);
 }
 
-// A section of the page. Returns what plays a line on it.
-function panel(name, title, calls, hints, draw) {
+// A section of the page. Returns what types lines into its field.
+function panel(name, title, calls, hints, draw, note = "") {
   const section = document.createElement("section");
   section.id = name;
-  section.innerHTML = `<h2>${title}</h2><form><input spellcheck="false" aria-label="a call"><button>Call</button></form><div class="hints"></div><div class="drawn"></div><div class="log" aria-live="polite"></div>`;
+  section.innerHTML = `<h2>${title}</h2>${note}<form><input spellcheck="false" aria-label="a call"><button>Call</button></form><div class="hints"></div><div class="drawn"></div><div class="log" aria-live="polite"></div>`;
   document.querySelector("#panels").append(section);
-  const input = section.querySelector("input"), log = section.querySelector(".log"), drawn = section.querySelector(".drawn");
+  const [form, input, log, drawn] = ["form", "input", ".log", ".drawn"].map((it) => section.querySelector(it));
   const play = (line) => {
     if (!line.trim()) return;
     const [words, kind] = run(calls, line), row = document.createElement("div");
@@ -110,10 +187,10 @@ function panel(name, title, calls, hints, draw) {
     log.scrollTop = log.scrollHeight;
     drawn.innerHTML = draw();
   };
-  section.querySelector("form").onsubmit = (event) => {
+  form.onsubmit = (event) => {
     event.preventDefault();
     input.value.split(";").forEach(play);
-    input.select();
+    if (event.submitter) input.select();
   };
   for (const hint of hints) {
     const button = document.createElement("button");
@@ -122,12 +199,16 @@ function panel(name, title, calls, hints, draw) {
     section.querySelector(".hints").append(button);
   }
   drawn.innerHTML = draw();
-  return play;
+  return (lines) => {
+    input.value = lines;
+    form.requestSubmit();
+  };
 }
 
 const links = ic.links2(PLACES), list = new List(links);
 const ones = ic.links1(PLACES), xor = new XorList(ones);
 const nexts = ic.links1(PLACES), stack = new Stack(nexts);
+const pairs = ic.links2(PLACES), rings = new Rings(pairs);
 const nodes = ic.links3(PLACES), keys = ic.keys(PLACES), tree = new Tree(nodes, keys);
 const numbered = ["place", (it) => it];
 
@@ -169,6 +250,21 @@ const plays = {
     clear: () => stack.clear(),
   }, ["fill 0 16", "pop_front", "push_front 0", "remove_after 3", "remove_after 15", "clear"],
   () => drawList(stack, false) + drawTable(nexts, [numbered, ["next", (it) => shown(nexts.place(it, 0))]])),
+  ring: panel("ring", "Rings, with two words a place", {
+    init: (head) => rings.init(head),
+    insert_after: (at, place) => rings.edit("insert_after", at, place),
+    insert_before: (at, place) => rings.edit("insert_before", at, place),
+    push_front: (head, place) => rings.edit("insert_after", head, place),
+    push_back: (head, place) => rings.edit("insert_before", head, place),
+    pop_front: (head) => rings.pop(head, 0),
+    pop_back: (head) => rings.pop(head, 1),
+    remove: (place) => rings.remove(place),
+    exchange: (one, other) => rings.edit("exchange", one, other),
+  }, ["init 14; init 15", "push_back 14 3; push_back 14 5; push_back 14 7", "push_back 15 9", "insert_after 5 1", "remove 5; insert_after 9 5", "exchange 7 15", "pop_front 14", "remove 15", "push_back 14 9", "insert_after 0 2"],
+  () => drawRings(rings) + drawTable(pairs, [numbered, ["next", (it) => shown(pairs.place(it, 0))], ["prev", (it) => shown(pairs.place(it, 1))]], rings.heads),
+  `<p>A ring has its head among the places of the table. <code>init</code> makes a place a head, which has a double border here. The calls name places, and
+  no ring: <code>remove</code> takes a place out of whichever ring it is in. <code>exchange</code> makes one ring of two, and two of one. <code>push_front</code>,
+  <code>push_back</code>, <code>pop_front</code> and <code>pop_back</code> are each made of one of the other calls, as in <code>ic.h</code>.</p>`),
   tree: panel("tree", "A red-black tree by keys, with three words a place", {
     insert: (place, key) => {
       // A member keeps its key.
@@ -189,6 +285,6 @@ const plays = {
 
 // An address plays calls: play.html#list=push_back 1;push_back 2&tree=insert 0 50
 for (const [name, lines] of new URLSearchParams(location.hash.slice(1))) {
-  if (Object.hasOwn(plays, name)) lines.split(";").forEach(plays[name]);
+  if (Object.hasOwn(plays, name)) plays[name](lines);
 }
 document.body.dataset.ready = "yes";
