@@ -177,6 +177,7 @@ function panel(name, title, calls, hints, draw, note = "") {
   section.id = name;
   section.innerHTML = `<h2>${title}</h2>${note}<form><input spellcheck="false" aria-label="a call"><button>Call</button></form><div class="hints"></div><div class="drawn"></div><div class="log" aria-live="polite"></div>`;
   document.querySelector("#panels").append(section);
+  document.querySelector("#jump").insertAdjacentHTML("beforeend", `<li><a href="#${name}">${title.split(",")[0]}</a></li>`);
   const [form, input, log, drawn] = ["form", "input", ".log", ".drawn"].map((it) => section.querySelector(it));
   const play = (line) => {
     if (!line.trim()) return;
@@ -285,6 +286,8 @@ const plays = {
 
 // An address plays calls: play.html#list=push_back 1;push_back 2&tree=insert 0 50
 for (const [name, lines] of new URLSearchParams(location.hash.slice(1))) {
-  if (Object.hasOwn(plays, name)) plays[name](lines);
+  if (!Object.hasOwn(plays, name)) continue;
+  if (lines) plays[name](lines);
+  else document.getElementById(name).scrollIntoView();
 }
 document.body.dataset.ready = "yes";
