@@ -2,10 +2,13 @@
 const PLACES = 16;
 const REASONS = {
   NULL: "the call needs a place, and none is named",
-  OUT_OF_RANGE: "the place is not one of the table",
-  LINKED: "the place is linked already",
-  NOT_LINKED: "a place that is named is not linked",
   BROKEN: "the links beside the place do not lead to each other",
+};
+// What is wrong with a place, and with which of those that a call names. The one to insert is `place`.
+const FAULTS = {
+  OUT_OF_RANGE: ["is not one of the table", (name, number) => name !== "key" && name !== "count" && number >= PLACES],
+  LINKED: ["is linked already", (name, number, links) => name === "place" && links.isLinked(number)],
+  NOT_LINKED: ["is not linked", (name, number, links) => name !== "place" && number !== null && !links.isLinked(number)],
 };
 
 const bytes = (text) => Uint8Array.from(atob(text), (it) => it.charCodeAt(0));
@@ -148,31 +151,33 @@ class Rings {
   }
 }
 
-// What a call did, in words.
-function outcome(call, numbers) {
+// Why a call is refused, in words.
+function reason(status, names, numbers, links) {
+  if (Object.hasOwn(REASONS, status)) return REASONS[status];
+  const [fault, isFaulty] = FAULTS[status], at = names.findIndex((name, it) => isFaulty(name, numbers[it], links));
+  return `${at < 0 ? "a place" : `place ${numbers[at]}`} ${fault}`;
+}
+
+// Runs one line, and returns what the log has of it. The key of a call is its name with those of its numbers.
+function run(calls, links, line) {
+  const [name, ...words] = line.trim().split(/\s+/);
+  const key = Object.keys(calls).find((it) => it.split(" ")[0] === name);
+  if (!key) return [`is not a call. The calls are: ${Object.keys(calls).join("; ")}.`, "refused"];
+  const names = key.split(" ").slice(1), numbers = words.map((it) => (it === "-" ? null : Number(it)));
+  if (numbers.length !== names.length || numbers.some((it) => it !== null && !(Number.isInteger(it) && it >= 0 && it < NONE))) {
+    return [names.length ? `needs a number for ${names.join(" and for ")}` : "needs no number", "refused"];
+  }
   try {
-    const member = call(...numbers);
+    const member = calls[key](...numbers);
     return [member === undefined ? "done" : member === null ? "there is none" : `returns place ${member}`, "done"];
   } catch (error) {
     if (!(error instanceof Refused)) throw error;
-    return [`is refused (${error.message}): ${REASONS[error.message] ?? "there is none"}. Nothing has changed.`, "refused"];
+    return [`is refused (${error.message}): ${reason(error.message, names, numbers, links)}. Nothing has changed.`, "refused"];
   }
-}
-
-// Runs one line, and returns what the log has of it.
-function run(calls, line) {
-  const [name, ...words] = line.trim().split(/\s+/);
-  const call = Object.hasOwn(calls, name) ? calls[name] : null;
-  const numbers = words.map((it) => (it === "-" ? null : Number(it)));
-  if (!call) return [`is not a call. The calls are ${Object.keys(calls).join(", ")}.`, "refused"];
-  if (numbers.length !== call.length || numbers.some((it) => it !== null && !(Number.isInteger(it) && it >= 0 && it < NONE))) {
-    return [`needs ${call.length} numbers`, "refused"];
-  }
-  return outcome(call, numbers);
 }
 
 // A section of the page. Returns what types lines into its field.
-function panel(name, title, calls, hints, draw, note = "") {
+function panel(name, title, links, calls, hints, draw, note = "") {
   const section = document.createElement("section");
   section.id = name;
   section.innerHTML = `<h2>${title}</h2>${note}<form><input spellcheck="false" aria-label="a call"><button>Call</button></form><div class="hints"></div><div class="drawn"></div><div class="log" aria-live="polite"></div>`;
@@ -181,7 +186,7 @@ function panel(name, title, calls, hints, draw, note = "") {
   const [form, input, log, drawn] = ["form", "input", ".log", ".drawn"].map((it) => section.querySelector(it));
   const play = (line) => {
     if (!line.trim()) return;
-    const [words, kind] = run(calls, line), row = document.createElement("div");
+    const [words, kind] = run(calls, links, line), row = document.createElement("div");
     row.className = kind;
     row.textContent = `${line.trim()}: ${words}`;
     log.append(row);
@@ -214,70 +219,70 @@ const nodes = ic.links3(PLACES), keys = ic.keys(PLACES), tree = new Tree(nodes, 
 const numbered = ["place", (it) => it];
 
 const plays = {
-  list: panel("list", "A doubly linked list, with two words a place", {
-    push_front: (place) => list.pushFront(place),
-    push_back: (place) => list.pushBack(place),
+  list: panel("list", "A doubly linked list, with two words a place", links, {
+    "push_front place": (place) => list.pushFront(place),
+    "push_back place": (place) => list.pushBack(place),
     pop_front: () => list.popFront(),
     pop_back: () => list.popBack(),
-    insert_after: (at, place) => list.insertAfter(at, place),
-    insert_before: (at, place) => list.insertBefore(at, place),
-    remove: (at) => list.remove(at),
-    replace: (at, place) => list.replace(at, place),
-    move_to_front: (at) => list.moveToFront(at),
-    move_to_back: (at) => list.moveToBack(at),
-    fill: (first, count) => list.fill(first, count),
+    "insert_after at place": (at, place) => list.insertAfter(at, place),
+    "insert_before at place": (at, place) => list.insertBefore(at, place),
+    "remove at": (at) => list.remove(at),
+    "replace at place": (at, place) => list.replace(at, place),
+    "move_to_front at": (at) => list.moveToFront(at),
+    "move_to_back at": (at) => list.moveToBack(at),
+    "fill first count": (first, count) => list.fill(first, count),
     clear: () => list.clear(),
   }, ["push_back 7", "push_front 3", "insert_after 3 5", "insert_before - 9", "move_to_front 9", "remove 5", "pop_front", "push_back 7", "push_back 99", "clear"],
   () => drawList(list, true) + drawTable(links, [numbered, ["next", (it) => shown(links.place(it, 0))], ["prev", (it) => shown(links.place(it, 1))]])),
-  xor: panel("xor", "An XOR list, with one word a place", {
-    push_front: (place) => xor.pushFront(place),
-    push_back: (place) => xor.pushBack(place),
+  xor: panel("xor", "An XOR list, with one word a place", ones, {
+    "push_front place": (place) => xor.pushFront(place),
+    "push_back place": (place) => xor.pushBack(place),
     pop_front: () => xor.popFront(),
     pop_back: () => xor.popBack(),
-    insert_between: (before, place, behind) => xor.insertBetween(before, place, behind),
-    remove: (before, at) => xor.remove(before, at),
-    replace: (before, at, place) => xor.replace(before, at, place),
+    "insert_between before place behind": (before, place, behind) => xor.insertBetween(before, place, behind),
+    "remove before at": (before, at) => xor.remove(before, at),
+    "replace before at place": (before, at, place) => xor.replace(before, at, place),
     reverse: () => xor.reverse(),
     clear: () => xor.clear(),
   }, ["push_back 1; push_back 4; push_back 6", "insert_between 1 2 4", "reverse", "remove 6 4", "insert_between 6 9 1", "pop_back", "clear"],
   () => drawList(xor, true) + drawTable(ones, [numbered, ["word", (it) => ones.word(it) >> 3n]])),
-  stack: panel("stack", "A singly linked list, with one word a place", {
-    push_front: (place) => stack.pushFront(place),
+  stack: panel("stack", "A singly linked list, with one word a place", nexts, {
+    "push_front place": (place) => stack.pushFront(place),
     pop_front: () => stack.popFront(),
-    insert_after: (at, place) => stack.insertAfter(at, place),
-    remove_after: (at) => stack.removeAfter(at),
-    replace_after: (at, place) => stack.replaceAfter(at, place),
-    fill: (first, count) => stack.fill(first, count),
+    "insert_after at place": (at, place) => stack.insertAfter(at, place),
+    "remove_after at": (at) => stack.removeAfter(at),
+    "replace_after at place": (at, place) => stack.replaceAfter(at, place),
+    "fill first count": (first, count) => stack.fill(first, count),
     clear: () => stack.clear(),
   }, ["fill 0 16", "pop_front", "push_front 0", "remove_after 3", "remove_after 15", "clear"],
   () => drawList(stack, false) + drawTable(nexts, [numbered, ["next", (it) => shown(nexts.place(it, 0))]])),
-  ring: panel("ring", "Rings, with two words a place", {
-    init: (head) => rings.init(head),
-    insert_after: (at, place) => rings.edit("insert_after", at, place),
-    insert_before: (at, place) => rings.edit("insert_before", at, place),
-    push_front: (head, place) => rings.edit("insert_after", head, place),
-    push_back: (head, place) => rings.edit("insert_before", head, place),
-    pop_front: (head) => rings.pop(head, 0),
-    pop_back: (head) => rings.pop(head, 1),
-    remove: (place) => rings.remove(place),
-    exchange: (one, other) => rings.edit("exchange", one, other),
+  ring: panel("ring", "Rings, with two words a place", pairs, {
+    "init place": (place) => rings.init(place),
+    "insert_after at place": (at, place) => rings.edit("insert_after", at, place),
+    "insert_before at place": (at, place) => rings.edit("insert_before", at, place),
+    "push_front head place": (head, place) => rings.edit("insert_after", head, place),
+    "push_back head place": (head, place) => rings.edit("insert_before", head, place),
+    "pop_front head": (head) => rings.pop(head, 0),
+    "pop_back head": (head) => rings.pop(head, 1),
+    "remove at": (at) => rings.remove(at),
+    "exchange one other": (one, other) => rings.edit("exchange", one, other),
   }, ["init 14; init 15", "push_back 14 3; push_back 14 5; push_back 14 7", "push_back 15 9", "insert_after 5 1", "remove 5; insert_after 9 5", "exchange 7 15", "pop_front 14", "remove 15", "push_back 14 9", "insert_after 0 2"],
   () => drawRings(rings) + drawTable(pairs, [numbered, ["next", (it) => shown(pairs.place(it, 0))], ["prev", (it) => shown(pairs.place(it, 1))]], rings.heads),
   `<p>A ring has its head among the places of the table. <code>init</code> makes a place a head, which has a double border here. The calls name places, and
   no ring: <code>remove</code> takes a place out of whichever ring it is in. <code>exchange</code> makes one ring of two, and two of one. <code>push_front</code>,
   <code>push_back</code>, <code>pop_front</code> and <code>pop_back</code> are each made of one of the other calls, as in <code>ic.h</code>.</p>`),
-  tree: panel("tree", "A red-black tree by keys, with three words a place", {
-    insert: (place, key) => {
+  tree: panel("tree", "A red-black tree by keys, with three words a place", nodes, {
+    "insert place key": (place, key) => {
       // A member keeps its key.
       if (key !== null && place !== null && place < PLACES && !nodes.isLinked(place)) keys.words[place] = BigInt(key);
       tree.insert(place);
     },
-    remove: (at) => tree.remove(at),
-    find: (key) => tree.find(key),
-    lower_bound: (key) => tree.lowerBound(key),
-    upper_bound: (key) => tree.upperBound(key),
-    next: (at) => tree.next(at),
-    prev: (at) => tree.prev(at),
+    "remove at": (at) => tree.remove(at),
+    "find key": (key) => tree.find(key),
+    "lower_bound key": (key) => tree.lowerBound(key),
+    "upper_bound key": (key) => tree.upperBound(key),
+    "next at": (at) => tree.next(at),
+    "prev at": (at) => tree.prev(at),
     clear: () => tree.clear(),
   }, ["insert 0 50", "insert 1 20", "insert 2 80", "insert 3 10; insert 4 30; insert 5 60; insert 6 90", "remove 1", "find 60", "lower_bound 55", "next -", "find 1", "clear"],
   () => drawTree(tree) + drawTable(nodes, [numbered, ["key", (it) => keys.word(it)], ["left", (it) => shown(nodes.place(it, 0))], ["right", (it) => shown(nodes.place(it, 1))],
