@@ -3,21 +3,21 @@
  *     printf 'list push_back 3\ntree insert 0 50\n' | ./calls
  *
  * Prints a line for each call with its status. Then it prints, for each collection, the members and the rows of its table, as the page draws
- * them. Each circle of the table of rings has a line.
+ * them. Each circle of the table of rings has a line, and so has each bucket of the hash table.
  */
 #include "ic.h"
 #include <stdio.h>
 #include <string.h>
 
-enum { PLACES = 16 };
+enum { PLACES = 16, BUCKETS = 4 };
 
 static struct ic_link2 links[PLACES], pairs[PLACES];
-static struct ic_link1 ones[PLACES], nexts[PLACES];
+static struct ic_link1 ones[PLACES], nexts[PLACES], chains[PLACES];
 static struct ic_link3 nodes[PLACES];
-static uint64_t keys[PLACES];
+static uint64_t keys[PLACES], hash_keys[PLACES];
 static struct ic_list list;
 static struct ic_xor_list xor_list;
-static struct ic_stack stack;
+static struct ic_stack stack, buckets[BUCKETS];
 static struct ic_tree tree;
 static int is_head[PLACES];
 
@@ -82,6 +82,19 @@ static uint32_t on_ring(struct call *it)
     return IC_BROKEN;
 }
 
+/* The hash of a key is the key. */
+static uint32_t on_hash(struct call *it)
+{
+    if (is(it, "insert")) {
+        if (it->a < PLACES && !ic_stack_is_linked(chains, PLACES, it->a)) hash_keys[it->a] = it->b; /* a member keeps its key */
+        return ic_hash_insert(chains, PLACES, buckets, BUCKETS, it->b, it->a);
+    }
+    if (is(it, "remove")) return ic_hash_remove(chains, PLACES, buckets, BUCKETS, it->a < PLACES ? hash_keys[it->a] : 0, it->a);
+    if (is(it, "find")) return ic_hash_find(chains, PLACES, hash_keys, PLACES, buckets, BUCKETS, it->a, it->a, &it->member);
+    if (is(it, "next_equal")) return ic_hash_next_equal(chains, PLACES, hash_keys, PLACES, it->a, &it->member);
+    return IC_BROKEN;
+}
+
 static uint32_t on_tree(struct call *it)
 {
     if (is(it, "insert")) {
@@ -131,19 +144,39 @@ static void xor_row(void)
     printf("\n");
 }
 
+static void keys_row(const char *of, const uint64_t *words)
+{
+    unsigned place;
+    printf("%s key", of);
+    for (place = 0; place < PLACES; place++)
+        printf(" %u", (unsigned)words[place]);
+    printf("\n");
+}
+
 static void rows_of_tree(void)
 {
     unsigned place;
     row("tree", "left", nodes, 3);
     row("tree", "right", (const uint64_t *)nodes + 1, 3);
     row("tree", "parent", (const uint64_t *)nodes + 2, 3);
-    printf("tree key");
-    for (place = 0; place < PLACES; place++)
-        printf(" %u", (unsigned)keys[place]);
-    printf("\ntree color");
+    keys_row("tree", keys);
+    printf("tree color");
     for (place = 0; place < PLACES; place++)
         printf(" %s", !ic_tree_is_linked(nodes, PLACES, place) ? "-" : ((const uint64_t *)nodes)[3 * place + 2] & 1 ? "B" : "R");
     printf("\n");
+}
+
+/* Each bucket with the keys of its chain. */
+static void rows_of_hash(void)
+{
+    unsigned bucket;
+    for (bucket = 0; bucket < BUCKETS; bucket++) {
+        printf("hash members %u", bucket);
+        IC_HASH_FOREACH(place, chains, PLACES, buckets, BUCKETS, bucket) printf(" %u", (unsigned)hash_keys[place]);
+        printf("\n");
+    }
+    keys_row("hash", hash_keys);
+    row("hash", "next", chains, 1);
 }
 
 /* Each circle, from its first head on: those that have a head, and then the others. */
@@ -182,15 +215,24 @@ static void collections(void)
     circles();
     row("ring", "next", pairs, 2);
     row("ring", "prev", (const uint64_t *)pairs + 1, 2);
+    rows_of_hash();
     printf("tree members");
     IC_TREE_FOREACH(place, nodes, PLACES, &tree) printf(" %u", (unsigned)keys[place]);
     printf("\n");
     rows_of_tree();
 }
 
-static uint32_t (*kind_of(const char *of))(struct call *)
+static const struct {
+    const char *of;
+    uint32_t (*call)(struct call *);
+} KINDS[] = {{"list", on_list}, {"xor", on_xor}, {"stack", on_stack}, {"ring", on_ring}, {"hash", on_hash}, {"tree", on_tree}};
+
+static uint32_t made(const char *of, struct call *call)
 {
-    return !strcmp(of, "list") ? on_list : !strcmp(of, "xor") ? on_xor : !strcmp(of, "stack") ? on_stack : !strcmp(of, "ring") ? on_ring : on_tree;
+    unsigned kind;
+    for (kind = 0; kind < sizeof KINDS / sizeof *KINDS; kind++)
+        if (!strcmp(of, KINDS[kind].of)) return KINDS[kind].call(call);
+    return IC_BROKEN;
 }
 
 int main(void)
@@ -202,8 +244,8 @@ int main(void)
         memset(words, 0, sizeof words);
         if (sscanf(line, "%15s %31s %15s %15s %15s", of, name, words[0], words[1], words[2]) < 2) continue;
         call.name = name, call.a = number_of(words[0]), call.b = number_of(words[1]), call.c = number_of(words[2]), call.member = IC_NONE;
-        status = kind_of(of)(&call);
-        if (status == IC_OK && kind_of(of) == on_ring) note_heads(&call);
+        status = made(of, &call);
+        if (status == IC_OK && !strcmp(of, "ring")) note_heads(&call);
         printf("%s %s", of, ic_status_name(status));
         status == IC_OK && call.member != IC_NONE ? printf(" %u\n", (unsigned)call.member) : printf("\n");
     }

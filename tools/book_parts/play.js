@@ -1,5 +1,5 @@
-// The play page: calls on lists, rings and a tree, over the module that stands above as `MODULES`, by the classes of ic.mjs.
-const PLACES = 16;
+// The play page: calls on lists, rings, a hash table and a tree, over the module that stands above as `MODULES`, by the classes of ic.mjs.
+const PLACES = 16, BUCKETS = 4;
 const REASONS = {
   NULL: "the call needs a place, and none is named",
   BROKEN: "the links beside the place do not lead to each other",
@@ -38,22 +38,41 @@ function drawTable(links, rows, heads = new Set()) {
   return svg(68 + width * links.length, 4 + 22 * rows.length, parts, "table");
 }
 
-// The members in order, ten in a row. A list of two directions has an arrow each way.
-function drawList(list, isTwoWay) {
-  const members = [...list], step = 58, parts = [];
-  members.forEach((place, at) => {
-    const x = 12 + step * (at % 10), y = 14 + 52 * Math.floor(at / 10);
-    parts.push(`<rect x="${x}" y="${y}" width="34" height="28" rx="4" class="box on"/>`, text(x + 17, y + 19, place));
-    if (at + 1 === members.length) return;
-    if (at % 10 === 9) {
-      parts.push(arrow(`M${x + 17} ${y + 28}v9H29v14`));
+// Members in order from a point on, some in a row. A list of two directions has an arrow each way.
+function drawChain(names, left, top, inRow, isTwoWay) {
+  const step = 58, parts = [];
+  names.forEach((name, at) => {
+    const x = left + step * (at % inRow), y = top + 52 * Math.floor(at / inRow);
+    parts.push(`<rect x="${x}" y="${y}" width="34" height="28" rx="4" class="box on"/>`, text(x + 17, y + 19, name));
+    if (at + 1 === names.length) return;
+    if (at % inRow === inRow - 1) {
+      parts.push(arrow(`M${x + 17} ${y + 28}v9H${left + 17}v14`));
       return;
     }
     parts.push(arrow(`M${x + 35} ${y + (isTwoWay ? 10 : 14)}h21`));
     if (isTwoWay) parts.push(arrow(`M${x + 57} ${y + 19}h-21`));
   });
-  if (!members.length) parts.push(text(60, 34, "no members"));
+  return parts;
+}
+
+function drawList(list, isTwoWay) {
+  const parts = drawChain([...list], 12, 14, 10, isTwoWay);
+  if (!parts.length) parts.push(text(60, 34, "no members"));
   return svg(612, 118, parts, "members");
+}
+
+// The buckets in a column, each by its number, with the keys of its chain.
+function drawHashTable(table) {
+  const parts = [];
+  let y = 2;
+  for (let bucket = 0; bucket < table.buckets.length; bucket++) {
+    const keys = [...table.chain(bucket)].map((place) => table.keys.word(place));
+    const chain = [`<rect x="2" y="${y}" width="34" height="28" class="cell"/>`, text(19, y + 19, bucket, "faint"), ...drawChain(keys, 60, y, 9, false)];
+    if (keys.length) chain.push(arrow(`M37 ${y + 14}h21`));
+    parts.push(`<g class="chain">${chain.join("")}</g>`);
+    y += 34 + 52 * Math.floor(Math.max(0, keys.length - 1) / 9);
+  }
+  return svg(612, y + 8, parts, "members");
 }
 
 // The circles of a table side by side, ten places in a row where they are small. A head has a double border.
@@ -151,6 +170,35 @@ class Rings {
   }
 }
 
+// A hash table by keys. The hash of a key is the key itself.
+class HashTable {
+  constructor(links, keys, buckets) {
+    const { library } = links;
+    Object.assign(this, { links, keys, buckets, library, out: library.at(library.out) });
+  }
+  edit(name, key, place) {
+    this.library.done(this.library.calls[`ic_hash_${name}`](...this.links.parts, ...this.buckets.parts, BigInt(key), place ?? NONE));
+  }
+  insert(place, key) { this.edit("insert", key ?? 0, place); }
+  remove(at) { this.edit("remove", at < this.links.length ? this.keys.word(at ?? 0) : 0, at); }
+  find(key) {
+    const number = BigInt(key ?? 0);
+    return this.library.member(this.library.calls.ic_hash_find(...this.links.parts, ...this.keys.parts, ...this.buckets.parts, number, number, this.out));
+  }
+  nextEqual(at) {
+    return this.library.member(this.library.calls.ic_hash_next_equal(...this.links.parts, ...this.keys.parts, at ?? NONE, this.out));
+  }
+  *chain(bucket) {
+    let at = this.buckets.place(bucket);
+    for (let left = this.links.length; at !== null && left > 0; left--, at = this.links.place(at)) yield at;
+  }
+}
+
+// Gives a place its key before it is linked. A member keeps its key.
+function setKey(links, keys, place, key) {
+  if (key !== null && place !== null && place < PLACES && !links.isLinked(place)) keys.words[place] = BigInt(key);
+}
+
 // Why a call is refused, in words.
 function reason(status, names, numbers, links) {
   if (Object.hasOwn(REASONS, status)) return REASONS[status];
@@ -215,6 +263,7 @@ const links = ic.links2(PLACES), list = new List(links);
 const ones = ic.links1(PLACES), xor = new XorList(ones);
 const nexts = ic.links1(PLACES), stack = new Stack(nexts);
 const pairs = ic.links2(PLACES), rings = new Rings(pairs);
+const chains = ic.links1(PLACES), hash = new HashTable(chains, ic.keys(PLACES), ic.links1(BUCKETS));
 const nodes = ic.links3(PLACES), keys = ic.keys(PLACES), tree = new Tree(nodes, keys);
 const numbered = ["place", (it) => it];
 
@@ -271,10 +320,21 @@ const plays = {
   `<p>A ring has its head among the places of the table. <code>init</code> makes a place a head, which has a double border here. The calls name places, and
   no ring: <code>remove</code> takes a place out of whichever ring it is in. <code>exchange</code> makes one ring of two, and two of one. <code>push_front</code>,
   <code>push_back</code>, <code>pop_front</code> and <code>pop_back</code> are each made of one of the other calls, as in <code>ic.h</code>.</p>`),
+  hash: panel("hash", "A hash table by keys, with one word a place and one a bucket", chains, {
+    "insert place key": (place, key) => {
+      setKey(chains, hash.keys, place, key);
+      hash.insert(place, key);
+    },
+    "remove at": (at) => hash.remove(at),
+    "find key": (key) => hash.find(key),
+    "next_equal at": (at) => hash.nextEqual(at),
+  }, ["insert 0 12; insert 1 7; insert 2 23", "insert 3 4", "insert 4 7", "find 7", "next_equal 4", "next_equal 1", "insert 5 15; insert 6 8", "remove 2", "find 23", "insert 0 5", "remove 9"],
+  () => drawHashTable(hash) + drawTable(chains, [numbered, ["key", (it) => hash.keys.word(it)], ["next", (it) => shown(chains.place(it, 0))]]),
+  `<p>Each bucket, on the left, leads to its chain of members, which are drawn by their keys. A program hands each call the hash of the key. Here
+  the hash of a key is the key, and its bucket is the remainder of the key divided by ${BUCKETS}.</p>`),
   tree: panel("tree", "A red-black tree by keys, with three words a place", nodes, {
     "insert place key": (place, key) => {
-      // A member keeps its key.
-      if (key !== null && place !== null && place < PLACES && !nodes.isLinked(place)) keys.words[place] = BigInt(key);
+      setKey(nodes, keys, place, key);
       tree.insert(place);
     },
     "remove at": (at) => tree.remove(at),
