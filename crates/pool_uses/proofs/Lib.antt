@@ -1,3 +1,4 @@
+pub mod NamingHandles
 pub mod KeepingSlots
 pub mod KeepingTimers
 pub mod TakingAll

@@ -1,7 +1,6 @@
 -- What slots keep of their pool and of the list of vacant ones.
-use Rattle.std.specs.Prelude.{◌≡◌, ◌<◌, ◌^◌, leb, ℕ, Bool, Option, Some, None, IsSome, List, ⊤}
+use Rattle.std.specs.Prelude.{◌≡◌, ◌<◌, ◌^◌, cond, leb, ℕ, Bool, Option, Some, None, IsSome, List, ⊤}
 use Rattle.std.specs.FinMap as map
-use Rattle.std.specs.List.{AllByRecursion}
 use Rattle.std.specs.Ordering.{nat_cmp}
 use Rattle.ic_unsafe_ref.specs.declared.place.Place.{Place}
 use Rattle.ic_unsafe_ref.specs.Objects.{Objects, object_at}
@@ -11,14 +10,15 @@ use Rattle.ic_link_ops.specs.declared.table.PlainTable.{PlainTable}
 use Rattle.ic_link_ops.specs.OneWord.{no_word, has_word, next_word_of}
 use Rattle.ic_link_ops.specs.PlainTables.{linked_by, table}
 use Rattle.ic_link_ops.specs.Readings.{successor_of}
-use Rattle.ic_link_ops.specs.Sequences.{IsMember}
-use Rattle.ic_link_ops.specs.SinglyLinkedList.{Front, Successor, Shows}
-use Rattle.ic_link_ops.specs.Tables.{Table, IsLinked}
+use Rattle.ic_link_ops.specs.SinglyLinkedList.{Front, Successor, Shows, list_from, members}
+use Rattle.ic_link_ops.specs.Tables.{Table}
 use Rattle.ic_pool.specs.Pooled.{IsPooled}
+use Rattle.ic_container.specs.Holds.{Holds}
+use Rattle.ic_container.specs.Rows.{alone, home_of}
 use Rattle.pool_uses.specs.declared.slots.Slot.{Slot}
-use Rattle.pool_uses.specs.Slots.{Naming, IsUsable}
+use Rattle.pool_uses.specs.Slots.{Naming}
 
--- the table of singly links, as clauses see it
+-- the table of singly links, as clauses see it, and the members of a list
 module _ {K : Type 0} where
   abbrev pub is_linked : Link (OneWord K) ⊤ → Bool
   is_linked = linked_by has_word
@@ -28,6 +28,9 @@ module _ {K : Type 0} where
 
   abbrev pub plain_table : {A : Type 0} → PlainTable (OneWord K) A ⊤ → Table (Link (OneWord K) ⊤)
   plain_table links = table no_word links
+
+  abbrev pub members_of : {A : Type 0} → PlainTable (OneWord K) A ⊤ → Front → List Place
+  members_of links list = members successor (plain_table links) list
 
 module _ {T : Type 0} where
   -- the value in a slot, if there is one
@@ -40,24 +43,28 @@ module _ {T : Type 0} where
   IsTaken None = ⊥
   IsTaken (Some slot) = IsSome slot.value × (slot.generation < 18446744073709551615)
 
+  -- a slot is at home in the list of vacant ones if it has no value, and its generation is not the last
+  abbrev pub home_with : Option T → ℕ → Option ℕ
+  home_with None g = cond (leb 18446744073709551615 g) None (Some 0)
+  home_with (Some value) g = None
+
+  abbrev pub vacant_home : Slot T → Option ℕ
+  vacant_home slot = home_with slot.value slot.generation
+
 -- what they are for a clause
 abbrev pub naming_of : {T : Type 0} → Objects (Slot T) → ℕ → Naming T
 naming_of objects len = record { slots = objects.values; count = len; is_full = leb (2 ^ 32) objects.next }
 
--- what slots keep within a call: the list has vacant slots that are not used up, a slot with a value is linked nowhere and not used up,
--- and `len` is how many have one (`values`: by the index of their places)
-pub record Keeps {T K A : Type 0} (objects : Objects (Slot T)) (links : PlainTable (OneWord K) A ⊤) (vacant : Front) (members : List Place) (len : ℕ) : Type 0 where
-  pub shown : Shows successor (plain_table links) vacant members
-  pub usable : AllByRecursion (λ p. IsUsable (object_at objects p)) members
-  pub pooled : IsPooled is_linked objects (plain_table links)
-  pub empty : (p : Place) → IsLinked is_linked (plain_table links) p → value_in (object_at objects p) ≡ None
+-- a slot with a value is not used up, and `len` is how many have one (`values`: by the index of their places)
+pub record IsCounted {T : Type 0} (objects : Objects (Slot T)) (len : ℕ) : Type 0 where
   pub below : (p : Place) → IsSome (value_in (object_at objects p)) → IsTaken (object_at objects p)
   pub values : map.FinMap nat_cmp T
   pub are : (index : ℕ) → map.get values index ≡ value_in (map.get objects.values index)
   pub count : len ≡ map.len values
 
--- WHAT SLOTS KEEP: that, and each slot that is vacant and not used up is in the list
+-- WHAT SLOTS KEEP: exactly the slots that are vacant and not used up are in the list, each has room for its link, and those with a
+-- value are counted
 pub record IsKept {T K A : Type 0} (objects : Objects (Slot T)) (links : PlainTable (OneWord K) A ⊤) (vacant : Front) (len : ℕ) : Type 0 where
-  pub members : List Place
-  pub keeps : Keeps objects links vacant members len
-  pub listed : (p : Place) → IsUsable (object_at objects p) → IsMember p members
+  pub holds : Holds (Shows successor) is_linked plain_table members_of links (alone (list_from None) vacant) (home_of vacant_home objects)
+  pub pooled : IsPooled is_linked objects (plain_table links)
+  pub counted : IsCounted objects len

@@ -12,11 +12,12 @@ ghost use Rattle.std.specs.Prelude.{◌≡◌, ◌<◌, ◌≤◌, ◌++◌, fal
 ghost use Rattle.std.specs.List.{AllByRecursion};
 ghost use Rattle.ic_pool.specs.Refusals.{lacks_place, value_of};
 
+use ic_container::trees;
 use ic_link_ops::rbtree::LinkOps;
 use ic_pool::{PlaceError, Pool};
 use ic_rbtree::RBTree;
 use ic_unsafe_ref::UnsafeRef;
-use scheduler::timer_queue::{ByDeadline, HasDeadline, schedule, take_due};
+use scheduler::timer_queue::{ByDeadline, HasDeadline, take_due};
 use std::alloc::{AllocFailed, Allocator, Global};
 use std::marker::Model;
 
@@ -47,9 +48,10 @@ pub struct Timers<V, A: Allocator = Global> {
 }
 
 impl<V, A: Allocator> Model for Timers<V, A> {
-    ghost use Rattle.pool_uses.specs.Timers.{Timetable, timetable_code};
-    ghost use Rattle.pool_uses.specs.KeptTimers.{timetable_of, IsKept};
     ghost use Rattle.ic_rbtree.specs.Tree.{root_of};
+    ghost use Rattle.ic_container.specs.Trees.{HasAll};
+    ghost use Rattle.pool_uses.specs.Timers.{Timetable, timetable_code};
+    ghost use Rattle.pool_uses.specs.KeptTimers.{deadline_of, timetable_of};
 
     ghost Value = { Timetable V };
 
@@ -57,7 +59,7 @@ impl<V, A: Allocator> Model for Timers<V, A> {
 
     ghost view = { λ t. timetable_of t.pool.objects t.pool.links (root_of t.queue) };
 
-    ghost invariant = { λ t. IsKept t.pool.objects t.pool.links (root_of t.queue) };
+    ghost invariant = { λ t. HasAll deadline_of t.pool.links (root_of t.queue) t.pool.objects };
 }
 
 impl<V, A: Allocator> Timers<V, A> {
@@ -92,13 +94,8 @@ impl<V, A: Allocator> Timers<V, A> {
             Err(PlaceError::NoPlaceLeft(timer)) => return Err(PlaceError::NoPlaceLeft(timer.value)),
             Err(PlaceError::OutOfMemory(timer)) => return Err(PlaceError::OutOfMemory(timer.value)),
         };
-        let object = UnsafeRef::new(timer.place());
-        let _ = schedule(
-            &mut self.queue,
-            &mut self.pool.links,
-            &self.pool.objects,
-            object,
-        ); // proved: it is not linked
+        let (objects, links) = (&self.pool.objects, &mut self.pool.links);
+        trees::insert(&mut self.queue, links, objects, timer.place());
         Ok(timer)
     }
 
@@ -113,7 +110,8 @@ impl<V, A: Allocator> Timers<V, A> {
         if !self.pool.is_placed(timer) {
             return None;
         }
-        self.queue.remove(&mut self.pool.links, timer);
+        let (objects, links) = (&self.pool.objects, &mut self.pool.links);
+        trees::remove(&mut self.queue, links, objects, timer.place());
         let timer = self.pool.remove(UnsafeRef::new(timer.place()));
         Some((timer.deadline, timer.value))
     }

@@ -1,10 +1,10 @@
 use Rattle.std.proofs.Common.{refl, sym, subst, arith}
 use Rattle.ic_unsafe_ref.proofs.Placing.{placed_there}
-use Rattle.ic_link_ops.proofs.Calling.{accepted}
-use Rattle.ic_pool.proofs.Pooling.{lacks_exactly, new_is_free}
-use Rattle.pool_uses.specs.KeptSlots.{plain_table}
+use Rattle.ic_container.proofs.EditLemmas.{joined_front}
+use Rattle.ic_pool.proofs.Pooling.{lacks_exactly}
 use Rattle.pool_uses.specs.Slots.{IsUsable}
-use Rattle.pool_uses.proofs.KeepingSlots.{keeps_grown, kept_grown, kept_placed, same_placed, vacant_first}
+use Rattle.pool_uses.proofs.KeepingSlots.{kept_grown, kept_placed, new_free, none_vacant, shown, vacant_first}
+use Rattle.pool_uses.proofs.NamingHandles.{same_placed}
 use Rattle.pool_uses.proofs.slots.Slots.make_vacant.Goals as goal
 
 -- there was no place, or no memory
@@ -14,15 +14,17 @@ invariant_of-self g c = let e = c.in-Err.ensures in rw e.refused.1 (kept_grown c
 -- a new slot is pushed
 pub invariant_of-self-2 : goal.invariant_of-self-2
 invariant_of-self-2 g c =
+    let k = c.self.invariant in
     let e = c.in-Ok.ensures in
     let push = c.push_front.ensures in
-    let free = new_is_free c.self.invariant.keeps.pooled {b = plain_table c.place.new.self.links} e.keeps e.placed in
-    let k = keeps_grown c.self.invariant.keeps {grown = c.place.new.self.links} e.keeps in
-    kept_placed c.self.invariant c.place.new.self.links e.keeps e.placed e.covered (accepted _ _ free push.refused push.acquired) (push.frame c.self.invariant.members k.shown)
-    (λ s shown. accepted _ _ free push.refused (push.inserted s shown))
+    let grown = c.place.new.self.links in
+    kept_placed k grown e.keeps e.placed e.covered (joined_front _ (shown (kept_grown k {grown = grown} e.keeps)) _ c.push_front.result (new_free k grown e.keeps e.placed) push.refused push.inserted push.acquired push.frame)
 
 pub returns-in-Err-clause-refused : goal.returns-in-Err-clause-refused
 returns-in-Err-clause-refused g c = let e = c.in-Err.ensures in rw (← c.self.view_is) (lacks_exactly _ _ e.full e.refused.0)
+
+pub returns-in-Err-clause-ready : goal.returns-in-Err-clause-ready
+returns-in-Err-clause-ready g c can = absurd (none_vacant c.self.invariant c.is_empty.result c.is_empty.ensures c.if-not-is_empty.false (rw (← c.self.view_is) at can))
 
 pub returns-clause-unchanged : goal.returns-clause-unchanged
 returns-clause-unchanged g c = rw (← c.self.view_is) (same_placed _ c.in-Ok.ensures.placed)

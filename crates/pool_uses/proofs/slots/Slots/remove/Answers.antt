@@ -1,11 +1,10 @@
 use Rattle.std.proofs.Common.{◌≡◌, ◌+◌, true, false, eq-eqb, sym, ◌∙◌}
-use Rattle.ic_link_ops.proofs.Calling.{accepted}
-use Rattle.pool_uses.proofs.KeepingSlots.{emptied_some, emptied_free, emptied_value, emptied_usable, emptied_handle, kept_used_up, kept_vacated}
+use Rattle.ic_container.proofs.EditLemmas.{joined_front}
+use Rattle.pool_uses.proofs.KeepingSlots.{emptied_free, emptied_handle, emptied_some, emptied_usable, emptied_value, kept_used_up, kept_vacated, members, shown}
 use Rattle.pool_uses.proofs.slots.Slots.remove.Goals as goal
 
 pub overflow_sub-self : goal.overflow_sub-self
-overflow_sub-self g c =
-    emptied_some c.self.invariant c.args.handle (rw (← c.self.view_is) at c.in_ok-get.ensures) (rw c.new-slot.ensures at c.empty-value.ensures.emptied)
+overflow_sub-self g c = emptied_some c.self.invariant c.args.handle (rw (← c.self.view_is) at c.in_ok-get.ensures) (rw c.new-slot.ensures at c.empty-value.ensures.emptied)
 
 -- the slot is used up
 pub invariant_of-self : goal.invariant_of-self
@@ -25,15 +24,16 @@ returns-then-handle-eq18446744073709551615-clause-removed g c =
     (λ no. let never : true ≡ false = sym last ∙ no in absurd (cc)))
 
 -- it is vacant, and goes to the front of the list
+pub push_front-requires-clause-shown : goal.push_front-requires-clause-shown
+push_front-requires-clause-shown g c = rw c.empty-value.ensures.links (members c.self.invariant, shown c.self.invariant)
+
 pub invariant_of-self-2 : goal.invariant_of-self-2
 invariant_of-self-2 g c =
     let k = c.self.invariant in
     let is = rw (← c.self.view_is) at c.in_ok-get.ensures in
     let empties = rw c.new-slot.ensures at c.empty-value.ensures.emptied in
     let push = rw (c.new-slot.ensures, c.empty-value.ensures.links) at c.push_front.ensures in
-    let free = emptied_free k c.args.handle is empties in
-    kept_vacated k c.args.handle is empties c.if-handle-eq18446744073709551615.false (accepted _ _ free push.refused push.acquired) (push.frame k.members k.keeps.shown)
-    (λ s shown. accepted _ _ free push.refused (push.inserted s shown))
+    kept_vacated k c.args.handle is empties c.if-handle-eq18446744073709551615.false (joined_front _ (shown k) _ c.push_front.result (emptied_free k c.args.handle is empties) push.refused push.inserted push.acquired push.frame)
 
 pub returns-clause-value : goal.returns-clause-value
 returns-clause-value g c =

@@ -1,39 +1,30 @@
-use Rattle.std.proofs.Common.{is_some, ap}
-use Rattle.ic_unsafe_ref.proofs.Placing.{placed_there}
+use Rattle.std.proofs.Common.{ap}
 use Rattle.ic_pool.proofs.Pooling.{lacks_exactly}
-use Rattle.pool_uses.proofs.KeepingTimers.{added, ready, same_grown, waiting_is}
+use Rattle.ic_rbtree.specs.Tree.{root_of}
+use Rattle.ic_container.proofs.TreeLemmas.{all_lacks}
+use Rattle.pool_uses.specs.KeptTimers.{deadline_of}
+use Rattle.pool_uses.proofs.KeepingTimers.{adds, rises, same_grown}
 use Rattle.pool_uses.proofs.timers.Timers.add.Goals as goal
 
 -- there is no place left, or no memory
 pub returns-in-Err-NoPlaceLeft-clause-refused : goal.returns-in-Err-NoPlaceLeft-clause-refused
 returns-in-Err-NoPlaceLeft-clause-refused g c =
-    let e = c.in-Err-NoPlaceLeft.ensures in
-    let back = rw c.in-Err-NoPlaceLeft.field-0-is at e.refused in
-    let full = rw c.in-Err-NoPlaceLeft.field-0-is at e.full in
-    rw (← c.self.view_is, back.1) (ap (λ timer. timer.value) back.0, same_grown c.self.invariant c.place.new.self.links e.keeps, lacks_exactly _ _ full back.0)
+    let e = rw c.in-Err-NoPlaceLeft.field-0-is at c.in-Err-NoPlaceLeft.ensures in
+    rw (← c.self.view_is, e.refused.1) (ap (λ timer. timer.value) e.refused.0, same_grown c.self.invariant c.place.new.self.links e.keeps, lacks_exactly _ _ e.full e.refused.0)
 
 pub returns-in-Err-OutOfMemory-clause-refused : goal.returns-in-Err-OutOfMemory-clause-refused
 returns-in-Err-OutOfMemory-clause-refused g c =
-    let e = c.in-Err-OutOfMemory.ensures in
-    let back = rw c.in-Err-OutOfMemory.field-0-is at e.refused in
-    let full = rw c.in-Err-OutOfMemory.field-0-is at e.full in
-    rw (← c.self.view_is, back.1) (ap (λ timer. timer.value) back.0, same_grown c.self.invariant c.place.new.self.links e.keeps, lacks_exactly _ _ full back.0)
+    let e = rw c.in-Err-OutOfMemory.field-0-is at c.in-Err-OutOfMemory.ensures in
+    rw (← c.self.view_is, e.refused.1) (ap (λ timer. timer.value) e.refused.0, same_grown c.self.invariant c.place.new.self.links e.keeps, lacks_exactly _ _ e.full e.refused.0)
 
 -- it is placed
-pub schedule-requires-clause-object : goal.schedule-requires-clause-object
-schedule-requires-clause-object g c = rw (c.new-object.ensures, c.place-2.ensures) (ap is_some (placed_there c.in-Ok.ensures.placed))
-
-pub schedule-requires-clause-queue : goal.schedule-requires-clause-queue
-schedule-requires-clause-queue g c = let e = c.in-Ok.ensures in ready c.self.invariant c.place.new.self.links e.keeps e.placed
+pub insert-requires-clause-lacks : goal.insert-requires-clause-lacks
+insert-requires-clause-lacks g c = let e = c.in-Ok.ensures in rw c.place-2.ensures (all_lacks deadline_of _ c.self.invariant c.place.new.self.links e.keeps e.placed)
 
 pub invariant_of-self-2 : goal.invariant_of-self-2
-invariant_of-self-2 g c =
-    let e = c.in-Ok.ensures in
-    let put = rw (c.new-object.ensures, c.place-2.ensures) at c.schedule.ensures in
-    (added c.self.invariant c.place.new.self.links e.keeps e.placed c.schedule.new.links c.schedule.result put.scheduled put.acquired put.refused c.schedule.ensures.queue).0
+invariant_of-self-2 g c = c.insert.ensures.all
 
 pub returns-clause-added : goal.returns-clause-added
 returns-clause-added g c =
     let e = c.in-Ok.ensures in
-    let put = rw (c.new-object.ensures, c.place-2.ensures) at c.schedule.ensures in
-    rw (← c.self.view_is, waiting_is c.self.invariant) (added c.self.invariant c.place.new.self.links e.keeps e.placed c.schedule.new.links c.schedule.result put.scheduled put.acquired put.refused c.schedule.ensures.queue).1
+    rw (← c.self.view_is) (adds c.self.invariant c.place.new.self.links e.keeps e.placed c.insert.new.links (root_of c.insert.new.tree) (rises c.insert.ensures.all) (rw c.place-2.ensures at c.insert.ensures.order))

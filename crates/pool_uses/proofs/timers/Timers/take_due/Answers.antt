@@ -1,32 +1,40 @@
 use Rattle.std.proofs.Common.{refl}
 use Rattle.ic_link_ops.proofs.PlacedValues.{placed_first}
-use Rattle.pool_uses.proofs.KeepingTimers.{first_due, kept_rest, none_due, sorted, takes_first}
+use Rattle.ic_rbtree.specs.Tree.{root_of}
+use Rattle.ic_rbtree.proofs.PlainTrees.{plain_members}
+use Rattle.ic_container.proofs.TreeLemmas.{all_freed, all_shown, all_sorted, all_stand, first_removed}
+use Rattle.pool_uses.specs.KeptTimers.{deadline_of}
+use Rattle.pool_uses.proofs.KeepingTimers.{all_later, first_due, takes_first}
 use Rattle.pool_uses.proofs.timers.Timers.take_due.Goals as goal
 
 pub returns-in_err-timer-clause-none : goal.returns-in_err-timer-clause-none
 returns-in_err-timer-clause-none g c =
     let e = c.in_err-timer.ensures in
-    rw (c.from_residual.ensures, ← c.self.view_is, e.unchanged.0, e.unchanged.1) (none_due c.self.invariant c.args.now (e.none_due c.self.invariant.members c.self.invariant.shown), refl)
+    rw (c.from_residual.ensures, ← c.self.view_is, e.unchanged.0, e.unchanged.1) (all_later c.self.inside.pool.objects c.args.now _ (e.none_due _ (all_shown deadline_of _ c.self.invariant)), refl)
 
 pub take_due-requires : goal.take_due-requires
-take_due-requires g c = record { queue = sorted c.self.invariant }
+take_due-requires g c = record { queue = all_sorted deadline_of _ c.self.invariant }
 
 pub remove-timer-requires-clause-placed : goal.remove-timer-requires-clause-placed
 remove-timer-requires-clause-placed g c =
-    let k = c.self.invariant in
-    placed_first c.self.inside.pool.objects c.in_ok-timer.timer k.members (first_due k c.args.now c.in_ok-timer.ensures.due).0 k.placed
+    let a = c.self.invariant in
+    placed_first c.self.inside.pool.objects c.in_ok-timer.timer _ (first_due a c.args.now (c.in_ok-timer.ensures.due _ (all_shown deadline_of _ a))).0 (all_stand deadline_of _ a)
 
 pub invariant_of-self-2 : goal.invariant_of-self-2
 invariant_of-self-2 g c =
-    let k = c.self.invariant in
+    let a = c.self.invariant in
     let e = c.in_ok-timer.ensures in
-    let taken = c.remove-timer.ensures in
-    rw taken.links (kept_rest k (first_due k c.args.now e.due).0 taken.value c.take_due.new.links (e.taken k.members k.shown).shows e.released taken.freed c.take_due.ensures.queue)
+    let out = c.remove-timer.ensures in
+    let top = root_of c.take_due.new.timers in
+    let first = first_due a c.args.now (e.due _ (all_shown deadline_of _ a)) in
+    rw out.links (all_freed deadline_of _ a out.value c.take_due.new.links top (first_removed deadline_of _ a c.take_due.new.links top first.0 (λ s shown. (e.taken s shown).shows)) e.released out.freed)
 
 pub returns-clause-taken : goal.returns-clause-taken
 returns-clause-taken g c =
-    let k = c.self.invariant in
+    let a = c.self.invariant in
     let e = c.in_ok-timer.ensures in
-    let taken = c.remove-timer.ensures in
-    let first = first_due k c.args.now e.due in
-    rw (← c.self.view_is, taken.links) (takes_first k first.0 taken.value c.take_due.new.links (e.taken k.members k.shown).shows e.released taken.freed c.args.now first.1)
+    let out = c.remove-timer.ensures in
+    let shown = all_shown deadline_of _ a in
+    let first = first_due a c.args.now (e.due _ shown) in
+    rw (← c.self.view_is, out.links)
+    (takes_first a c.args.now c.take_due.new.links (root_of c.take_due.new.timers) out.value out.freed first.0 first.1 (plain_members c.take_due.new.links (e.taken _ shown).shows))
