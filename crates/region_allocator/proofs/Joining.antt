@@ -1,50 +1,71 @@
 -- A region that is freed joins those that it touches, and what is left of one that is cut.
-use Rattle.std.proofs.Common.{◌≡◌, ◌≢◌, ℕ, ◌+◌, ◌<◌, ◌⊎◌, inl, inr, List, ◌∷◌, ◌++◌, sym, subst, arith}
+use Rattle.std.proofs.Common.{◌≡◌, ◌≢◌, ℕ, ◌+◌, ◌<◌, ◌⊎◌, ◌↔◌, inl, inr, List, refl, sym, subst, arith, add_assoc}
 use Rattle.std.proofs.lemmas.Bool.{cases_lt}
 use Rattle.std.specs.List.{AllByRecursion}
+use Rattle.ic_link_ops.proofs.Each.{all_both, all_map, all_without}
 use Rattle.region_allocator.specs.declared.region.Region.{Region}
 use Rattle.region_allocator.specs.Changes.{Adds, Changes, FitsFor}
 use Rattle.region_allocator.specs.Regions.{region_of, end_of, Has, IsFree, IsRegion, AreApart, StandApart, FreesRegion, AllocatesRegion}
-use Rattle.region_allocator.proofs.Apart.{all_regions, below_cut, above_cut, free_cut, free_here, free_still, none_free, grown_from, grown_own, grown_still, allocates}
-use Rattle.region_allocator.proofs.Lists.{all_three, all_four}
-use Rattle.ic_link_ops.proofs.Each.{all_both, all_map, all_without}
+use Rattle.region_allocator.proofs.Apart.{IsOrApart, adds_free, all_regions, cut_apart, is_free, none_free, others_not, was_free}
+use Rattle.region_allocator.proofs.Lists.{all_and}
 
 -- a region shares no address with this one, and may touch it
 abbrev pub IsBeside : Region → Region → Type 0
 IsBeside region x = AreApart region x ⊎ ((end_of x ≡ region.start) ⊎ (x.start ≡ end_of region))
 
--- it is this one, or apart from it
-abbrev pub IsOrApart : Region → Region → Type 0
-IsOrApart out x = (x ≡ out) ⊎ AreApart out x
+-- ADDRESSES, those of two parts: `Was` and `Is` are in addition to the same others, and differ by `More`
+frees_more : {Old New Others Was Is More : Type 0} → Old ↔ (Others ⊎ Was) → New ↔ (Others ⊎ Is) → Is ↔ (Was ⊎ More) → New ↔ (Old ⊎ More)
+frees_more old new parts = (
+  λ free. elim (new.0 free) [ inl other ↦ inl (old.1 (inl other)) | inr is ↦ elim (parts.0 is) [ inl was ↦ inl (old.1 (inr was)) | inr more ↦ inr more ] ],
+  λ either. elim either [
+    | inl free ↦ elim (old.0 free) [ inl other ↦ new.1 (inl other) | inr was ↦ new.1 (inr (parts.1 (inl was))) ]
+    | inr more ↦ new.1 (inr (parts.1 (inr more)))
+  ],
+)
+
+leaves_less : {Old New Others Was Is Less : Type 0} → Old ↔ (Others ⊎ Was) → New ↔ (Others ⊎ Is) → Was ↔ (Less ⊎ Is) → (Others → Less → ⊥) → (Is → Less → ⊥) → New ↔ (Old × ¬ Less)
+leaves_less old new parts off out = (
+  λ free. elim (new.0 free) [ inl other ↦ (old.1 (inl other), off other) | inr is ↦ (old.1 (inr (parts.1 (inr is))), out is) ],
+  λ both. elim (old.0 both.0) [ inl other ↦ new.1 (inl other) | inr was ↦ elim (parts.0 was) [ inl less ↦ absurd (both.1 less) | inr is ↦ new.1 (inr is) ] ],
+)
+
+swapped : {P Q R : Type 0} → P ↔ (Q ⊎ R) → P ↔ (R ⊎ Q)
+swapped both = (λ p. elim (both.0 p) [ inl q ↦ inr q | inr r ↦ inl r ], λ either. elim either [ inl r ↦ both.1 (inr r) | inr q ↦ both.1 (inl q) ])
+
+-- two regions that touch have the addresses of one
+has_joined : (x y joined : Region) → joined.start ≡ x.start → end_of x ≡ y.start → end_of joined ≡ end_of y → (a : ℕ) → Has joined a ↔ (Has x a ⊎ Has y a)
+has_joined x y joined from at to a = (
+  λ has. elim (cases_lt a y.start) [ inl low ↦ inl (omega (arith, has.0, from), omega (arith, low, at)) | inr high ↦ inr (high, omega (arith, has.1, to)) ],
+  λ either. elim either [ inl has ↦ (omega (arith, has.0, from), omega (arith, has.1, at, to)) | inr has ↦ (omega (arith, has.0, from, at), omega (arith, has.1, to)) ],
+)
+
+-- one that touches a region is not apart from it
+pub touches_front : (region x : Region) → end_of x ≡ region.start → AreApart region x → ⊥
+touches_front region x at apart = grind arith
+
+pub touches_back : (region x : Region) → x.start ≡ end_of region → AreApart region x → ⊥
+touches_back region x at apart = grind arith
+
+-- WHERE NONE TOUCHES IT, all are apart from it
+pub none_touches : (region : Region) (s : List Region) → AllByRecursion (IsBeside region) s → AllByRecursion (λ x. end_of x ≢ region.start) s → AllByRecursion (λ x. x.start ≢ end_of region) s → AllByRecursion (AreApart region) s
+none_touches region s beside front back = all_map apart s (all_and _ _ s beside (all_and _ _ s front back)) where
+  apart : (x : Region) → IsBeside region x × ((end_of x ≢ region.start) × (x.start ≢ end_of region)) → AreApart region x
+  apart x (inl e, n) = e
+  apart x (inr (inl e), n) = absurd (n.0 e)
+  apart x (inr (inr e), n) = absurd (n.1 e)
+
+-- no address of a region is free where all are beside it
+beside_not : (region : Region) (s : List Region) → AllByRecursion (IsBeside region) s → (a : ℕ) → Has region a → IsFree s a → ⊥
+beside_not region s beside a own = none_free s a (all_map (λ x is has. not x is own has) s beside) where
+  not : (x : Region) → IsBeside region x → Has region a → Has x a → ⊥
+  not x is own has = grind arith
+
+-- FREED, one region more
+pub adds_frees : {region : Region} {old new : List Region} → IsRegion region → AllByRecursion (AreApart region) old → Adds region old new → FreesRegion region old new
+adds_frees {region} {old} is apart adds = record { is_region = is; was_taken = beside_not region old (all_map (λ x is. inl is) old apart); free = adds_free adds }
 
 module _ {region : Region} (is : IsRegion region) where
-  -- no address of it was free where all are beside it
-  beside_taken : (s : List Region) → AllByRecursion (IsBeside region) s → (a : ℕ) → Has region a → IsFree s a → ⊥
-  beside_taken s beside a own = none_free s a (all_map not s beside) where
-    not : (x : Region) → IsBeside region x → Has x a → ⊥
-    not x (inl (inl e)) has = omega (arith, e, own.1, has.0)
-    not x (inl (inr e)) has = omega (arith, e, own.0, has.1)
-    not x (inr (inl e)) has = omega (arith, e, own.0, has.1)
-    not x (inr (inr e)) has = omega (arith, e, own.1, has.0)
-
-  -- WHERE NONE TOUCHES IT, all are apart from it
-  pub none_touches : (s : List Region) → AllByRecursion (IsBeside region) s → AllByRecursion (λ x. end_of x ≢ region.start) s → AllByRecursion (λ x. x.start ≢ end_of region) s → AllByRecursion (AreApart region) s
-  none_touches s beside front back = all_three apart s beside front back where
-    apart : (x : Region) → IsBeside region x → end_of x ≢ region.start → x.start ≢ end_of region → AreApart region x
-    apart x (inl e) n m = e
-    apart x (inr (inl e)) n m = absurd (n e)
-    apart x (inr (inr e)) n m = absurd (m e)
-
-  -- and one that touches it is not apart from it
-  pub touches_front : (x : Region) → end_of x ≡ region.start → AreApart region x → ⊥
-  touches_front x at (inl e) = omega (arith, e, at)
-  touches_front x at (inr e) = omega (arith, e, at)
-
-  pub touches_back : (x : Region) → x.start ≡ end_of region → AreApart region x → ⊥
-  touches_back x at (inl e) = omega (arith, e, at)
-  touches_back x at (inr e) = omega (arith, e, at)
-
-  module _ (s : List Region) (beside : AllByRecursion (IsBeside region) s) (apart : StandApart s) where
+  module _ (s : List Region) (beside : AllByRecursion (IsBeside region) s) (regions : AllByRecursion IsRegion s) where
     -- JOINED with the one in front,
     module _ {front : Region} (own : IsRegion front) (at : end_of front ≡ region.start) where
       pub front_fits : AllByRecursion (IsOrApart front) s → AllByRecursion (λ x. x.start ≢ end_of region) s → FitsFor front (region_of front.start (front.length + region.length)) s
@@ -52,31 +73,13 @@ module _ {region : Region} (is : IsRegion region) where
         is_region = record { some = omega (arith, own.some); fits = omega (arith, is.fits, at) };
         low = omega (arith, own.some);
         high = omega (arith, own.some);
-        apart = all_four fit s others none beside (all_regions s apart);
+        apart = all_map fit s (all_and _ _ s others (all_and _ _ s none (all_and _ _ s beside regions)));
       } where
-        fit : (x : Region) → IsOrApart front x → x.start ≢ end_of region → IsBeside region x → IsRegion x → (x ≡ front) ⊎ AreApart (region_of front.start (front.length + region.length)) x
-        fit x (inl e) n b r = inl e
-        fit x (inr (inr e)) n b r = inr (inr e)
-        fit x (inr (inl e)) n (inl (inl b)) r = inr (inl (omega (arith, b, at)))
-        fit x (inr (inl e)) n (inl (inr b)) r = absurd (omega (arith, e, b, at, r.some))
-        fit x (inr (inl e)) n (inr (inl b)) r = absurd (omega (arith, e, b, at, r.some))
-        fit x (inr (inl e)) n (inr (inr b)) r = absurd (n b)
+        fit : (x : Region) → IsOrApart front x × ((x.start ≢ end_of region) × (IsBeside region x × IsRegion x)) → (x ≡ front) ⊎ AreApart (region_of front.start (front.length + region.length)) x
+        fit x h = let some : 0 < x.length = h.1.1.1.some in grind arith
 
       pub front_frees : {new : List Region} → Changes front (region_of front.start (front.length + region.length)) s new → FreesRegion region s new
-      front_frees changes = record {
-        is_region = is;
-        was_taken = beside_taken s beside;
-        free = λ a. (
-          grown_from changes a (Has region a) (λ has. elim (cases_lt a (end_of front)) [
-            | inl low ↦ inl (has.0, low)
-            | inr high ↦ inr (omega (arith, high, at), omega (arith, has.1, at))
-          ]),
-          λ either. elim either [
-            | inl was ↦ grown_still changes a (λ has. (has.0, omega (arith, has.1))) was
-            | inr more ↦ grown_own changes a (omega (arith, more.0, at), omega (arith, more.1, at))
-          ],
-        );
-      }
+      front_frees changes = record { is_region = is; was_taken = beside_not region s beside; free = λ a. frees_more (was_free changes a) (is_free changes a) (has_joined front region _ refl at (omega (arith, at)) a) }
 
     -- with the one behind,
     module _ {back : Region} (own : IsRegion back) (at : back.start ≡ end_of region) where
@@ -85,112 +88,78 @@ module _ {region : Region} (is : IsRegion region) where
         is_region = record { some = omega (arith, own.some); fits = omega (arith, own.fits, at) };
         low = omega (arith, own.some, at);
         high = omega (arith, own.some, at);
-        apart = all_four fit s others none beside (all_regions s apart);
+        apart = all_map fit s (all_and _ _ s others (all_and _ _ s none (all_and _ _ s beside regions)));
       } where
-        fit : (x : Region) → IsOrApart back x → end_of x ≢ region.start → IsBeside region x → IsRegion x → (x ≡ back) ⊎ AreApart (region_of region.start (region.length + back.length)) x
-        fit x (inl e) n b r = inl e
-        fit x (inr (inl e)) n b r = inr (inl (omega (arith, e, at)))
-        fit x (inr (inr e)) n (inl (inl b)) r = absurd (omega (arith, e, b, at, r.some))
-        fit x (inr (inr e)) n (inl (inr b)) r = inr (inr b)
-        fit x (inr (inr e)) n (inr (inl b)) r = absurd (n b)
-        fit x (inr (inr e)) n (inr (inr b)) r = absurd (omega (arith, e, b, at, r.some))
+        fit : (x : Region) → IsOrApart back x × ((end_of x ≢ region.start) × (IsBeside region x × IsRegion x)) → (x ≡ back) ⊎ AreApart (region_of region.start (region.length + back.length)) x
+        fit x h = let some : 0 < x.length = h.1.1.1.some in grind arith
 
       pub back_frees : {new : List Region} → Changes back (region_of region.start (region.length + back.length)) s new → FreesRegion region s new
-      back_frees changes = record {
-        is_region = is;
-        was_taken = beside_taken s beside;
-        free = λ a. (
-          grown_from changes a (Has region a) (λ has. elim (cases_lt a back.start) [
-            | inl low ↦ inr (has.0, omega (arith, low, at))
-            | inr high ↦ inl (high, omega (arith, has.1, at))
-          ]),
-          λ either. elim either [
-            | inl was ↦ grown_still changes a (λ has. (omega (arith, has.0, at), omega (arith, has.1, at))) was
-            | inr more ↦ grown_own changes a (more.0, omega (arith, more.1))
-          ],
-        );
-      }
+      back_frees changes = record { is_region = is; was_taken = beside_not region s beside; free = λ a. frees_more (was_free changes a) (is_free changes a) (swapped (has_joined region back _ refl (sym at) (omega (arith, at)) a)) }
 
-    -- and with both, where the one behind is taken out first
-    module _ {front back : Region} (own : IsRegion front) (other : IsRegion back) (at : end_of front ≡ region.start) (to : back.start ≡ end_of region) {mid : List Region} (less : Adds back mid s) where
-      pub both_fit : AllByRecursion (IsOrApart front) s → FitsFor front (region_of front.start (front.length + region.length + back.length)) mid
-      both_fit others = record {
-        is_region = record { some = omega (arith, own.some); fits = omega (arith, other.fits, at, to) };
-        low = omega (arith, own.some);
-        high = omega (arith, own.some);
-        apart = subst (AllByRecursion (λ x. (x ≡ front) ⊎ AreApart joined x)) (sym less.was)
-            (all_four fit (less.front ++ less.back) (left (IsOrApart front) others) away (left (IsBeside region) beside) (left IsRegion (all_regions s apart)));
-      } where
-        joined : Region
-        joined = region_of front.start (front.length + region.length + back.length)
+-- JOINED WITH BOTH, where the one behind is taken out first: that one and the region are one, which joins the one in front
+module _ {region : Region} (is : IsRegion region) (s : List Region) (beside : AllByRecursion (IsBeside region) s) (apart : StandApart s) {front back : Region} (own : IsRegion front) (other : IsRegion back) (at : end_of front ≡ region.start)
+    (to : back.start ≡ end_of region) {mid : List Region} (less : Adds back mid s) where
+  abbrev both : Region
+  both = region_of region.start (region.length + back.length)
 
-        left : (P : Region → Type 0) → AllByRecursion P s → AllByRecursion P (less.front ++ less.back)
-        left P all = all_without P less.front back less.back (subst (AllByRecursion P) less.is all)
+  both_region : IsRegion both
+  both_region = record { some = omega (arith, is.some); fits = omega (arith, other.fits, to) }
 
-        away : AllByRecursion (AreApart back) (less.front ++ less.back)
-        away =
-            let cut : StandApart (less.front ++ back ∷ less.back) = subst StandApart less.is apart in
-            all_both (AreApart back) less.front less.back (all_map (λ x low. inr low) less.front (below_cut less.front back less.back cut)) (all_map (λ x high. inl high) less.back (above_cut less.front back less.back cut))
+  left : (P : Region → Type 0) → AllByRecursion P s → AllByRecursion P mid
+  left P all = subst (AllByRecursion P) (sym less.was) (all_without P less.front back less.back (subst (AllByRecursion P) less.is all))
 
-        fit : (x : Region) → IsOrApart front x → AreApart back x → IsBeside region x → IsRegion x → (x ≡ front) ⊎ AreApart (region_of front.start (front.length + region.length + back.length)) x
-        fit x (inl e) q b r = inl e
-        fit x (inr (inr e)) q b r = inr (inr e)
-        fit x (inr (inl e)) (inl q) b r = inr (inl (omega (arith, q, at, to)))
-        fit x (inr (inl e)) (inr q) (inl (inl b)) r = absurd (omega (arith, q, b, to, r.some))
-        fit x (inr (inl e)) (inr q) (inl (inr b)) r = absurd (omega (arith, e, b, at, r.some))
-        fit x (inr (inl e)) (inr q) (inr (inl b)) r = absurd (omega (arith, e, b, at, r.some))
-        fit x (inr (inl e)) (inr q) (inr (inr b)) r = absurd (omega (arith, q, b, to, r.some))
+  away : AllByRecursion (AreApart back) mid
+  away =
+      let cut = cut_apart less.front back less.back (subst StandApart less.is apart) in
+      subst (AllByRecursion (AreApart back)) (sym less.was) (all_both (AreApart back) less.front less.back (all_map (λ x low. inr low) less.front cut.0) (all_map (λ x high. inl high) less.back cut.2))
 
-      pub both_frees : {new : List Region} → Changes front (region_of front.start (front.length + region.length + back.length)) mid new → FreesRegion region s new
-      both_frees {new} changes = record {
-        is_region = is;
-        was_taken = beside_taken s beside;
-        free = λ a. (
-          λ free. elim (grown_from changes a (Has region a ⊎ Has back a) (parts a) free) [
-            | inl was ↦ inl (subst (λ (l : List Region). IsFree l a) (sym less.is) (free_still less.front back less.back a (subst (λ (l : List Region). IsFree l a) less.was was)))
-            | inr more ↦ elim more [
-              | inl mine ↦ inr mine
-              | inr here ↦ inl (subst (λ (l : List Region). IsFree l a) (sym less.is) (free_here less.front back less.back a here))
-            ]
-          ],
-          λ either. elim either [
-            | inl was ↦ elim (free_cut less.front back less.back a (subst (λ (l : List Region). IsFree l a) less.is was)) [
-              | inl here ↦ grown_own changes a (omega (arith, here.0, at, to), omega (arith, here.1, at, to))
-              | inr rest ↦ grown_still changes a (λ has. (has.0, omega (arith, has.1))) (subst (λ (l : List Region). IsFree l a) (sym less.was) rest)
-            ]
-            | inr mine ↦ grown_own changes a (omega (arith, mine.0, at), omega (arith, mine.1, at))
-          ],
-        );
-      } where
-        parts : (a : ℕ) → Has (region_of front.start (front.length + region.length + back.length)) a → Has front a ⊎ (Has region a ⊎ Has back a)
-        parts a has = elim (cases_lt a (end_of front)) [
-          | inl low ↦ inl (has.0, low)
-          | inr high ↦ elim (cases_lt a back.start) [
-            | inl low ↦ inr (inl (omega (arith, high, at), omega (arith, low, to)))
-            | inr more ↦ inr (inr (more, omega (arith, has.1, at, to)))
-          ]
-        ]
+  both_beside : AllByRecursion (λ x. IsBeside both x × (x.start ≢ end_of both)) mid
+  both_beside = all_map lie mid (all_and _ _ mid away (all_and _ _ mid (left (IsBeside region) beside) (left IsRegion (all_regions s apart)))) where
+    lie : (x : Region) → AreApart back x × (IsBeside region x × IsRegion x) → IsBeside both x × (x.start ≢ end_of both)
+    lie x h = let some : 0 < x.length = h.1.1.some in let long : 0 < back.length = other.some in (grind arith, λ same. grind arith)
+
+  sum : front.length + region.length + back.length ≡ front.length + both.length
+  sum = add_assoc front.length region.length back.length
+
+  pub both_fit : AllByRecursion (IsOrApart front) s → FitsFor front (region_of front.start (front.length + region.length + back.length)) mid
+  both_fit others = subst (λ (n : ℕ). FitsFor front (region_of front.start n) mid) (sym sum)
+      (front_fits both_region mid (all_map (λ x h. h.0) mid both_beside) (left IsRegion (all_regions s apart)) own at (left (IsOrApart front) others) (all_map (λ x h. h.1) mid both_beside))
+
+  pub both_frees : {new : List Region} → Changes front (region_of front.start (front.length + region.length + back.length)) mid new → FreesRegion region s new
+  both_frees {new} changes =
+      let joined = front_frees both_region mid (all_map (λ x h. h.0) mid both_beside) (left IsRegion (all_regions s apart)) own at (subst (λ (n : ℕ). Changes front (region_of front.start n) mid new) sum changes) in
+      record { is_region = is; was_taken = beside_not region s beside; free = λ a. frees_more (adds_free less a) (joined.free a) (swapped (has_joined region back both refl (sym to) (omega (arith, to)) a)) }
 
 -- CUT: the start of a region is taken, and `rest` addresses of it are left
-module _ {out : Region} {s : List Region} (length rest : ℕ) (sum : length + rest ≡ out.length) where
-  module _ {new : List Region} (apart : StandApart s) where
+module _ {out : Region} (length rest : ℕ) (sum : length + rest ≡ out.length) where
+  -- what is taken, and what is left
+  has_parts : (a : ℕ) → Has out a ↔ (Has (region_of out.start length) a ⊎ Has (region_of (out.start + length) rest) a)
+  has_parts a = has_joined (region_of out.start length) (region_of (out.start + length) rest) out refl refl (omega (arith, sum)) a
+
+  left_not : (a : ℕ) → Has (region_of (out.start + length) rest) a → Has (region_of out.start length) a → ⊥
+  left_not a has taken = omega (arith, has.0, taken.1)
+
+  module _ {s new : List Region} (apart : StandApart s) where
     pub cut_whole : rest ≡ 0 → Adds out new s → AllocatesRegion (region_of out.start length) s new
-    cut_whole none less = allocates length rest less.front less.back sum less.is (subst StandApart less.is apart) (λ a free. inr (subst (λ (l : List Region). IsFree l a) less.was free))
-        (λ a has. absurd (omega (arith, has.0, has.1, none))) (λ a free. subst (λ (l : List Region). IsFree l a) (sym less.was) free)
+    cut_whole none less = record {
+      was_free = λ a has. (adds_free less a).1 (inr ((has_parts a).1 (inl has)));
+      free = λ a. leaves_less (adds_free less a) (λ free. inl free, λ either. elim either [ inl free ↦ free | inr has ↦ absurd (omega (arith, has.0, has.1, none)) ]) (has_parts a)
+          (λ other has. others_not less.front out less.back (subst StandApart less.is apart) a (subst (λ (l : List Region). IsFree l a) less.was other) ((has_parts a).1 (inl has))) (left_not a);
+    }
 
     pub cut_part : Changes out (region_of (out.start + length) rest) s new → AllocatesRegion (region_of out.start length) s new
-    cut_part changes = allocates length rest changes.front changes.back sum changes.was (subst StandApart changes.was apart)
-        (λ a free. free_cut changes.front (region_of (out.start + length) rest) changes.back a (subst (λ (l : List Region). IsFree l a) changes.is free)) (grown_own changes)
-        (λ a free. subst (λ (l : List Region). IsFree l a) (sym changes.is) (free_still changes.front (region_of (out.start + length) rest) changes.back a free))
+    cut_part changes = record {
+      was_free = λ a has. (was_free changes a).1 (inr ((has_parts a).1 (inl has)));
+      free = λ a. leaves_less (was_free changes a) (is_free changes a) (has_parts a)
+          (λ other has. others_not changes.front out changes.back (subst StandApart changes.was apart) a other ((has_parts a).1 (inl has))) (left_not a);
+    }
 
-  pub cut_fits : 0 < rest → IsRegion out → AllByRecursion (IsOrApart out) s → FitsFor out (region_of (out.start + length) rest) s
-  cut_fits some is others = record {
+  pub cut_fits : 0 < rest → IsRegion out → (s : List Region) → AllByRecursion (IsOrApart out) s → FitsFor out (region_of (out.start + length) rest) s
+  cut_fits some is s others = record {
     is_region = record { some = some; fits = omega (arith, is.fits, sum) };
     low = omega (arith, some, sum);
     high = omega (arith, some);
     apart = all_map fit s others;
   } where
     fit : (x : Region) → IsOrApart out x → (x ≡ out) ⊎ AreApart (region_of (out.start + length) rest) x
-    fit x (inl e) = inl e
-    fit x (inr (inl e)) = inr (inl (omega (arith, e, sum)))
-    fit x (inr (inr e)) = inr (inr (omega (arith, e)))
+    fit x h = grind (arith, sum)

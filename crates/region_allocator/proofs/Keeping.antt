@@ -1,5 +1,5 @@
 -- What an allocator keeps over each of its calls, and what that says of its regions.
-use Rattle.std.proofs.Common.{◌≡◌, ◌≢◌, ◌<◌, ℕ, ◌⊎◌, nat_lt, map, Option, Some, None, IsSome, true, List, [], ◌∷◌, ◌++◌, refl, sym, ap, ◌∙◌, subst, arith, true≢false}
+use Rattle.std.proofs.Common.{◌≡◌, ◌≢◌, ◌<◌, ℕ, nat_lt, map, Option, Some, None, IsSome, List, [], ◌∷◌, ◌++◌, refl, sym, ap, ◌∙◌, subst, arith, true≢false}
 use Rattle.std.proofs.lemmas.Bool.{false_from_ne_true, lt-ltb}
 use Rattle.std.specs.List.{AllByRecursion, cons_option}
 use Rattle.std.specs.Ordering.{nat_cmp}
@@ -33,13 +33,12 @@ use Rattle.ic_augmented.specs.Pooled.{GrowsSummed}
 use Rattle.ic_augmented.specs.SumTables.{blank, room_of}
 use Rattle.ic_augmented.specs.declared.sum_table.Cell.{Cell}
 use Rattle.ic_augmented.specs.declared.sum_table.SumTable.{SumTable}
-use Rattle.ic_augmented.specs.declared.summed.Summed.{Summed}
 use Rattle.ic_augmented.proofs.PooledTrees.{grown_consistent, inserts_shown, consistent_in, numbers_stay}
 use Rattle.region_allocator.specs.declared.region.Region.{Region}
 use Rattle.region_allocator.specs.Changes.{Adds, Changes, FitsFor}
 use Rattle.region_allocator.specs.Kept.{start_of, Keeps, shown_regions}
 use Rattle.region_allocator.specs.Regions.{IsRegion, AreApart, StandApart}
-use Rattle.region_allocator.proofs.Apart.{all_regions, added_apart, changed_apart, apart_without, apart_from, starts_rise}
+use Rattle.region_allocator.proofs.Apart.{IsOrApart, all_regions, added_apart, changed_apart, cut_apart, apart_from, starts_rise}
 use Rattle.region_allocator.proofs.Lists.{told_lt}
 
 -- a table with no place links nothing
@@ -125,9 +124,9 @@ module _ {A B : Type 0} where
       pub at_cut : (front : List Region) × (back : List Region) × (shown_regions objects w root ≡ front ++ out ∷ back)
       at_cut = let m = each_member k.by_start p there in (values_at objects m.0, values_at objects m.1, regions_are ∙ each_value k.by_start p there m.0 m.1 m.2)
 
-      pub others_apart : AllByRecursion (λ x. (x ≡ out) ⊎ AreApart out x) (shown_regions objects w root)
+      pub others_apart : AllByRecursion (IsOrApart out) (shown_regions objects w root)
       others_apart = let m = at_cut in
-          subst (AllByRecursion (λ x. (x ≡ out) ⊎ AreApart out x)) (sym m.2) (apart_from m.0 out m.1 (subst StandApart m.2 shown_apart))
+          subst (AllByRecursion (IsOrApart out)) (sym m.2) (apart_from m.0 out m.1 (subst StandApart m.2 shown_apart))
 
       -- there is room for its length
       pub has_room : index_of p < room_of z
@@ -219,7 +218,7 @@ module _ {A B : Type 0} where
               by_start = a.3;
               beside = λ q t at. numbers_stay z z' same q ∙ k.beside q t (sym (others_left frees q (λ e. let never : None ≡ Some t = sym (gone_there frees) ∙ ap (object_at new) (sym e) ∙ at in absurd (cc))) ∙ at);
               consistent = λ s shown. consistent_in node_of s (removed m.0 m.1 (subst (ShowsConsistent node_of (greatest z) (plain_table w) root) m.2 members_consistent)) shown;
-              apart = apart_without a.0 out a.1 (subst StandApart a.2 k.apart);
+              apart = (cut_apart a.0 out a.1 (subst StandApart a.2 k.apart)).3;
             },
             record { front = a.0; back = a.1; was = ap (values_at new) (plain_members w' a.3.sorted.shown) ∙ a.3.sorted.stand.are; is = regions_are ∙ a.2 },
           )

@@ -7,20 +7,10 @@ use Rattle.std.specs.Ordering.{is_ge, is_lt}
 use Rattle.std.specs.declared.cmp.Ordering.{Ordering}
 use Rattle.std.specs.declared.cmp.Ordering.TheVariants.{Less, Equal, Greater}
 
-module _ {X : Type 0} where
-  -- of facts of each follows another one
-  pub all_two : {P Q R : X → Type 0} → ((x : X) → P x → Q x → R x) → (s : List X) → AllByRecursion P s → AllByRecursion Q s → AllByRecursion R s
-  all_two f [] p q = tt
-  all_two f (x ∷ s) p q = (f x p.0 q.0, all_two f s p.1 q.1)
-
-  pub all_three : {P Q R T : X → Type 0} → ((x : X) → P x → Q x → R x → T x) → (s : List X) → AllByRecursion P s → AllByRecursion Q s → AllByRecursion R s → AllByRecursion T s
-  all_three f [] p q r = tt
-  all_three f (x ∷ s) p q r = (f x p.0 q.0 r.0, all_three f s p.1 q.1 r.1)
-
-  pub all_four : {P Q R T U : X → Type 0} → ((x : X) → P x → Q x → R x → T x → U x) → (s : List X) → AllByRecursion P s → AllByRecursion Q s → AllByRecursion R s → AllByRecursion T s
-      → AllByRecursion U s
-  all_four f [] p q r t = tt
-  all_four f (x ∷ s) p q r t = (f x p.0 q.0 r.0 t.0, all_four f s p.1 q.1 r.1 t.1)
+-- two facts of each
+pub all_and : {X : Type 0} (P Q : X → Type 0) → (s : List X) → AllByRecursion P s → AllByRecursion Q s → AllByRecursion (λ x. P x × Q x) s
+all_and P Q [] p q = tt
+all_and P Q (x ∷ s) p q = ((p.0, q.0), all_and P Q s p.1 q.1)
 
 -- what an order tells of numbers
 pub told_lt : (k l : ℕ) (r : Ordering) → r ≡ nat_cmp k l → is_lt r ≡ true → k < l

@@ -22,7 +22,7 @@ use Rattle.region_allocator.specs.declared.region.Region.{Region}
 use Rattle.region_allocator.specs.Kept.{start_of, Keeps, shown_regions}
 use Rattle.region_allocator.specs.Neighbors.{found_at, found_with, IsFound, FitsFirst, IsLast, IsFirst, AreNeighbors}
 use Rattle.region_allocator.specs.Regions.{StandApart, AreShorter, FitsAt}
-use Rattle.region_allocator.proofs.Apart.{apart_front, apart_back, below_cut, lowest_fits}
+use Rattle.region_allocator.proofs.Apart.{cut_apart, lowest_fits, parts_apart}
 use Rattle.region_allocator.proofs.Keeping.{region_there, regions_are, shown_apart, is_region}
 use Rattle.region_allocator.proofs.Lists.{told_ge, told_less}
 
@@ -103,8 +103,8 @@ module _ {A B : Type 0} {objects : Objects Region} {w : TreeLinkOps A} {root : O
     cut_is : shown_regions objects w root ≡ values_at objects gap.front ++ values_at objects gap.back
     cut_is = regions_are k ∙ sym k.by_start.sorted.stand.are ∙ ap (values_at objects) (sym same) ∙ filter_map-append (object_at objects) gap.front gap.back
 
-    apart : StandApart (values_at objects gap.front ++ values_at objects gap.back)
-    apart = subst StandApart cut_is (shown_apart k)
+    apart : StandApart (values_at objects gap.front) × StandApart (values_at objects gap.back)
+    apart = parts_apart (values_at objects gap.front) (values_at objects gap.back) (subst StandApart cut_is (shown_apart k))
 
     low : (p : Place) {x : Region} → object_at objects p ≡ Some x → last gap.front ≡ Some p → x.start ≤ n
     low p {x} there at = told_ge n x.start _ refl (sym (ap (λ (o : Option Region). is_ge (answer_at (order_of nat_cmp start_of n) o)) there) ∙ not-false _ (border.fails p at))
@@ -124,7 +124,7 @@ module _ {A B : Type 0} {objects : Objects Region} {w : TreeLinkOps A} {root : O
         let first = low p here.1 at in (
           subst (IsLast objects (values_at objects gap.front)) (sym (ap (found_with p) here.1)) (found_is p here.1, (rest, is)),
           subst (AllByRecursion (λ (x : Region). x.start ≤ n)) (sym is) (all_both (λ (x : Region). x.start ≤ n) rest (r ∷ [])
-              (all_map (λ x below. omega (arith, below, first)) rest (below_cut rest r [] (subst StandApart is (apart_front (values_at objects gap.front) (values_at objects gap.back) apart)))) (first, tt)),
+              (all_map (λ x below. omega (arith, below, first)) rest (cut_apart rest r [] (subst StandApart is apart.0)).0) (first, tt)),
         )
 
     back_parts : (s : List Place) → gap.back ≡ s → IsFirst objects (values_at objects gap.back) (found_at objects (first s)) × AllByRecursion (λ (x : Region). n < x.start) (values_at objects gap.back)
@@ -136,7 +136,7 @@ module _ {A B : Type 0} {objects : Objects Region} {w : TreeLinkOps A} {root : O
         let first = high p here.1 (ap first at) in (
           subst (IsFirst objects (values_at objects gap.back)) (sym (ap (found_with p) here.1)) (found_is p here.1, (values_at objects s, is)),
           subst (AllByRecursion (λ (x : Region). n < x.start)) (sym is)
-              (first, all_map (λ x above. omega (arith, above, first)) (values_at objects s) (subst StandApart is (apart_back (values_at objects gap.front) (values_at objects gap.back) apart)).1),
+              (first, all_map (λ x above. omega (arith, above, first)) (values_at objects s) (subst StandApart is apart.1).1),
         )
 
     pub neighbors_are : {below above : Option Place} → below ≡ last gap.front → above ≡ first gap.back → AreNeighbors objects (shown_regions objects w root) n (found_at objects below) (found_at objects above)

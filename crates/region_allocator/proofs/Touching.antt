@@ -1,6 +1,5 @@
 -- Which regions touch one that is to be freed, or have an address of it.
 use Rattle.std.proofs.Common.{◌≡◌, ◌≢◌, ℕ, ◌<◌, ◌≤◌, ◌⊎◌, ◌↔◌, inl, inr, Bool, Option, Some, None, Ok, Err, List, [], ◌∷◌, ◌++◌, sym, ap, ◌∙◌, subst, arith}
-use Rattle.std.proofs.lemmas.Bool.{cases_lt}
 use Rattle.std.specs.List.{AllByRecursion}
 use Rattle.ic_unsafe_ref.specs.Objects.{Objects}
 use Rattle.region_allocator.specs.declared.free_error.FreeError.{FreeError}
@@ -8,23 +7,26 @@ use Rattle.region_allocator.specs.declared.neighbors.Found.{Found}
 use Rattle.region_allocator.specs.declared.region.Region.{Region}
 use Rattle.region_allocator.specs.Neighbors.{IsFound, IsLast, IsFirst, AreNeighbors, IsEnding, IsStarting, Touches, EndsBy, StartsFrom}
 use Rattle.region_allocator.specs.Refusals.{IsRefused}
-use Rattle.region_allocator.specs.Regions.{space_of, end_of, IsFree, IsRegion, AreApart, StandApart}
-use Rattle.region_allocator.proofs.Apart.{apart_front, apart_back, below_cut, region_cut, free_here, none_free}
+use Rattle.region_allocator.specs.Regions.{space_of, end_of, IsFree, IsRegion, StandApart}
+use Rattle.region_allocator.proofs.Joining.{IsBeside}
+use Rattle.region_allocator.proofs.Apart.{cut_apart, free_here, none_free, parts_apart}
 use Rattle.ic_link_ops.proofs.Each.{all_both, all_map, all_back}
 
--- what is free in front is free
-free_left : (front back : List Region) (a : ℕ) → IsFree front a → IsFree (front ++ back) a
-free_left [] back a h = elim h [ ]
-free_left (x ∷ front) back a (inl h) = inl h
-free_left (x ∷ front) back a (inr h) = inr (free_left front back a h)
+-- what is free of two parts
+free_parts : (front back : List Region) (a : ℕ) → IsFree (front ++ back) a ↔ (IsFree front a ⊎ IsFree back a)
+free_parts [] back a = (λ free. inr free, λ either. elim either [ inl never ↦ absurd never | inr free ↦ free ])
+free_parts (x ∷ front) back a =
+    let rest = free_parts front back a in (
+      λ free. elim free [ inl has ↦ inl (inl has) | inr free ↦ elim (rest.0 free) [ inl left ↦ inl (inr left) | inr right ↦ inr right ] ],
+      λ either. elim either [ inl free ↦ elim free [ inl has ↦ inl has | inr left ↦ inr (rest.1 (inl left)) ] | inr right ↦ inr (rest.1 (inr right)) ],
+    )
 
 module _ (objects : Objects Region) where
   -- the last of regions ends behind all, and the first starts in front of all
   last_ends : (front rest : List Region) (r : Region) → front ≡ rest ++ r ∷ [] → StandApart front → AllByRecursion (λ x. end_of x ≤ end_of r) front
   last_ends front rest r is apart =
-      let own : IsRegion r = region_cut rest r [] (subst StandApart is apart) in
       subst (AllByRecursion (λ x. end_of x ≤ end_of r)) (sym is)
-      (all_both (λ x. end_of x ≤ end_of r) rest (r ∷ []) (all_map (λ x low. omega (arith, low)) rest (below_cut rest r [] (subst StandApart is apart))) (omega arith, tt))
+      (all_both (λ x. end_of x ≤ end_of r) rest (r ∷ []) (all_map (λ x low. omega (arith, low)) rest (cut_apart rest r [] (subst StandApart is apart)).0) (omega arith, tt))
 
   first_starts : (back rest : List Region) (r : Region) → back ≡ r ∷ rest → StandApart back → AllByRecursion (λ x. r.start ≤ x.start) back
   first_starts back rest r is apart =
@@ -68,31 +70,22 @@ module _ (objects : Objects Region) where
     -- THE REGIONS THAT TOUCH IT
     pub touches : {front back : Option Found} → StandApart regions → EndsBy below region.start (Ok front) → StartsFrom above (end_of region) (Ok back) → Touches objects regions region front back
     touches {front} {back} apart ends starts =
-        let stand = subst StandApart beside.cut apart in
-        let f = front_clear beside.front region.start below front beside.below_is (apart_front beside.front beside.back stand) ends in
-        let b = back_clear beside.back (end_of region) above back beside.above_is (apart_back beside.front beside.back stand) starts in
+        let stand = parts_apart beside.front beside.back (subst StandApart beside.cut apart) in
+        let f = front_clear beside.front region.start below front beside.below_is stand.0 ends in
+        let b = back_clear beside.back (end_of region) above back beside.above_is stand.1 starts in
         record {
-          each = subst (AllByRecursion each) (sym beside.cut) (all_both each beside.front beside.back (all_map in_front beside.front f.0) (all_map behind beside.back b.0));
+          each = subst (AllByRecursion (IsBeside region)) (sym beside.cut) (all_both (IsBeside region) beside.front beside.back (all_map in_front beside.front f.0) (all_map behind beside.back b.0));
           front_is = ending_in regions beside.front region.start front f.1 (λ none. subst (AllByRecursion (λ x. end_of x ≢ region.start)) (sym beside.cut)
               (all_both (λ x. end_of x ≢ region.start) beside.front beside.back none (all_map (λ x high same. omega (arith, high, same)) beside.back beside.starts_above)));
           back_is = starting_in regions beside.back (end_of region) back b.1 (λ none. subst (AllByRecursion (λ x. x.start ≢ end_of region)) (sym beside.cut)
               (all_both (λ x. x.start ≢ end_of region) beside.front beside.back (all_map (λ x low same. omega (arith, low, same, is.some)) beside.front beside.starts_below) none));
         }
       where
-        each : Region → Type 0
-        each x = AreApart region x ⊎ ((end_of x ≡ region.start) ⊎ (x.start ≡ end_of region))
+        in_front : (x : Region) → end_of x ≤ region.start → IsBeside region x
+        in_front x low = grind arith
 
-        in_front : (x : Region) → end_of x ≤ region.start → AreApart region x ⊎ ((end_of x ≡ region.start) ⊎ (x.start ≡ end_of region))
-        in_front x low = elim (cases_lt (end_of x) region.start) [
-          | inl less ↦ inl (inr less)
-          | inr more ↦ inr (inl (omega (arith, low, more)))
-        ]
-
-        behind : (x : Region) → end_of region ≤ x.start → AreApart region x ⊎ ((end_of x ≡ region.start) ⊎ (x.start ≡ end_of region))
-        behind x high = elim (cases_lt (end_of region) x.start) [
-          | inl less ↦ inl (inl less)
-          | inr more ↦ inr (inr (omega (arith, high, more)))
-        ]
+        behind : (x : Region) → end_of region ≤ x.start → IsBeside region x
+        behind x high = grind arith
 
     -- THE ONE IN FRONT has an address of it, or the one behind
     pub overlaps_front : (full : Bool) (error : FreeError) → EndsBy below region.start (Err error) → IsRefused region (space_of regions full) error
@@ -107,7 +100,7 @@ module _ (objects : Objects Region) where
               region.start,
               (omega arith, omega (arith, is.some)),
               subst (λ (s : List Region). IsFree s region.start) (sym beside.cut)
-                  (free_left beside.front beside.back region.start (subst (λ (s : List Region). IsFree s region.start) (sym last.1.1) (free_here last.1.0 found.region [] region.start (low, ends.1)))),
+                  ((free_parts beside.front beside.back region.start).1 (inl (subst (λ (s : List Region). IsFree s region.start) (sym last.1.1) (free_here last.1.0 found.region [] region.start (low, ends.1))))),
             ),
           )
 
@@ -133,14 +126,6 @@ module _ (objects : Objects Region) where
   free_ends (x ∷ s) e a low (inl has) = omega (arith, low.0, has.1)
   free_ends (x ∷ s) e a low (inr free) = free_ends s e a low.1 free
 
-  free_split : (front back : List Region) (a : ℕ) → IsFree (front ++ back) a → IsFree front a ⊎ IsFree back a
-  free_split [] back a free = inr free
-  free_split (x ∷ front) back a (inl has) = inl (inl has)
-  free_split (x ∷ front) back a (inr free) = elim (free_split front back a free) [
-    | inl left ↦ inl (inr left)
-    | inr right ↦ inr right
-  ]
-
   none_above : (a : ℕ) (back : List Region) → AllByRecursion (λ x. a < x.start) back → IsFree back a → ⊥
   none_above a back high = none_free back a (all_map (λ x more has. omega (arith, more, has.0)) back high)
 
@@ -148,14 +133,14 @@ module _ (objects : Objects Region) where
     pub free_below : {found : Found} → AreNeighbors objects regions a (Some found) above → IsFree regions a ↔ (a < end_of found.region)
     free_below {found} beside =
         let rest = beside.below_is.1 in (
-          λ free. elim (free_split beside.front beside.back a (subst (λ (s : List Region). IsFree s a) beside.cut free)) [
+          λ free. elim ((free_parts beside.front beside.back a).0 (subst (λ (s : List Region). IsFree s a) beside.cut free)) [
             | inl left ↦ free_ends beside.front (end_of found.region) a
-                (last_ends beside.front rest.0 found.region rest.1 (apart_front beside.front beside.back (subst StandApart beside.cut apart))) left
+                (last_ends beside.front rest.0 found.region rest.1 (parts_apart beside.front beside.back (subst StandApart beside.cut apart)).0) left
             | inr right ↦ absurd (none_above a beside.back beside.starts_above right)
           ],
           λ less.
               let low = (all_back (λ x. x.start ≤ a) rest.0 (found.region ∷ []) (subst (AllByRecursion (λ x. x.start ≤ a)) rest.1 beside.starts_below)).0 in
-              subst (λ (s : List Region). IsFree s a) (sym beside.cut) (free_left beside.front beside.back a (subst (λ (s : List Region). IsFree s a) (sym rest.1) (free_here rest.0 found.region [] a (low, less)))),
+              subst (λ (s : List Region). IsFree s a) (sym beside.cut) ((free_parts beside.front beside.back a).1 (inl (subst (λ (s : List Region). IsFree s a) (sym rest.1) (free_here rest.0 found.region [] a (low, less))))),
         )
 
     pub none_below : AreNeighbors objects regions a None above → IsFree regions a → ⊥

@@ -4,8 +4,8 @@ use Rattle.region_allocator.specs.declared.neighbors.Found.{Found}
 use Rattle.region_allocator.specs.declared.region.Region.{Region}
 use Rattle.region_allocator.specs.Neighbors.{IsFound}
 use Rattle.region_allocator.specs.Regions.{end_of, IsRegion, AreApart}
-use Rattle.region_allocator.proofs.Apart.{adds_frees}
-use Rattle.region_allocator.proofs.Joining.{none_touches, touches_front, touches_back, front_fits, front_frees, back_fits, back_frees, both_fit, both_frees}
+use Rattle.region_allocator.proofs.Apart.{all_regions}
+use Rattle.region_allocator.proofs.Joining.{adds_frees, none_touches, touches_front, touches_back, front_fits, front_frees, back_fits, back_frees, both_fit, both_frees}
 use Rattle.region_allocator.proofs.Keeping.{shown_apart, others_apart, at_region}
 use Rattle.region_allocator.proofs.free_regions.FreeRegions.add.Goals as goal
 
@@ -27,7 +27,7 @@ resize-requires-clause-fits g c out there =
     let t = rw (c.in-None.is, c.in-Some-back.is) at c.in-Ok.ensures.touched in
     let e : Some out ≡ Some c.in-Some-back.back.region = sym there ∙ t.back_is.0.there in
     let same : out ≡ c.in-Some-back.back.region = cc in
-    rw same (back_fits c.requires.region _ t.each (shown_apart k) t.back_is.0.is_region t.back_is.1 (others_apart k c.in-Some-back.back.object t.back_is.0.there) t.front_is)
+    rw same (back_fits c.requires.region _ t.each (all_regions _ (shown_apart k)) t.back_is.0.is_region t.back_is.1 (others_apart k c.in-Some-back.back.object t.back_is.0.there) t.front_is)
 
 pub resize-requires-in-None-back-2-clause-fits : goal.resize-requires-in-None-back-2-clause-fits
 resize-requires-in-None-back-2-clause-fits g c out there =
@@ -35,7 +35,7 @@ resize-requires-in-None-back-2-clause-fits g c out there =
     let t = rw (c.in-Some.is, c.in-None-back-2.is) at c.in-Ok.ensures.touched in
     let e : Some out ≡ Some c.in-Some.front.region = sym there ∙ t.front_is.0.there in
     let same : out ≡ c.in-Some.front.region = cc in
-    rw same (front_fits c.requires.region _ t.each (shown_apart k) t.front_is.0.is_region t.front_is.1 (others_apart k c.in-Some.front.object t.front_is.0.there) t.back_is)
+    rw same (front_fits c.requires.region _ t.each (all_regions _ (shown_apart k)) t.front_is.0.is_region t.front_is.1 (others_apart k c.in-Some.front.object t.front_is.0.there) t.back_is)
 
 pub resize-requires-in-Some-back-2-clause-fits : goal.resize-requires-in-Some-back-2-clause-fits
 resize-requires-in-Some-back-2-clause-fits g c out there =
@@ -51,19 +51,19 @@ resize-requires-in-Some-back-2-clause-fits g c out there =
 pub returns-in-None-back-clause-freed : goal.returns-in-None-back-clause-freed
 returns-in-None-back-clause-freed g c =
     let t = rw (c.in-None.is, c.in-None-back.is) at c.in-Ok.ensures.touched in
-    on_ok c.put_in.result (adds_frees c.requires.region (none_touches c.requires.region _ t.each t.front_is t.back_is)) c.put_in.ensures.put
+    on_ok c.put_in.result (adds_frees c.requires.region (none_touches c.args.region _ t.each t.front_is t.back_is)) c.put_in.ensures.put
 
 pub returns-in-Some-back-clause-freed : goal.returns-in-Some-back-clause-freed
 returns-in-Some-back-clause-freed g c =
     let k = c.requires.kept in
     let t = rw (c.in-None.is, c.in-Some-back.is) at c.in-Ok.ensures.touched in
-    back_frees c.requires.region _ t.each (shown_apart k) t.back_is.0.is_region t.back_is.1 (c.resize.ensures.resized c.in-Some-back.back.region t.back_is.0.there)
+    back_frees c.requires.region _ t.each (all_regions _ (shown_apart k)) t.back_is.0.is_region t.back_is.1 (c.resize.ensures.resized c.in-Some-back.back.region t.back_is.0.there)
 
 pub returns-in-None-back-2-clause-freed : goal.returns-in-None-back-2-clause-freed
 returns-in-None-back-2-clause-freed g c =
     let k = c.requires.kept in
     let t = rw (c.in-Some.is, c.in-None-back-2.is) at c.in-Ok.ensures.touched in
-    front_frees c.requires.region _ t.each (shown_apart k) t.front_is.0.is_region t.front_is.1 (c.resize-in-None-back-2.ensures.resized c.in-Some.front.region t.front_is.0.there)
+    front_frees c.requires.region _ t.each (all_regions _ (shown_apart k)) t.front_is.0.is_region t.front_is.1 (c.resize-in-None-back-2.ensures.resized c.in-Some.front.region t.front_is.0.there)
 
 pub returns-in-Some-back-2-clause-freed : goal.returns-in-Some-back-2-clause-freed
 returns-in-Some-back-2-clause-freed g c =
@@ -79,14 +79,14 @@ returns-in-Some-back-2-clause-freed g c =
 pub returns-in-Some-back-clause-full : goal.returns-in-Some-back-clause-full
 returns-in-Some-back-clause-full g c full new =
     let t = rw (c.in-None.is, c.in-Some-back.is) at c.in-Ok.ensures.touched in
-    absurd (touches_back c.requires.region c.in-Some-back.back.region t.back_is.1 (at_region c.requires.kept c.in-Some-back.back.object t.back_is.0.there (AreApart c.args.region) new.1))
+    absurd (touches_back c.args.region c.in-Some-back.back.region t.back_is.1 (at_region c.requires.kept c.in-Some-back.back.object t.back_is.0.there (AreApart c.args.region) new.1))
 
 pub returns-in-None-back-2-clause-full : goal.returns-in-None-back-2-clause-full
 returns-in-None-back-2-clause-full g c full new =
     let t = rw (c.in-Some.is, c.in-None-back-2.is) at c.in-Ok.ensures.touched in
-    absurd (touches_front c.requires.region c.in-Some.front.region t.front_is.1 (at_region c.requires.kept c.in-Some.front.object t.front_is.0.there (AreApart c.args.region) new.1))
+    absurd (touches_front c.args.region c.in-Some.front.region t.front_is.1 (at_region c.requires.kept c.in-Some.front.object t.front_is.0.there (AreApart c.args.region) new.1))
 
 pub returns-in-Some-back-2-clause-full : goal.returns-in-Some-back-2-clause-full
 returns-in-Some-back-2-clause-full g c full new =
     let t = rw (c.in-Some.is, c.in-Some-back-2.is) at c.in-Ok.ensures.touched in
-    absurd (touches_front c.requires.region c.in-Some.front.region t.front_is.1 (at_region c.requires.kept c.in-Some.front.object t.front_is.0.there (AreApart c.args.region) new.1))
+    absurd (touches_front c.args.region c.in-Some.front.region t.front_is.1 (at_region c.requires.kept c.in-Some.front.object t.front_is.0.there (AreApart c.args.region) new.1))

@@ -8,7 +8,7 @@ resize-requires-clause-fits g c out there =
     let f = c.requires.found in
     let e : Some out ≡ Some c.args.found.region = sym there ∙ f.there in
     let same : out ≡ c.args.found.region = cc in
-    rw same (cut_fits c.args.length (c.args.found.region.length - c.args.length) (omega (arith, c.requires.enough)) (omega (arith, c.if-rest-eq0.false)) f.is_region
+    rw same (cut_fits c.args.length (c.args.found.region.length - c.args.length) (omega (arith, c.requires.enough)) (omega (arith, c.if-rest-eq0.false)) f.is_region _
     (others_apart c.requires.kept c.args.found.object f.there))
 
 pub returns-then-rest-eq0-clause-cut : goal.returns-then-rest-eq0-clause-cut
