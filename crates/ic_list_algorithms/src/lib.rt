@@ -12,6 +12,7 @@
 
 mod following;
 mod keeps;
+mod member_values;
 mod merge;
 mod precedes;
 mod sift;
@@ -20,9 +21,9 @@ mod walks;
 mod whole;
 
 pub use following::Following;
-pub use merge::merge_by;
+pub use merge::{merge_by, merge_keyed};
 pub use precedes::{By, Counted, Natural, Precedes};
 pub use sift::{dedup_by, retain};
-pub use sort::sort_by;
+pub use sort::{sort_by, sort_keyed};
 pub use walks::{find, is_sorted_by, len, nth, position};
 pub use whole::{append, append_walking, rotate_left};
