@@ -1,5 +1,5 @@
 -- For callers: what is held after a call.
-use Rattle.std.proofs.Common.{◌↔◌, ℕ, Bool, true, false, IsTrue, Option, Some, List, [], ◌∷◌, ◌++◌, refl, subst}
+use Rattle.std.proofs.Common.{◌≡◌, ◌↔◌, ℕ, Bool, true, false, IsTrue, Option, Some, List, [], ◌∷◌, ◌++◌, refl, subst, ◌∙◌}
 use Rattle.std.specs.Bool.{OnFalse, ⊤}
 use Rattle.ic_unsafe_ref.specs.declared.place.Place.{Place}
 use Rattle.ic_unsafe_ref.specs.Objects.{Objects}
@@ -48,3 +48,19 @@ removed_some P Q false s held iff removed nothing same = (s, same nothing)
 pub taken_some : (P Q : List Place → Type 0) {is : Place → Bool} {p : Place} (s : List Place) → P s → Finds is s (Some p) → ((front back : List Place) → P (front ++ p ∷ back) → Q (front ++ back))
     → (u : List Place) × Q u
 taken_some P Q {p = p} s held found removed = (found.0 ++ found.1, removed found.0 found.1 (subst P found.2 held))
+
+-- A TABLE OF THE SAME PARTS holds what the old one held, as `from_buckets` makes it
+pub held_again : {E A B V : Type 0} {successor : E → Successor} {hash : A → V → ℕ} {fronts : B → List (Option Place)} {t : Table E} {old new : HashTable A B} {objects : Objects V}
+    → new.adapter ≡ old.adapter → fronts new.buckets ≡ fronts old.buckets → new.slots ≡ old.slots → new.len ≡ old.len
+    → HoldsSome successor hash fronts t old objects → HoldsSome successor hash fronts t new objects
+held_again {fronts = fronts} {new = new} adapter buckets slots len (s, held) = (
+  s,
+  record {
+    distinct = held.distinct;
+    chained = rw (adapter, buckets, slots) held.chained;
+    placed = held.placed;
+    counted = len ∙ held.counted;
+    well_formed = rw slots held.well_formed;
+    enough = rw (buckets, slots) held.enough;
+  },
+)

@@ -1,7 +1,9 @@
 -- A chain that is parted in two, one member after the other.
-use Rattle.std.proofs.Common.{◌≡◌, ◌≢◌, Bool, true, false, Option, Some, None, List, [], ◌∷◌, ◌++◌, drop, length, refl, sym, ap, ◌∙◌, subst, arith, append_assoc, append-nil}
+use Rattle.std.proofs.Common.{◌≡◌, ◌≢◌, inl, inr, Bool, true, false, Option, Some, None, List, [], ◌∷◌, ◌++◌, drop, length, refl, sym, ap, ◌∙◌, subst, arith, append_assoc, append-nil}
 use Rattle.std.specs.List.{AllByRecursion}
+use Rattle.std.specs.Cmp.{IsPartialEquivalence}
 use Rattle.ic_unsafe_ref.specs.declared.place.Place.{Place}
+use Rattle.ic_unsafe_ref.proofs.PlaceLemmas.{same_or_not}
 use Rattle.ic_link_ops.specs.Chains.{IsChain}
 use Rattle.ic_link_ops.specs.Sequences.{IsAbsent, IsMember, IsDistinct}
 use Rattle.ic_link_ops.specs.Tables.{Table}
@@ -9,7 +11,9 @@ use Rattle.ic_link_ops.specs.SinglyLinkedList.{Successor, IsFollowed}
 use Rattle.ic_link_ops.proofs.Chains.{chain_cut}
 use Rattle.ic_link_ops.proofs.Each.{all_back}
 use Rattle.ic_link_ops.proofs.SequenceLemmas.{absent_left, absent_right, absent_with, absent_without, distinct_insert, distinct_right, first_is, member_split}
-use Rattle.ic_hash_table.specs.Growth.{IsParted}
+use Rattle.ic_hash_table.specs.Growth.{AreTurned, IsParted}
+use Rattle.ic_hash_table.specs.SideBySide.{AreSideBySide}
+use Rattle.ic_hash_table.proofs.SideBySideSequences.{spans}
 use Rattle.ic_hash_table.specs.Chains.{ShowsFrom}
 use Rattle.ic_link_ops.proofs.ShownLists.{shows_beside}
 
@@ -54,6 +58,10 @@ module _ {E : Type 0} {successor : E → Successor} where
       within = λ q out. rw (append-nil chain) out;
       all = λ q out. rw (append-nil chain) at out;
       count = omega arith;
+      passed = [];
+      cut = refl;
+      among = λ q out. tt;
+      beside = λ alike laws side. (record { side = tt; next = λ x y mine none. absurd (none tt) }, record { side = tt; next = λ x y mine none. absurd (none tt) });
     }
 
     module _ {old : Table E} {chain : List Place} {stays moves : Option Place} {p : Place} (k : IsParted successor is old chain (Some p) stays moves) where
@@ -75,6 +83,31 @@ module _ {E : Type 0} {successor : E → Successor} where
 
       pub left_linked : (successor (old.entry p)).linked ≡ true
       left_linked = left_shown.chain.0.linked
+
+      -- it has passed
+      cut_behind : chain ≡ (k.passed ++ p ∷ []) ++ drop 1 k.left
+      cut_behind = k.cut ∙ ap (λ l. k.passed ++ l) left_is ∙ sym (append_assoc k.passed (p ∷ []) (drop 1 k.left))
+
+      passed_absent : (q : Place) → IsAbsent q (k.passed ++ p ∷ []) → (q ≢ p) × IsAbsent q (k.staying ++ k.moving)
+      passed_absent q out = ((absent_right q k.passed (p ∷ []) out).0, k.among q (absent_left q k.passed (p ∷ []) out))
+
+      -- it is put in front of those among the passed that go where it goes, and in front of no others
+      module _ {alike : Place → Place → Bool} (laws : IsPartialEquivalence alike) (side : AreSideBySide alike chain) where
+        turned_on : {out : List Place} → AreTurned alike k.left out → ((q : Place) → IsAbsent q k.passed → IsAbsent q out) → AreTurned alike (drop 1 k.left) (p ∷ out)
+        turned_on {out} t among = record {
+          side = ((λ y member same. t.next p y (λ o. (subst (IsAbsent p) left_is o).0 refl) member same), t.side);
+          next = λ x y mine member same. elim (same_or_not y p) [
+            | inl e ↦ subst (λ z. alike x z ≡ true) e same
+            | inr other ↦
+                let whole : AreSideBySide alike (k.passed ++ p ∷ drop 1 k.left) = subst (AreSideBySide alike) (k.cut ∙ ap (λ l. k.passed ++ l) left_is) side in
+                let earlier : IsMember y k.passed = λ o. member (other, among y o) in
+                let to : alike y p ≡ true = spans alike laws k.passed (drop 1 k.left) p whole y x earlier (λ o. mine o.1) (laws.symm y x ∙ same) in
+                laws.trans x y p same to
+          ];
+        }
+
+        turned_past : {out : List Place} → AreTurned alike k.left out → AreTurned alike (drop 1 k.left) out
+        turned_past t = record { side = t.side; next = λ x y mine. t.next x y (λ o. mine (subst (IsAbsent x) left_is o).1) }
 
       -- it is a member of the chain
       pub left_member : IsMember p chain
@@ -101,6 +134,12 @@ module _ {E : Type 0} {successor : E → Successor} where
               within = λ q absent. let a = left_within q absent in absent_with l (k.staying ++ k.moving) p q a.0 a.1;
               all = λ q absent. left_all q (absent_right q l (p ∷ k.staying ++ k.moving) absent).0 (absent_without l (k.staying ++ k.moving) p q absent);
               count = omega (arith, k.count, ap length left_is);
+              passed = k.passed ++ p ∷ [];
+              cut = cut_behind;
+              among = λ q absent. passed_absent q absent;
+              beside = λ alike laws side.
+                  let b = k.beside alike laws side in
+                  (turned_on laws side b.0 (λ q absent. absent_left q k.staying k.moving (k.among q absent)), turned_past laws side b.1);
             }
 
         -- it moves
@@ -127,6 +166,12 @@ module _ {E : Type 0} {successor : E → Successor} where
                   let a = subst (IsAbsent q) (sym with) absent in
                   left_all q (absent_right q (l ++ k.staying) (p ∷ k.moving) a).0 (subst (IsAbsent q) without (absent_without (l ++ k.staying) k.moving p q a));
               count = omega (arith, k.count, ap length left_is);
+              passed = k.passed ++ p ∷ [];
+              cut = cut_behind;
+              among = λ q absent. let a = passed_absent q absent in absent_with k.staying k.moving p q a.0 a.1;
+              beside = λ alike laws side.
+                  let b = k.beside alike laws side in
+                  (turned_past laws side b.0, turned_on laws side b.1 (λ q absent. absent_right q k.staying k.moving (k.among q absent)));
             }
 
         -- whichever it does

@@ -1,6 +1,7 @@
 -- A hash table of which one chain was parted in two.
 use Rattle.std.proofs.Common.{◌≡◌, ◌≢◌, ℕ, ◌<◌, Bool, true, false, eqb-true, eq-eqb, true≢false, Option, Some, None, IsSome, List, [], ◌∷◌, ◌++◌, length, length-append, slice_index_or, slice_set, refl, sym, ap, ◌∙◌, subst, arith}
 use Rattle.std.specs.List.{AllByRecursion}
+use Rattle.std.specs.Cmp.{IsPartialEquivalence}
 use Rattle.std.proofs.lemmas.List.{get_or-set_other, length-set}
 use Rattle.ic_unsafe_ref.specs.declared.place.Place.{Place}
 use Rattle.ic_unsafe_ref.specs.Objects.{Objects, object_at}
@@ -17,7 +18,10 @@ use Rattle.ic_hash_table.specs.HashTable.{BelongsIn, Holds}
 use Rattle.ic_hash_table.specs.Searches.{matches, passes}
 use Rattle.ic_hash_table.specs.Growth.{belongs_at, IsParted, HoldsSameMembers}
 use Rattle.ic_hash_table.proofs.Chains.{Between, chain_at}
+use Rattle.ic_hash_table.specs.SideBySide.{AreSideBySide}
 use Rattle.ic_hash_table.proofs.ChainParts.{of_members}
+use Rattle.ic_hash_table.proofs.SideBySideSequences.{front_beside, back_beside}
+use Rattle.ic_hash_table.proofs.SideBySideChains.{BelongTogether, middle_beside}
 use Rattle.ic_hash_table.proofs.SlotLemmas.{slot_used}
 
 -- a test of the object at a place, where one stands
@@ -164,33 +168,57 @@ module _ {E A B V : Type 0} (successor : E → Successor) (hash : A → V → �
           let chain = all_parts q (absent_both q part.staying part.moving (absent_left q part.staying c.behind rest) (absent_left q part.moving new_chain.behind tail)) in
           subst (IsAbsent q) (sym c.parts) (absent_both q c.ahead (c.chain ++ c.behind) (absent_left q c.ahead (part.staying ++ c.behind) stay) (absent_both q c.chain c.behind chain (absent_right q part.staying c.behind rest)))
 
+      -- the members then: those that move stand where their chain does
+      abbrev grown : List Place
+      grown = new_chain.ahead ++ (part.moving ++ new_chain.behind)
+
+      grown_holds : Holds successor hash fronts new (record { adapter = table.adapter; buckets = buckets; slots = slots; len = table.len }) objects grown
+      grown_holds =
+          let c = parted_chain in record {
+            distinct = distinct_again;
+            chained = chained_moves;
+            placed = of_members (λ p. IsSome (object_at objects p)) s (new_chain.ahead ++ (part.moving ++ new_chain.behind)) within_again held.placed;
+            counted = omega (
+              arith,
+              held.counted,
+              ap length c.parts,
+              length-append c.ahead (c.chain ++ c.behind),
+              length-append c.chain c.behind,
+              part.count,
+              ap length no_left,
+              ap length new_parts,
+              length-append c.ahead (part.staying ++ c.behind),
+              length-append part.staying c.behind,
+              length-append new_chain.ahead new_chain.behind,
+              length-append new_chain.ahead (part.moving ++ new_chain.behind),
+              length-append part.moving new_chain.behind,
+            );
+            well_formed = well_formed;
+            enough = omega (arith, split.used, room, ap length second_set, length-set (fronts middle) table.slots.used moves, ap length first_set, length-set (fronts table.buckets) (split_of slots table.slots.used) stays);
+          }
+
       -- IT HOLDS THE SAME MEMBERS
       pub held_grown : HoldsSameMembers successor hash fronts new (record { adapter = table.adapter; buckets = buckets; slots = slots; len = table.len }) objects s
-      held_grown =
-          let c = parted_chain in record {
-            members = new_chain.ahead ++ (part.moving ++ new_chain.behind);
-            holds = record {
-              distinct = distinct_again;
-              chained = chained_moves;
-              placed = of_members (λ p. IsSome (object_at objects p)) s (new_chain.ahead ++ (part.moving ++ new_chain.behind)) within_again held.placed;
-              counted = omega (
-                arith,
-                held.counted,
-                ap length c.parts,
-                length-append c.ahead (c.chain ++ c.behind),
-                length-append c.chain c.behind,
-                part.count,
-                ap length no_left,
-                ap length new_parts,
-                length-append c.ahead (part.staying ++ c.behind),
-                length-append part.staying c.behind,
-                length-append new_chain.ahead new_chain.behind,
-                length-append new_chain.ahead (part.moving ++ new_chain.behind),
-                length-append part.moving new_chain.behind,
-              );
-              well_formed = well_formed;
-              enough = omega (arith, split.used, room, ap length second_set, length-set (fronts middle) table.slots.used moves, ap length first_set, length-set (fronts table.buckets) (split_of slots table.slots.used) stays);
-            };
-            within = within_again;
-            all = all_again;
-          }
+      held_grown = record { members = grown; holds = grown_holds; within = within_again; all = all_again }
+
+      -- AND THOSE WITH EQUAL KEYS STAND SIDE BY SIDE STILL, in each chain
+      pub beside_grown : {alike : Place → Place → Bool} → IsPartialEquivalence alike → BelongTogether (BelongsIn table.slots (hash table.adapter) objects) alike
+          → BelongTogether (BelongsIn slots (hash table.adapter) objects) alike → AreSideBySide alike s
+          → (u : List Place) × Holds successor hash fronts new (record { adapter = table.adapter; buckets = buckets; slots = slots; len = table.len }) objects u × AreSideBySide alike u
+      beside_grown {alike} laws together together_new side =
+          let c = parted_chain in
+          let n = new_chain in
+          let Old = BelongsIn table.slots (hash table.adapter) objects in
+          let New = BelongsIn slots (hash table.adapter) objects in
+          let whole = subst (AreSideBySide alike) c.parts side in
+          let rest = back_beside alike c.ahead (c.chain ++ c.behind) whole in
+          let turned = part.beside alike laws (front_beside alike c.chain c.behind rest) in
+          let own = of_members (Old (split_of slots table.slots.used)) c.chain part.staying (λ q out. absent_left q part.staying part.moving (within_parts q out)) c.own in
+          let stays = middle_beside Old alike together (split_of slots table.slots.used) c.ahead part.staying c.behind (front_beside alike c.ahead (c.chain ++ c.behind) whole) turned.0.side
+          (back_beside alike c.chain c.behind rest) c.ahead_below own c.behind_above in
+          let again = subst (AreSideBySide alike) new_parts stays in (
+            grown,
+            grown_holds,
+            middle_beside New alike together_new table.slots.used n.ahead part.moving n.behind (front_beside alike n.ahead n.behind again) turned.1.side (back_beside alike n.ahead n.behind again)
+                n.ahead_below (all_map (moves_belong table.slots slots (hash table.adapter) objects split) part.moving part.move) n.behind_above,
+          )

@@ -11,4 +11,6 @@ pub mod RemainingMembers
 pub mod RetainedMembers
 pub mod ShrunkTables
 pub mod SlotLemmas
+pub mod SideBySideSequences
 pub mod SideBySideLemmas
+pub mod SideBySideChains

@@ -1,12 +1,13 @@
 -- A hash table of which the last chain was joined to the one that growth would part it from.
-use Rattle.std.proofs.Common.{◌≡◌, ◌≢◌, ℕ, ◌<◌, Option, None, IsSome, List, [], ◌++◌, length, length-append, slice_index_or, slice_set, refl, sym, ap, ◌∙◌, subst, arith, append_assoc}
+use Rattle.std.proofs.Common.{◌≡◌, ◌≢◌, ℕ, ◌<◌, Bool, Option, None, IsSome, List, [], ◌++◌, length, length-append, slice_index_or, slice_set, refl, sym, ap, ◌∙◌, subst, arith, append_assoc}
 use Rattle.std.proofs.lemmas.List.{get_or-set_other, length-set}
+use Rattle.std.specs.List.{AllByRecursion}
 use Rattle.ic_unsafe_ref.specs.declared.place.Place.{Place}
 use Rattle.ic_unsafe_ref.specs.Objects.{Objects, object_at}
 use Rattle.ic_link_ops.specs.Sequences.{IsAbsent, IsDistinct, IsDisjoint}
 use Rattle.ic_link_ops.specs.Tables.{Table, KeepsBeside}
 use Rattle.ic_link_ops.specs.SinglyLinkedList.{Successor}
-use Rattle.ic_link_ops.proofs.Each.{all_both, all_map}
+use Rattle.ic_link_ops.proofs.Each.{all_back, all_both, all_front, all_map}
 use Rattle.ic_link_ops.proofs.SequenceLemmas.{absent_both, absent_left, absent_right, distinct_disjoint, distinct_left, distinct_right, distinct_splice, disjoint_nothing}
 use Rattle.ic_hash_table.specs.declared.slots.Slots.{Slots}
 use Rattle.ic_hash_table.specs.declared.table.HashTable.{HashTable}
@@ -14,7 +15,10 @@ use Rattle.ic_hash_table.specs.Slots.{split_of, IsWellFormed, IsSplit}
 use Rattle.ic_hash_table.specs.Chains.{AreChained, ShowsFrom}
 use Rattle.ic_hash_table.specs.HashTable.{BelongsIn, Holds}
 use Rattle.ic_hash_table.specs.Growth.{HoldsSameMembers}
+use Rattle.ic_hash_table.specs.SideBySide.{AreSideBySide}
 use Rattle.ic_hash_table.proofs.Chains.{Between, chain_at}
+use Rattle.ic_hash_table.proofs.SideBySideSequences.{join_beside, front_beside, back_beside}
+use Rattle.ic_hash_table.proofs.SideBySideChains.{BelongTogether, in_others, middle_beside}
 use Rattle.ic_hash_table.proofs.ChainParts.{of_members, nothing_shown}
 use Rattle.ic_hash_table.proofs.GrownTables.{without_middle, middle_apart}
 use Rattle.ic_hash_table.proofs.HeldTables.{middle_ahead, middle_behind}
@@ -116,6 +120,24 @@ module _ {E : Type 0} (successor : E → Successor) (Belongs Fewer : ℕ → Pla
       j.put Fewer (λ i p n b. b) front (l.chain ++ j.chain) (l.chain ++ j.chain) shown (all_both (Fewer to) l.chain j.chain (all_map moved l.chain l.own) j.own)
       (middle_ahead j.ahead (l.chain ++ j.chain) j.behind joined_distinct) (middle_behind j.ahead (l.chain ++ j.chain) j.behind joined_distinct) frame.others
 
+  -- ALIKE MEMBERS STAND SIDE BY SIDE STILL: none of the last chain is alike one of the other
+  pub joined_beside : {alike : Place → Place → Bool} → BelongTogether Belongs alike → BelongTogether Fewer alike → AreSideBySide alike s → AreSideBySide alike joined
+  joined_beside {alike} together fewer side =
+      let l = last_chain in
+      let j = joined_chain in
+      let Elsewhere : Place → Type 0 = λ p. (i : ℕ) × (i ≢ last) × Belongs i p in
+      let split = subst (AreSideBySide alike) l.parts side in
+      let rest = back_beside alike l.ahead (l.chain ++ l.behind) split in
+      let beside = middle_beside Belongs alike together last l.ahead [] l.behind (front_beside alike l.ahead (l.chain ++ l.behind) split) tt (back_beside alike l.chain l.behind rest) l.ahead_below tt l.behind_above in
+      let parts = subst (AreSideBySide alike) j.parts beside in
+      let end = back_beside alike j.ahead (j.chain ++ j.behind) parts in
+      let others = subst (AllByRecursion Elsewhere) j.parts (all_both Elsewhere l.ahead l.behind l.ahead_others l.behind_others) in
+      let strangers = all_front Elsewhere j.chain j.behind (all_back Elsewhere j.ahead (j.chain ++ j.behind) others) in
+      let both = join_beside alike l.chain j.chain (front_beside alike l.chain l.behind rest) (front_beside alike j.chain j.behind end)
+      (in_others Belongs alike together (λ i. i ≡ last) (λ i. i ≢ last) (λ i e other. other e) l.chain j.chain (all_map (λ p o. (last, refl, o)) l.chain l.own) strangers) in
+      middle_beside Fewer alike fewer to j.ahead (l.chain ++ j.chain) j.behind (front_beside alike j.ahead (j.chain ++ j.behind) parts) both (back_beside alike j.chain j.behind end)
+      j.ahead_below (all_both (Fewer to) l.chain j.chain (all_map moved l.chain l.own) j.own) j.behind_above
+
 -- where fewer chains are in use, what belongs in another than the last belongs there still, and what belonged in the last goes back
 module _ {V : Type 0} (small large : Slots) (hash : V → ℕ) (objects : Objects V) (split : IsSplit small large) where
   pub others_belong : (j : ℕ) (p : Place) → j ≢ small.used → BelongsIn large hash objects j p → BelongsIn small hash objects j p
@@ -133,8 +155,12 @@ module _ {E A B V : Type 0} (successor : E → Successor) (hash : A → V → �
       → IsDisjoint s t → ShowsFrom successor new front (s ++ t))
       (frame : (s t : List Place) → ShowsFrom successor old (slice_index_or (fronts table.buckets) slots.used None) s → ShowsFrom successor old (slice_index_or (fronts table.buckets) (split_of table.slots slots.used) None) t
       → IsDisjoint s t → KeepsBeside old new (s ++ t)) where
-    pub held_shrunk : HoldsSameMembers successor hash fronts new (record { adapter = table.adapter; buckets = buckets; slots = slots; len = table.len }) objects s
-    held_shrunk =
+    abbrev shrunk : List Place
+    shrunk = joined successor (BelongsIn table.slots (hash table.adapter) objects) (BelongsIn slots (hash table.adapter) objects) slots.used (split_of table.slots slots.used) split.apart
+        (others_belong slots table.slots (hash table.adapter) objects split) (last_belong slots table.slots (hash table.adapter) objects split) old (fronts table.buckets) s held.distinct held.chained within
+
+    shrunk_holds : Holds successor hash fronts new (record { adapter = table.adapter; buckets = buckets; slots = slots; len = table.len }) objects shrunk
+    shrunk_holds =
         let Old = BelongsIn table.slots (hash table.adapter) objects in
         let New = BelongsIn slots (hash table.adapter) objects in
         let others = others_belong slots table.slots (hash table.adapter) objects split in
@@ -145,18 +171,38 @@ module _ {E A B V : Type 0} (successor : E → Successor) (hash : A → V → �
         let j_shown = joined_shown successor Old New slots.used to split.apart others moved old (fronts table.buckets) s held.distinct held.chained within in
         let apart = chains_apart successor Old New slots.used to split.apart others moved old (fronts table.buckets) s held.distinct held.chained within in
         record {
-          members = joined successor Old New slots.used to split.apart others moved old (fronts table.buckets) s held.distinct held.chained within;
-          holds = record {
-            distinct = joined_distinct successor Old New slots.used to split.apart others moved old (fronts table.buckets) s held.distinct held.chained within;
-            chained = subst (λ f. AreChained successor New new 0 f (joined successor Old New slots.used to split.apart others moved old (fronts table.buckets) s held.distinct held.chained within))
-                (sym (joined_set ∙ ap (λ f. slice_set f to front) last_set))
-                (joined_chained successor Old New slots.used to split.apart others moved old (fronts table.buckets) s held.distinct held.chained within (join l.chain j.chain l.shown j_shown apart) (frame l.chain j.chain l.shown j_shown apart));
-            placed = of_members (λ p. IsSome (object_at objects p)) s (joined successor Old New slots.used to split.apart others moved old (fronts table.buckets) s held.distinct held.chained within)
-                (joined_within successor Old New slots.used to split.apart others moved old (fronts table.buckets) s held.distinct held.chained within) held.placed;
-            counted = held.counted ∙ sym (joined_length successor Old New slots.used to split.apart others moved old (fronts table.buckets) s held.distinct held.chained within);
-            well_formed = well_formed;
-            enough = omega (arith, split.used, held.enough, ap length joined_set, length-set (fronts middle) to front, ap length last_set, length-set (fronts table.buckets) slots.used None);
-          };
+          distinct = joined_distinct successor Old New slots.used to split.apart others moved old (fronts table.buckets) s held.distinct held.chained within;
+          chained = subst (λ f. AreChained successor New new 0 f (joined successor Old New slots.used to split.apart others moved old (fronts table.buckets) s held.distinct held.chained within))
+              (sym (joined_set ∙ ap (λ f. slice_set f to front) last_set))
+              (joined_chained successor Old New slots.used to split.apart others moved old (fronts table.buckets) s held.distinct held.chained within (join l.chain j.chain l.shown j_shown apart) (frame l.chain j.chain l.shown j_shown apart));
+          placed = of_members (λ p. IsSome (object_at objects p)) s (joined successor Old New slots.used to split.apart others moved old (fronts table.buckets) s held.distinct held.chained within)
+              (joined_within successor Old New slots.used to split.apart others moved old (fronts table.buckets) s held.distinct held.chained within) held.placed;
+          counted = held.counted ∙ sym (joined_length successor Old New slots.used to split.apart others moved old (fronts table.buckets) s held.distinct held.chained within);
+          well_formed = well_formed;
+          enough = omega (arith, split.used, held.enough, ap length joined_set, length-set (fronts middle) to front, ap length last_set, length-set (fronts table.buckets) slots.used None);
+        }
+
+    pub held_shrunk : HoldsSameMembers successor hash fronts new (record { adapter = table.adapter; buckets = buckets; slots = slots; len = table.len }) objects s
+    held_shrunk =
+        let Old = BelongsIn table.slots (hash table.adapter) objects in
+        let New = BelongsIn slots (hash table.adapter) objects in
+        let others = others_belong slots table.slots (hash table.adapter) objects split in
+        let moved = last_belong slots table.slots (hash table.adapter) objects split in
+        let to = split_of table.slots slots.used in
+        record {
+          members = shrunk;
+          holds = shrunk_holds;
           within = joined_within successor Old New slots.used to split.apart others moved old (fronts table.buckets) s held.distinct held.chained within;
           all = joined_all successor Old New slots.used to split.apart others moved old (fronts table.buckets) s held.distinct held.chained within;
         }
+
+    -- AND THOSE WITH EQUAL KEYS STAND SIDE BY SIDE STILL
+    pub beside_shrunk : {alike : Place → Place → Bool} → BelongTogether (BelongsIn table.slots (hash table.adapter) objects) alike → BelongTogether (BelongsIn slots (hash table.adapter) objects) alike
+        → AreSideBySide alike s → (u : List Place) × Holds successor hash fronts new (record { adapter = table.adapter; buckets = buckets; slots = slots; len = table.len }) objects u × AreSideBySide alike u
+    beside_shrunk together fewer side =
+        let Old = BelongsIn table.slots (hash table.adapter) objects in
+        let New = BelongsIn slots (hash table.adapter) objects in
+        let others = others_belong slots table.slots (hash table.adapter) objects split in
+        let moved = last_belong slots table.slots (hash table.adapter) objects split in
+        let to = split_of table.slots slots.used in
+        (shrunk, shrunk_holds, joined_beside successor Old New slots.used to split.apart others moved old (fronts table.buckets) s held.distinct held.chained within together fewer side)

@@ -1,4 +1,4 @@
--- Alike members that stand side by side, where one is put in, and where one is taken out.
+-- Members with equal keys that stand side by side, where one is put in.
 use Rattle.std.proofs.Common.{◌≡◌, ◌≢◌, ℕ, drop, Bool, true, false, true≢false, Option, Some, None, IfSome, List, [], ◌∷◌, ◌++◌, refl, sym, ap, subst, ◌∙◌, inl, inr}
 use Rattle.std.specs.List.{AllByRecursion}
 use Rattle.std.specs.Cmp.{IsPartialEquivalence, IsEquivalence}
@@ -16,66 +16,8 @@ use Rattle.ic_hash_table.specs.Slots.{slot_of}
 use Rattle.ic_hash_table.specs.Searches.{passes, has_key, Finds, StopsAt}
 use Rattle.ic_hash_table.specs.SideBySide.{AreSideBySide, HoldsSideBySide, same_key}
 use Rattle.ic_hash_table.proofs.ChainParts.{of_member}
+use Rattle.ic_hash_table.proofs.SideBySideSequences.{put_beside, spans}
 use Rattle.ic_hash_table.proofs.HeldTables.{one_cut}
-
--- of some sequence: what it begins with, whatever stands behind
-first_same : (f b c : List Place) (y : Place) → IsMember y f → first (f ++ b) ≡ first (f ++ c)
-first_same [] b c y member = absurd (member tt)
-first_same (x ∷ f) b c y member = refl
-
-if_some : {P Q : Place → Type 0} (o : Option Place) → ((q : Place) → P q → Q q) → IfSome o P → IfSome o Q
-if_some None follows h = tt
-if_some (Some q) follows h = follows q h
-
-module _ (alike : Place → Place → Bool) where
-  -- p IS PUT IN at a gap with no two members alike on its sides, in front of a member alike it or where none is
-  pub put_beside : (p : Place) (f b : List Place) → AreSideBySide alike (f ++ b) → ((x y : Place) → IsMember x f → IsMember y b → alike x y ≡ true → ⊥)
-      → ((x : Place) → IsMember x f → alike x p ≡ true → ⊥) → ((y : Place) → IsMember y b → alike p y ≡ true → IfSome (first b) (λ next. alike p next ≡ true))
-      → AreSideBySide alike (f ++ p ∷ b)
-  put_beside p [] b side apart none next = (next, side)
-  put_beside p (x ∷ f) b side apart none next = (
-    (λ y member same. elim (same_or_not y p) [
-      | inl e ↦ absurd (none x (λ out. out.0 refl) (subst (λ z. alike x z ≡ true) e same))
-      | inr other ↦
-          let out_b : IsMember y f = λ out_f. apart_or y member other out_f same in
-          subst (λ o. IfSome o (λ next. alike x next ≡ true)) (first_same f b (p ∷ b) y out_b)
-          (side.0 y (λ out. out_b (absent_left y f b out)) same)
-    ]),
-    put_beside p f b side.1 (λ z y m. apart z y (λ out. m out.1)) (λ z m. none z (λ out. m out.1)) next,
-  ) where
-    apart_or : (y : Place) → IsMember y (f ++ p ∷ b) → y ≢ p → IsAbsent y f → alike x y ≡ true → ⊥
-    apart_or y member other out_f same =
-        apart x y (λ out. out.0 refl) (λ out_b. member (absent_both y f (p ∷ b) out_f (other, out_b))) same
-
-module _ (alike : Place → Place → Bool) (laws : IsPartialEquivalence alike) where
-  -- WHAT SPANS A GAP is alike the member right behind it
-  pub spans : (f b : List Place) (q : Place) → AreSideBySide alike (f ++ q ∷ b) → (x y : Place) → IsMember x f → IsMember y (q ∷ b) → alike x y ≡ true → alike x q ≡ true
-  spans [] b q side x y member behind same = absurd (member tt)
-  spans (z ∷ []) b q side x y member behind same = elim (same_or_not x z) [
-    | inl e ↦ subst (λ x. alike x q ≡ true) (sym e) (side.0 y behind (subst (λ x. alike x y ≡ true) e same))
-    | inr other ↦ absurd (member (other, tt))
-  ]
-  spans (z ∷ w ∷ f) b q side x y member behind same = elim (same_or_not x z) [
-    | inl e ↦
-        let here : alike z y ≡ true = subst (λ x. alike x y ≡ true) e same in
-        let next : alike z w ≡ true = side.0 y (λ out. behind (absent_right y (w ∷ f) (q ∷ b) out)) here in
-        let on : alike w q ≡ true = spans (w ∷ f) b q side.1 w y (λ out. out.0 refl) behind (laws.trans w z y (laws.symm w z ∙ next) here) in
-        subst (λ x. alike x q ≡ true) (sym e) (laws.trans z w q next on)
-    | inr other ↦ spans (w ∷ f) b q side.1 x y (λ out. member (other, out)) behind same
-  ]
-
-  -- A MEMBER IS TAKEN OUT
-  pub take_beside : (p : Place) (f b : List Place) → AreSideBySide alike (f ++ p ∷ b) → AreSideBySide alike (f ++ b)
-  take_beside p [] b side = side.1
-  take_beside p (x ∷ []) b side = (
-    (λ y member same.
-        let to : alike x p ≡ true = side.0 y (λ out. member out.1) same in
-        let back : alike p x ≡ true = laws.symm p x ∙ to in
-        if_some (first b) (λ next h. laws.trans x p next to h) (side.1.0 y member (laws.trans p x y back same))),
-    side.1.1,
-  )
-  take_beside p (x ∷ w ∷ f) b side =
-      ((λ y member same. side.0 y (λ out. member (absent_without (w ∷ f) b p y out)) same), take_beside p (w ∷ f) b side.1)
 
 -- EQUAL KEYS make members alike
 module _ {V K : Type 0} {eq : K → K → Bool} (laws : IsEquivalence eq) (key_of : V → K) where

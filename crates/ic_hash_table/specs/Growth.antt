@@ -1,8 +1,9 @@
 -- A chain that is parted in two.
-use Rattle.std.specs.Prelude.{◌≡◌, ◌+◌, ℕ, Bool, true, false, nat_eq, Option, List, ◌++◌, length}
+use Rattle.std.specs.Prelude.{◌≡◌, ◌+◌, ℕ, Bool, true, false, nat_eq, Option, IfSome, List, ◌++◌, length}
+use Rattle.std.specs.Cmp.{IsPartialEquivalence}
 use Rattle.std.specs.List.{AllByRecursion}
 use Rattle.ic_unsafe_ref.specs.declared.place.Place.{Place}
-use Rattle.ic_link_ops.specs.Sequences.{IsAbsent, IsDistinct}
+use Rattle.ic_link_ops.specs.Sequences.{IsAbsent, IsMember, IsDistinct, first}
 use Rattle.ic_link_ops.specs.Tables.{Table}
 use Rattle.ic_link_ops.specs.SinglyLinkedList.{Successor}
 use Rattle.ic_hash_table.specs.declared.slots.Slots.{Slots}
@@ -11,10 +12,16 @@ use Rattle.ic_hash_table.specs.declared.table.HashTable.{HashTable}
 use Rattle.ic_hash_table.specs.HashTable.{Holds}
 use Rattle.ic_hash_table.specs.Slots.{slot_of}
 use Rattle.ic_hash_table.specs.Chains.{ShowsFrom}
+use Rattle.ic_hash_table.specs.SideBySide.{AreSideBySide}
 
 -- whether a value belongs in chain i
 abbrev pub belongs_at : {V : Type 0} → Slots → (V → ℕ) → ℕ → V → Bool
 belongs_at slots hash i value = nat_eq (slot_of slots (hash value)) i
+
+-- ALIKE MEMBERS of `out` stand side by side, and one of `left` that is alike any of them is alike the first
+pub record AreTurned (alike : Place → Place → Bool) (left out : List Place) : Type 0 where
+  pub side : AreSideBySide alike out
+  pub next : (x y : Place) → IsMember x left → IsMember y out → alike x y ≡ true → IfSome (first out) (λ f. alike x f ≡ true)
 
 -- `is`: whether a member moves
 module _ {E : Type 0} (successor : E → Successor) (is : Place → Bool) where
@@ -32,6 +39,11 @@ module _ {E : Type 0} (successor : E → Successor) (is : Place → Bool) where
     pub within : (q : Place) → IsAbsent q chain → IsAbsent q (left ++ (staying ++ moving))
     pub all : (q : Place) → IsAbsent q (left ++ (staying ++ moving)) → IsAbsent q chain
     pub count : length left + length staying + length moving ≡ length chain
+    -- alike members that stood side by side still do
+    pub passed : List Place
+    pub cut : chain ≡ passed ++ left
+    pub among : (q : Place) → IsAbsent q passed → IsAbsent q (staying ++ moving)
+    pub beside : (alike : Place → Place → Bool) → IsPartialEquivalence alike → AreSideBySide alike chain → AreTurned alike left staying × AreTurned alike left moving
 
 -- IT HOLDS THE MEMBERS OF s, in some order
 module _ {E A B V : Type 0} (successor : E → Successor) (hash : A → V → ℕ) (fronts : B → List (Option Place)) where

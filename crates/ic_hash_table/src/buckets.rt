@@ -8,14 +8,16 @@
 //! let table = HashTable::new(ById, buckets);
 //! ```
 
-ghost use Rattle.std.specs.Prelude.{◌≡◌, ◌<◌, None, Option, List, length, slice_index_or, set};
+ghost use Rattle.std.specs.Prelude.{◌≡◌, ◌<◌, None, Option, List, length, map, slice_index_or, set};
 ghost use Rattle.ic_unsafe_ref.specs.declared.place.Place.{Place};
+ghost use Rattle.ic_unsafe_ref.specs.Places.{place_at};
 
 use ic_link_ops::PlaceWord;
 use ic_unsafe_ref::Place;
 use std::alloc::Allocator;
 
-/// A row of first members, of fixed length: a `Vec` that the caller has made, or an array. It has no call that could take memory.
+/// A row of first members, of fixed length: a `Vec` that the caller has made, an array, or memory that is lent. It has no call that could
+/// take memory.
 pub trait Buckets {
     // The first member of each chain, none where it is empty.
     ghost fronts: { Self → List (Option Place) };
@@ -92,5 +94,43 @@ impl Buckets for &mut [PlaceWord] {
     #[inline]
     fn set_front(&mut self, at: usize, front: Option<Place>) {
         self[at] = PlaceWord::of(front);
+    }
+}
+
+// The place that a word names, and none where it is no place's word.
+#[inline]
+#[tactic(auto, using(ic_unsafe_ref::proofs::PlaceLemmas::place_at_other))]
+fn place_named_by(word: u64) -> Option<Place>
+    ensures { result ≡ place_at word }
+{
+    if word % 8 != 0 || word >= 68_719_476_736 {
+        return None;
+    }
+    Place::from_word(word)
+}
+
+/// Buckets that are plain words of memory that is lent, as of a file that is mapped: a bucket is the word of its chain's first member,
+/// `8 * (index + 1)`, and 0 where the chain is empty.
+///
+/// Every number is a bucket: one that is no place's word is read as 0 is. [`HashTable::from_buckets`](crate::HashTable::from_buckets)
+/// makes a table of words that were written before.
+impl Buckets for &mut [u64] {
+    ghost fronts = { λ words. map place_at words.now };
+
+    #[inline]
+    fn count(&self) -> usize {
+        let words = &**self;
+        words.len()
+    }
+
+    #[inline]
+    fn front(&self, at: usize) -> Option<Place> {
+        let words = &**self;
+        place_named_by(words[at])
+    }
+
+    #[inline]
+    fn set_front(&mut self, at: usize, front: Option<Place>) {
+        self[at] = Place::to_word(front);
     }
 }

@@ -100,12 +100,14 @@ impl<A: HashAdapter, B: Buckets> HashTable<A, B> {
     ghost use Rattle.ic_hash_table.specs.HashTable.{adapter_of, slots_of, fronts_of, Holds, HoldsSome, IsShown};
     ghost use Rattle.ic_unsafe_ref.specs.Objects.{Objects};
     ghost use Rattle.ic_hash_table.specs.Growth.{HoldsSameMembers};
+    ghost use Rattle.ic_hash_table.specs.SideBySide.{HoldsSideBySide};
 
     /// Takes one bucket more into use: the members of one chain are parted between that chain and a new one. False, and nothing has
     /// changed, if all buckets are in use, or 4,294,967,295 are.
     ///
-    /// It requires that all members are placed, with the keys that they were put in by. All members stay, in some order. O(members of that
-    /// chain): one hash and one write each, no look, no link is acquired or released, and it takes no memory.
+    /// It requires that all members are placed, with the keys that they were put in by. All members stay, in some order, and where those
+    /// with equal keys stood side by side, they still do. O(members of that chain): one hash and one write each, no look, no link is
+    /// acquired or released, and it takes no memory.
     pub fn grow_one<L: SinglyLinkedListOps, O: Values<A::Value>>(
         &mut self,
         links: &mut L,
@@ -114,6 +116,8 @@ impl<A: HashAdapter, B: Buckets> HashTable<A, B> {
         requires held { HoldsSome L.successor (number A.key_of A.hash_of) B.fronts (L.table links.old) self.old (O.values objects.now) }
         ensures holds { (s : List Place) → Holds L.successor (number A.key_of A.hash_of) B.fronts (L.table links.old) self.old (O.values objects.now) s
             → OnTrue result (HoldsSameMembers L.successor (number A.key_of A.hash_of) B.fronts (L.table links.new) self.new (O.values objects.now) s) }
+        ensures beside { HoldsSideBySide L.successor (number A.key_of A.hash_of) B.fronts A.Key.eq A.key_of (L.table links.old) self.old (O.values objects.now)
+            → HoldsSideBySide L.successor (number A.key_of A.hash_of) B.fronts A.Key.eq A.key_of (L.table links.new) self.new (O.values objects.now) }
         ensures answer { IsTrue result ↔ (((slots_of self.old).used < length (fronts_of B.fronts self.old)) × ((slots_of self.old).used < 4294967295)) }
         ensures used { OnTrue result ((slots_of self.new).used ≡ (slots_of self.old).used + 1) }
         ensures full { OnFalse result ((self.new ≡ self.old) × (links.new ≡ links.old)) }
@@ -145,12 +149,14 @@ impl<A: HashAdapter, B: Buckets> HashTable<A, B> {
     /// Takes the last bucket out of use: its members go back to the chain that growth parted them from. False, and nothing has changed, if
     /// one bucket alone is in use. It undoes [`grow_one`](HashTable::grow_one), but for the order of the members.
     ///
-    /// It requires that the links show its chains, and reads no object. All members stay, in some order. O(members of that chain): no hash,
-    /// no look, no link is acquired or released, and it takes no memory.
+    /// It requires that the links show its chains, and reads no object. All members stay, in some order, and where those with equal keys
+    /// stood side by side, they still do. O(members of that chain): no hash, no look, no link is acquired or released, and it takes no memory.
     pub fn shrink_one<L: SinglyLinkedListOps>(&mut self, links: &mut L) -> bool
         requires shown { (s : List Place) × IsShown L.successor B.fronts (L.table links.old) self.old s }
         ensures holds { (objects : Objects A.Value) (s : List Place) → Holds L.successor (number A.key_of A.hash_of) B.fronts (L.table links.old) self.old objects s
             → OnTrue result (HoldsSameMembers L.successor (number A.key_of A.hash_of) B.fronts (L.table links.new) self.new objects s) }
+        ensures beside { (objects : Objects A.Value) → HoldsSideBySide L.successor (number A.key_of A.hash_of) B.fronts A.Key.eq A.key_of (L.table links.old) self.old objects
+            → HoldsSideBySide L.successor (number A.key_of A.hash_of) B.fronts A.Key.eq A.key_of (L.table links.new) self.new objects }
         ensures answer { IsTrue result ↔ (2 ≤ (slots_of self.old).used) }
         ensures used { OnTrue result ((slots_of self.old).used ≡ (slots_of self.new).used + 1) }
         ensures last { OnFalse result ((self.new ≡ self.old) × (links.new ≡ links.old)) }

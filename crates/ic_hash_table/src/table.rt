@@ -76,7 +76,9 @@ impl<A, B> HashTable<A, B> {
 }
 
 impl<A: HashAdapter, B: Buckets> HashTable<A, B> {
-    ghost use Rattle.ic_hash_table.specs.HashTable.{adapter_of, slots_of, front_at, number, Holds, HoldsSome, HoldsWith, IsNew};
+    ghost use Rattle.ic_hash_table.specs.HashTable.{adapter_of, len_of, slots_of, fronts_of, front_at, number, Holds, HoldsSome, HoldsWith, IsNew};
+    ghost use Rattle.ic_hash_table.specs.Slots.{IsWellFormed};
+    ghost use Rattle.ic_hash_table.specs.declared.slots.Slots.{Slots};
 
     /// A table with no member over these buckets, all in use: every table of links holds the empty sequence for it.
     ///
@@ -111,6 +113,41 @@ impl<A: HashAdapter, B: Buckets> HashTable<A, B> {
             slots: Slots::all(used),
             len: 0,
         }
+    }
+
+    /// A table over buckets that have members: so many chains in use, and so many members, as a table had that wrote them.
+    ///
+    /// It requires what [`with_used`](HashTable::with_used) does, but no empty buckets. It reads no link: where it is of the same parts as
+    /// a table was, what a table of links held for that one it holds for this. O(log n) of n chains, and no memory.
+    pub fn from_buckets(adapter: A, buckets: B, used: usize, len: usize) -> HashTable<A, B>
+        requires some { 1 ≤ used }
+        requires within { used ≤ length (B.fronts buckets) }
+        requires few { used ≤ 4294967296 }
+        ensures adapter { adapter_of result ≡ adapter }
+        ensures fronts { fronts_of B.fronts result ≡ B.fronts buckets }
+        ensures len { len_of result ≡ len }
+        ensures used { (slots_of result).used ≡ used }
+        ensures slots { (slots : Slots) → IsWellFormed slots → slots.used ≡ used → slots_of result ≡ slots }
+    {
+        HashTable {
+            adapter,
+            buckets,
+            slots: Slots::all(used),
+            len,
+        }
+    }
+
+    /// The buckets, with the first members that they have. [`from_buckets`](HashTable::from_buckets) makes the same table of them again. O(1).
+    pub fn into_buckets(self) -> B
+        ensures { B.fronts result ≡ fronts_of B.fronts self }
+    {
+        let HashTable {
+            adapter: _,
+            buckets,
+            slots: _,
+            len: _,
+        } = self;
+        buckets
     }
 
     /// Chain `at` as a list, to be walked by its `iter`. It requires that the chain is in use, and that all members are placed. O(1).

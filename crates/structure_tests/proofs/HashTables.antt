@@ -12,7 +12,7 @@ use Rattle.ic_hash_table.specs.declared.table.HashTable.{HashTable}
 use Rattle.ic_hash_table.specs.HashTable.{BelongsIn, IsNew}
 use Rattle.ic_hash_table.specs.SideBySide.{AreSideBySide, HoldsSideBySide}
 use Rattle.ic_hash_table.proofs.Chains.{chains_nothing}
-use Rattle.ic_hash_table.proofs.SideBySideLemmas.{take_beside}
+use Rattle.ic_hash_table.proofs.SideBySideSequences.{take_beside}
 use Rattle.ic_hash_table.specs.Searches.{Finds}
 
 -- WHATEVER AN INSERT OF A NEW KEY ANSWERED

@@ -1,11 +1,15 @@
 use Rattle.std.proofs.Common.{◌≡◌, ◌<◌, None, length, ap, subst, ◌∙◌, arith}
-use Rattle.ic_hash_table.specs.HashTable.{number}
+use Rattle.ic_hash_table.specs.declared.slots.Slots.{Slots}
+use Rattle.ic_hash_table.specs.HashTable.{number, BelongsIn}
+use Rattle.ic_hash_table.specs.SideBySide.{same_key}
 use Rattle.ic_hash_table.specs.Growth.{belongs_at, IsParted}
 use Rattle.ic_hash_table.specs.Searches.{matches}
 use Rattle.ic_hash_table.specs.Slots.{split_of}
 use Rattle.ic_hash_table.proofs.FoundMembers.{chain_placed}
-use Rattle.ic_hash_table.proofs.GrownTables.{parted_chain, held_grown}
+use Rattle.ic_hash_table.proofs.GrownTables.{parted_chain, held_grown, beside_grown}
 use Rattle.ic_hash_table.proofs.HeldTables.{frame_taken}
+use Rattle.ic_hash_table.proofs.SideBySideChains.{BelongTogether, keys_together}
+use Rattle.ic_hash_table.proofs.SideBySideLemmas.{keys_alike}
 use Rattle.ic_hash_table.proofs.table.HashTable.grow_one.Goals as goal
 
 pub part_chain-stays-requires-clause-placed : goal.part_chain-stays-requires-clause-placed
@@ -23,6 +27,23 @@ returns-clause-holds g c s held =
     (subst (λ x. IsParted g.L.SinglyLinkedListOps.successor (matches (belongs_at c.grown-slots.result (number g.A.HashAdapter.key_of g.A.HashAdapter.hash_of c.args.self.now.adapter) x) (g.O.Values.values c.args.objects.now))
     (g.L.LinkOps.table c.part_chain-stays.new.links) k.chain None c.part_chain-stays.result.0 c.part_chain-stays.result.1) c.used-to.ensures
     (c.part_chain-stays.ensures.parted k.chain (rw (c.front.ensures, e) k.shown))) (c.part_chain-stays.ensures.frame k.chain (rw (c.front.ensures, e) k.shown))
+
+pub returns-clause-beside : goal.returns-clause-beside
+returns-clause-beside g c (s, held, side) =
+    let a = c.args.self.now.adapter in
+    let by_keys : (slots : Slots) → BelongTogether (BelongsIn slots (number g.A.HashAdapter.key_of g.A.HashAdapter.hash_of a) (g.O.Values.values c.args.objects.now)) (same_key g.A.Key.PartialEq.eq (g.A.HashAdapter.key_of a) (g.O.Values.values c.args.objects.now)) =
+    λ slots. keys_together g.A.Key.PartialEq.eq (g.A.HashAdapter.key_of a) slots (number g.A.HashAdapter.key_of g.A.HashAdapter.hash_of a)
+    (λ v w e. g.met.A.HashAdapter.equal_alike a (g.A.HashAdapter.key_of a v) (g.A.HashAdapter.key_of a w) e) (g.O.Values.values c.args.objects.now) in
+    let e : c.split-from.result ≡ split_of c.grown-slots.result c.args.self.now.slots.used = c.split-from.ensures ∙ ap (split_of c.grown-slots.result) c.used-to.ensures in
+    let room : c.args.self.now.slots.used < length (g.B.Buckets.fronts c.args.self.now.buckets) = omega (arith, c.used-to.ensures, c.count.ensures, c.if-to-count.false) in
+    let k = parted_chain g.L.SinglyLinkedListOps.successor (number g.A.HashAdapter.key_of g.A.HashAdapter.hash_of) g.B.Buckets.fronts c.grown-slots.result c.grown-slots.ensures.splits room held in
+    beside_grown g.L.SinglyLinkedListOps.successor (number g.A.HashAdapter.key_of g.A.HashAdapter.hash_of) g.B.Buckets.fronts c.grown-slots.result c.grown-slots.ensures.splits room held
+    c.set_front.new.self c.set_front-2.new.self c.grown-slots.ensures.well_formed (rw e at c.set_front.ensures) (rw c.used-to.ensures at c.set_front-2.ensures)
+    (subst (λ x. IsParted g.L.SinglyLinkedListOps.successor (matches (belongs_at c.grown-slots.result (number g.A.HashAdapter.key_of g.A.HashAdapter.hash_of c.args.self.now.adapter) x) (g.O.Values.values c.args.objects.now))
+    (g.L.LinkOps.table c.part_chain-stays.new.links) k.chain None c.part_chain-stays.result.0 c.part_chain-stays.result.1) c.used-to.ensures
+    (c.part_chain-stays.ensures.parted k.chain (rw (c.front.ensures, e) k.shown))) (c.part_chain-stays.ensures.frame k.chain (rw (c.front.ensures, e) k.shown))
+    (keys_alike g.met.A.Key.Eq.laws (g.A.HashAdapter.key_of c.args.self.now.adapter) (g.O.Values.values c.args.objects.now))
+    (by_keys c.args.self.now.slots) (by_keys c.grown-slots.result) side
 
 pub returns-clause-frame : goal.returns-clause-frame
 returns-clause-frame g c s held =

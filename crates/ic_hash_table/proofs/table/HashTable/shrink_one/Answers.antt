@@ -1,8 +1,11 @@
 use Rattle.std.proofs.Common.{◌<◌, length, arith}
 use Rattle.std.specs.Bool.{⊤}
-use Rattle.ic_hash_table.specs.HashTable.{number}
+use Rattle.ic_hash_table.specs.declared.slots.Slots.{Slots}
+use Rattle.ic_hash_table.specs.HashTable.{number, BelongsIn}
+use Rattle.ic_hash_table.specs.SideBySide.{same_key}
 use Rattle.ic_hash_table.specs.Slots.{split_of}
-use Rattle.ic_hash_table.proofs.ShrunkTables.{last_chain, joined_chain, joined_shown, chains_apart, joined_frame, held_shrunk}
+use Rattle.ic_hash_table.proofs.SideBySideChains.{BelongTogether, keys_together}
+use Rattle.ic_hash_table.proofs.ShrunkTables.{last_chain, joined_chain, joined_shown, chains_apart, joined_frame, held_shrunk, beside_shrunk}
 use Rattle.ic_hash_table.proofs.table.HashTable.shrink_one.Goals as goal
 
 pub join_chains-front-requires-clause-shown : goal.join_chains-front-requires-clause-shown
@@ -29,6 +32,19 @@ returns-clause-holds g c objects s held =
     c.set_front.new.self c.set_front-2.new.self c.shrunk-slots.ensures.well_formed (rw c.used-last.ensures at c.set_front.ensures) (rw (c.split-to.ensures, c.used-last.ensures) at c.set_front-2.ensures)
     (λ l j l_shown j_shown apart. c.join_chains-front.ensures.joined l j (rw (c.front.ensures, c.used-last.ensures) l_shown) (rw (c.front-2.ensures, c.split-to.ensures, c.used-last.ensures) j_shown) apart)
     (λ l j l_shown j_shown apart. c.join_chains-front.ensures.frame l j (rw (c.front.ensures, c.used-last.ensures) l_shown) (rw (c.front-2.ensures, c.split-to.ensures, c.used-last.ensures) j_shown) apart)
+
+pub returns-clause-beside : goal.returns-clause-beside
+returns-clause-beside g c objects (s, held, side) =
+    let a = c.args.self.now.adapter in
+    let by_keys : (slots : Slots) → BelongTogether (BelongsIn slots (number g.A.HashAdapter.key_of g.A.HashAdapter.hash_of a) objects) (same_key g.A.Key.PartialEq.eq (g.A.HashAdapter.key_of a) objects) =
+    λ slots. keys_together g.A.Key.PartialEq.eq (g.A.HashAdapter.key_of a) slots (number g.A.HashAdapter.key_of g.A.HashAdapter.hash_of a)
+    (λ v w e. g.met.A.HashAdapter.equal_alike a (g.A.HashAdapter.key_of a v) (g.A.HashAdapter.key_of a w) e) objects in
+    let split = c.shrunk-slots.ensures.splits in
+    beside_shrunk g.L.SinglyLinkedListOps.successor (number g.A.HashAdapter.key_of g.A.HashAdapter.hash_of) g.B.Buckets.fronts c.shrunk-slots.result split held (omega (arith, split.used, held.enough))
+    c.set_front.new.self c.set_front-2.new.self c.shrunk-slots.ensures.well_formed (rw c.used-last.ensures at c.set_front.ensures) (rw (c.split-to.ensures, c.used-last.ensures) at c.set_front-2.ensures)
+    (λ l j l_shown j_shown apart. c.join_chains-front.ensures.joined l j (rw (c.front.ensures, c.used-last.ensures) l_shown) (rw (c.front-2.ensures, c.split-to.ensures, c.used-last.ensures) j_shown) apart)
+    (λ l j l_shown j_shown apart. c.join_chains-front.ensures.frame l j (rw (c.front.ensures, c.used-last.ensures) l_shown) (rw (c.front-2.ensures, c.split-to.ensures, c.used-last.ensures) j_shown) apart)
+    (by_keys c.args.self.now.slots) (by_keys c.shrunk-slots.result) side
 
 pub returns-clause-frame : goal.returns-clause-frame
 returns-clause-frame g c s shown =
