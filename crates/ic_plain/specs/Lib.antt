@@ -1,2 +1,3 @@
 pub mod SinglyEntries
 pub mod XorEntries
+pub mod SortedTrees

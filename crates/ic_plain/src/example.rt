@@ -4,18 +4,29 @@
 //! example::add(&mut recent, &mut links, object);
 //! example::reuse(&mut recent, &mut links, &other);  // in front of all others
 //! example::requeue(&mut waiting, &mut links, &job); // behind all others
+//!
+//! example::schedule(&mut timers, &mut links, &objects, timer);
+//! example::first_from(&timers, &links, &objects, 30); // the number of the first that is due at 30 or later
+//! example::reschedule(&mut timers, &mut links, &objects, &timer); // behind those with the same deadline
 //! ```
 
-ghost use Rattle.std.specs.Prelude.{◌++◌, ◌∷◌, [], List};
+ghost use Rattle.std.specs.Prelude.{◌≡◌, ◌++◌, ◌∷◌, [], true, List};
+ghost use Rattle.std.specs.Ordering.{nat_cmp};
 ghost use Rattle.ic_unsafe_ref.specs.declared.place.Place.{Place};
+ghost use Rattle.ic_unsafe_ref.specs.Objects.{is_placed};
 ghost use Rattle.ic_link_ops.specs.Positions.{HasMember};
 ghost use Rattle.ic_link_ops.specs.Tables.{IsCovered, IsUnlinked};
 ghost use Rattle.ic_link_ops.specs.DoublyEntries.{is_linked, plain_table, PlainShows, PlainShowsSome};
+ghost use Rattle.ic_rbtree.specs.PlainTrees as tree;
+ghost use Rattle.ic_rbtree.specs.Tree.{root_of};
+ghost use Rattle.ic_plain.specs.SortedTrees.{IsInOrder};
 
-use crate::linked_list;
+use crate::{linked_list, rbtree};
 use ic_link_ops::linked_list::LinkOps;
+use ic_link_ops::rbtree::LinkOps as TreeLinkOps;
 use ic_linked_list::LinkedList;
-use ic_unsafe_ref::UnsafeRef;
+use ic_rbtree::{KeyAdapter, RBTree};
+use ic_unsafe_ref::{Objects, UnsafeRef};
 use std::alloc::Allocator;
 
 /// Adds an object that is not linked, in front of all others.
@@ -53,4 +64,75 @@ pub fn requeue<T, A: Allocator>(
 {
     linked_list::remove(list, links, object);
     linked_list::push_back(list, links, UnsafeRef::new(object.place()));
+}
+
+/// What waits until it is due.
+#[derive(Drop)]
+pub struct Timer {
+    /// By which its owner knows it.
+    pub number: u64,
+    /// From when on it is due.
+    pub deadline: u64,
+}
+
+/// Says that the deadline of a timer is its key.
+#[derive(Clone, Copy, Default)]
+pub struct ByDeadline;
+
+impl KeyAdapter for ByDeadline {
+    type Value = Timer;
+
+    type Key = u64;
+
+    ghost key_of = { λ _ timer. timer.deadline };
+
+    #[inline]
+    fn get_key<'v>(&self, timer: &'v Timer) -> &'v u64 {
+        &timer.deadline
+    }
+}
+
+/// Adds a timer that is not linked, behind those with the same deadline or an earlier one.
+pub fn schedule<A: Allocator, B: Allocator>(
+    timers: &mut RBTree<ByDeadline>,
+    links: &mut TreeLinkOps<A>,
+    objects: &Objects<Timer, B>,
+    timer: UnsafeRef<Timer>,
+)
+    requires covered { IsCovered (tree.plain_table links.old) timer }
+    requires unlinked { IsUnlinked tree.is_linked (tree.plain_table links.old) timer }
+    requires object { is_placed objects.now timer ≡ true }
+    requires sorted { IsInOrder nat_cmp ⟦<ByDeadline as KeyAdapter>⟧.key_of (tree.plain_table links.old) timers.old objects.now }
+    ensures sorted { IsInOrder nat_cmp ⟦<ByDeadline as KeyAdapter>⟧.key_of (tree.plain_table links.new) timers.new objects.now }
+{
+    rbtree::insert(timers, links, objects, timer);
+}
+
+/// The number of the first timer that is due at this time or later, `None` if all are due before it.
+pub fn first_from<A: Allocator, B: Allocator>(
+    timers: &RBTree<ByDeadline>,
+    links: &TreeLinkOps<A>,
+    objects: &Objects<Timer, B>,
+    time: u64,
+) -> Option<u64>
+    requires sorted { IsInOrder nat_cmp ⟦<ByDeadline as KeyAdapter>⟧.key_of (tree.plain_table links.now) timers.now objects.now }
+{
+    let place = rbtree::lower_bound(timers, links, objects, &time)?;
+    Some(objects.get(place)?.number)
+}
+
+/// Takes a timer off, and puts it in again behind those with the same deadline.
+pub fn reschedule<A: Allocator, B: Allocator>(
+    timers: &mut RBTree<ByDeadline>,
+    links: &mut TreeLinkOps<A>,
+    objects: &Objects<Timer, B>,
+    timer: &UnsafeRef<Timer>,
+)
+    requires member { HasMember (tree.PlainShows links.old (root_of timers.old)) timer.now }
+    requires object { is_placed objects.now timer.now ≡ true }
+    requires sorted { IsInOrder nat_cmp ⟦<ByDeadline as KeyAdapter>⟧.key_of (tree.plain_table links.old) timers.old objects.now }
+    ensures sorted { IsInOrder nat_cmp ⟦<ByDeadline as KeyAdapter>⟧.key_of (tree.plain_table links.new) timers.new objects.now }
+{
+    rbtree::remove(timers, links, timer);
+    rbtree::insert(timers, links, objects, UnsafeRef::new(timer.place()));
 }

@@ -1,0 +1,14 @@
+use Rattle.std.proofs.Common.{Some, [], drop, ap, ◌∙◌, subst}
+use Rattle.ic_link_ops.proofs.SequenceLemmas.{first_is}
+use Rattle.ic_rbtree.specs.PlainTrees.{PlainShows}
+use Rattle.ic_rbtree.specs.Tree.{root_of}
+use Rattle.ic_plain.proofs.KeyOrder.{first_member}
+use Rattle.ic_plain.proofs.rbtree.pop_front.Goals as goal
+
+pub remove-requires : goal.remove-requires
+remove-requires g c =
+    let s = c.requires.shown in record { member = rw c.new-object.ensures (first_member s.0 s.1 (c.in_ok-first.ensures.first s.0 s.1)) }
+
+pub returns-clause-shown : goal.returns-clause-shown
+returns-clause-shown g c s shown =
+    c.remove.ensures.shown [] (drop 1 s) (subst (PlainShows c.args.links.now (root_of c.args.tree.now)) (first_is s (ap Some c.new-object.ensures ∙ c.in_ok-first.ensures.first s shown)) shown)

@@ -1,0 +1,13 @@
+use Rattle.ic_rbtree.specs.PlainTrees.{plain_table}
+use Rattle.ic_rbtree.specs.Tree.{adapter_of, root_of}
+use Rattle.ic_rbtree.proofs.PlainTrees.{plain_trees}
+use Rattle.ic_plain.specs.SortedTrees.{IsInOrder}
+use Rattle.ic_plain.proofs.KeyOrder.{removed_in_order}
+use Rattle.ic_plain.proofs.rbtree.remove.Goals as goal
+
+pub returns-clause-sorted : goal.returns-clause-sorted
+unfolding IsInOrder
+returns-clause-sorted g c objects o =
+    let e = c.remove.ensures in
+    rw e.adapter (removed_in_order g.met.K.Key.Ord.total (g.K.KeyAdapter.key_of (adapter_of c.args.tree.now)) (plain_trees.one (plain_table c.args.links.now) (root_of c.args.tree.now))
+    c.requires.member e.removed objects o)

@@ -1,0 +1,45 @@
+-- Trees whose members stand in the order of their keys.
+use Rattle.std.specs.Prelude.{Bool, not, List, ◌∷◌, ◌++◌, map}
+use Rattle.std.specs.List.{filter}
+use Rattle.std.specs.declared.cmp.Ordering.{Ordering}
+use Rattle.ic_unsafe_ref.specs.declared.place.Place.{Place}
+use Rattle.ic_unsafe_ref.specs.Objects.{Objects}
+use Rattle.ic_link_ops.specs.PlacedObjects.{ShowsPlaced, values_at}
+use Rattle.ic_link_ops.specs.Tables.{Table}
+use Rattle.ic_rbtree.specs.declared.tree.RBTree.{RBTree}
+use Rattle.ic_rbtree.specs.Borders.{IsSorted, at_most_at, equal_at, less_at}
+use Rattle.ic_rbtree.specs.Comparing.{compared, order_of, own_order}
+use Rattle.ic_rbtree.specs.PlainTrees.{TreeLink, ShowsTree}
+use Rattle.ic_rbtree.specs.Tree.{adapter_of, root_of}
+
+module _ {T K : Type 0} (cmp : K → K → Ordering) (key : T → K) where
+  -- a sequence is shown, an object stands at each of its members, and from one to the next their keys never fall
+  pub record ShowsInOrder (shows : List Place → Type 0) (objects : Objects T) : Type 0 where
+    pub placed : ShowsPlaced shows objects
+    pub sorted : IsSorted cmp (map key (values_at objects placed.members))
+
+-- `cmp`: how two keys compare. `key_of`: the key of an object, as an adapter finds it
+module _ {D T K : Type 0} (cmp : K → K → Ordering) (key_of : D → T → K) where
+  -- THE TREE IS IN ORDER: its members stand in the order of their keys, as the table shows them
+  unfoldable pub IsInOrder : Table TreeLink → RBTree D → Objects T → Type 0
+  IsInOrder t tree objects = ShowsInOrder cmp (key_of (adapter_of tree)) (ShowsTree t (root_of tree)) objects
+
+  -- THE ORDER STAYS, whatever objects there are
+  abbrev pub StaysInOrder : Table TreeLink → RBTree D → Table TreeLink → RBTree D → Type 0
+  StaysInOrder t old u new = (objects : Objects T) → IsInOrder t old objects → IsInOrder u new objects
+
+  module _ (tree : RBTree D) (objects : Objects T) where
+    -- of a sequence, the members with this key, and those with this key or a greater one
+    abbrev pub with_key : K → List Place → List Place
+    with_key key s = filter (equal_at (compared (order_of cmp (key_of (adapter_of tree)) key) objects)) s
+
+    abbrev pub from_key : K → List Place → List Place
+    from_key key s = filter (at_most_at (compared (order_of cmp (key_of (adapter_of tree)) key) objects)) s
+
+    -- whether the key of p is less than that of another place
+    abbrev pub is_before : Place → Place → Bool
+    is_before p q = less_at (compared (own_order cmp (key_of (adapter_of tree)) objects p) objects) q
+
+    -- p put in by its key: behind those whose keys are equal or less, in front of those whose keys are greater
+    abbrev pub put_by_key : List Place → Place → List Place
+    put_by_key s p = filter (λ q. not (is_before p q)) s ++ p ∷ filter (is_before p) s
