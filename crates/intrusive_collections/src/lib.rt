@@ -9,6 +9,7 @@
 //! | `linked_list` | the doubly linked list |
 //! | `singly_linked_list` | the singly linked list |
 //! | `xor_linked_list` | the XOR list: both neighbors in one word |
+//! | `plain` | the lists and the tree over plain tables, by calls that are not refused: `plain::linked_list`, `plain::rbtree` and their kin |
 //! | `list_algorithms` | algorithms over lists: `sort_by`, `merge_by`, walks, `retain` |
 //! | `ring` | rings, whose heads are places of their tables: `Ring` |
 //! | `atomic` | claims on places, which threads share, and tables of links over them: `linked_list::AtomicLinkOps` and its three kin |
@@ -49,6 +50,7 @@ pub use ic_link_ops::singly_linked_list::Link as SinglyLinkedListLink;
 pub use ic_link_ops::xor_linked_list::Link as XorLinkedListLink;
 pub use ic_linked_list::LinkedList;
 pub use ic_list_algorithms as list_algorithms;
+pub use ic_plain as plain;
 pub use ic_pool as pool;
 pub use ic_pool::{PlaceError, Pool, Tables};
 pub use ic_rbtree::key_adapter::{Bound, KeyAdapter};
