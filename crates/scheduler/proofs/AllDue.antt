@@ -1,6 +1,5 @@
 -- Timers that are due are taken off a queue, one after another.
 use Rattle.std.proofs.Common.{◌≡◌, ℕ, ◌≤◌, ◌<◌, true, Option, Some, None, List, [], ◌∷◌, ◌++◌, length, drop, refl, sym, ap, ◌∙◌, subst, arith, append_assoc, append-nil, leb-true, true≢false}
-use Rattle.std.specs.List.{AllByRecursion}
 use Rattle.ic_unsafe_ref.specs.declared.place.Place.{Place}
 use Rattle.ic_unsafe_ref.specs.Objects.{Objects, object_at}
 use Rattle.ic_link_ops.specs.Sequences.{IsAbsent, first, at_front}
@@ -9,6 +8,7 @@ use Rattle.ic_link_ops.specs.LinkSteps.{LinkStep, releases, releases_each}
 use Rattle.ic_link_ops.specs.Edits.{Removes}
 use Rattle.ic_link_ops.specs.RedBlackTree.{Node, Shows}
 use Rattle.ic_link_ops.proofs.Covering.{frames_join}
+use Rattle.ic_link_ops.proofs.Each.{all_both}
 use Rattle.ic_link_ops.proofs.SequenceLemmas.{absent_right, first_is}
 use Rattle.ic_link_ops.proofs.StepLemmas.{releases_append}
 use Rattle.ic_rbtree.specs.Borders.{if_passes}
@@ -21,10 +21,6 @@ use Rattle.scheduler.specs.Timers.{due, is_due, StandsFirst}
 due_is : {T : Type 0} (deadline : T → ℕ) (now : ℕ) (o : Option T) → due deadline now o ≡ true → key_or deadline o ≤ now
 due_is deadline now None e = absurd (true≢false (sym e))
 due_is deadline now (Some timer) e = leb-true (deadline timer) now e
-
-one_more : (P : Place → Type 0) (s : List Place) (p : Place) → AllByRecursion P s → P p → AllByRecursion P (s ++ p ∷ [])
-one_more P [] p all here = (here, tt)
-one_more P (x ∷ s) p all here = (all.0, one_more P s p all.1 here)
 
 module _ {T L E : Type 0} (deadline : T → ℕ) (n : E → Node) (table : L → Table E) (Does : L → L → List LinkStep → Type 0) (objects : Objects T) (now : ℕ) where
   -- SOME THAT ARE DUE were taken off the front of s, which `start` showed, and stand behind `items` now; the rest is shown
@@ -65,7 +61,7 @@ module _ {T L E : Type 0} {deadline : T → ℕ} {n : E → Node} {table : L →
           rest = drop 1 k.rest;
           stood = record {
             same = append_assoc k.taken (p ∷ []) (drop 1 k.rest) ∙ ap (λ (x : List Place). k.taken ++ x) (sym next_due) ∙ k.stood.same;
-            are_due = one_more (λ q. key_at deadline objects q ≤ now) k.taken p k.stood.are_due here;
+            are_due = all_both (λ q. key_at deadline objects q ≤ now) k.taken (p ∷ []) k.stood.are_due (here, tt);
           };
           held_is = held_is ∙ ap (λ (x : List Place). x ++ p ∷ []) k.held_is ∙ append_assoc items k.taken (p ∷ []);
           shown = removes.shows;

@@ -1,11 +1,9 @@
 -- Tasks by their deadlines: one more, and those alone that pass a test.
-use Rattle.std.proofs.Common.{◌≡◌, ℕ, ◌<◌, Bool, true, false, cond, List, [], ◌∷◌, ◌++◌, filter, refl, sym, ap, ◌∙◌, arith, append-nil, eqb-true, ne_eqb, true≢false}
+use Rattle.std.proofs.Common.{◌≡◌, ℕ, ◌<◌, Bool, true, false, cond, List, [], ◌∷◌, ◌++◌, filter, refl, sym, ap, ◌∙◌, arith, append-nil, eqb-true, ne_eqb}
 use Rattle.std.proofs.lemmas.List.Elements.{filter-append}
-use Rattle.std.proofs.lemmas.Cmp.{ranked}
+use Rattle.std.proofs.lemmas.Bool.Decides.{nat_tests}
 use Rattle.std.specs.List.{AllByRecursion}
 use Rattle.std.specs.Ordering.{nat_cmp, is_lt}
-use Rattle.std.specs.declared.cmp.Ordering.{Ordering}
-use Rattle.std.specs.declared.cmp.Ordering.TheVariants.{Less, Equal, Greater}
 use Rattle.ic_rbtree.specs.SortedValues.{InsertsValue}
 use Rattle.ic_rbtree.proofs.KeyLaws.{filter_front}
 use Rattle.ic_rbtree.proofs.SortedKeys.{sorted_filter}
@@ -30,11 +28,9 @@ module _ {V : Type 0} where
   none_alike : (d : ℕ) (task : Task V) → has_deadline d task ≡ true → (s : List (Task V)) → AllByRecursion (λ later. is_lt (nat_cmp task.deadline later.deadline) ≡ true) s
       → AllByRecursion (λ later. has_deadline d later ≡ false) s
   none_alike d task is [] greater = tt
-  none_alike d task is (x ∷ s) greater = (ne_eqb x.deadline d (λ same. omega (arith, same, eqb-true task.deadline d is, less (nat_cmp task.deadline x.deadline) refl greater.0)), none_alike d task is s greater.1) where
-    less : (r : Ordering) → r ≡ nat_cmp task.deadline x.deadline → is_lt r ≡ true → task.deadline < x.deadline
-    less Less e h = ranked task.deadline x.deadline Less e
-    less Equal e h = absurd (true≢false (sym h))
-    less Greater e h = absurd (true≢false (sym h))
+  none_alike d task is (x ∷ s) greater = (ne_eqb x.deadline d (λ same. omega (arith, same, eqb-true task.deadline d is, less task.deadline x.deadline greater.0)), none_alike d task is s greater.1) where
+    less : (a b : ℕ) → is_lt (nat_cmp a b) ≡ true → a < b
+    less a b is = grind (arith, nat_tests)
 
   -- ONE MORE, in front of exactly those that are later
   pub by_deadline_with : {old new w : List (Task V)} {task : Task V} → InsertsValue nat_cmp deadline_of old task new → IsByDeadline old w → IsByDeadline new (w ++ task ∷ [])

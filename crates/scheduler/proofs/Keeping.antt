@@ -15,7 +15,7 @@ use Rattle.ic_link_ops.specs.NumberedCollections.{with_at}
 use Rattle.ic_link_ops.specs.PlacedObjects.{values_at}
 use Rattle.ic_link_ops.specs.Sequences.{at_front, first}
 use Rattle.ic_link_ops.specs.Edits.{Removes}
-use Rattle.ic_link_ops.specs.Tables.{IsCovered, IsLinked, IsUnlinked, KeepsBeside, LinksAlso, Unlinks}
+use Rattle.ic_link_ops.specs.Tables.{IsLinked, IsUnlinked, KeepsBeside, LinksAlso, Unlinks}
 use Rattle.ic_link_ops.proofs.Calling.{accepted}
 use Rattle.ic_link_ops.proofs.CollectionLaws.{new_shows_nothing, kept_shown}
 use Rattle.ic_link_ops.proofs.Covering.{still_covered}

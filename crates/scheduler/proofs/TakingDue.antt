@@ -7,6 +7,7 @@ use Rattle.ic_unsafe_ref.specs.Objects.{Objects, object_at}
 use Rattle.ic_link_ops.specs.PlacedObjects.{ArePlaced}
 use Rattle.ic_link_ops.specs.Positions.{object_there}
 use Rattle.ic_link_ops.specs.Sequences.{first}
+use Rattle.ic_link_ops.proofs.Each.{all_map}
 use Rattle.ic_link_ops.proofs.SequenceLemmas.{none_not, some_same}
 use Rattle.ic_rbtree.specs.Borders.{IsSorted, if_passes}
 use Rattle.ic_rbtree.specs.SortedObjects.{key_at, key_or, keys_at}
@@ -29,8 +30,7 @@ module _ {T : Type 0} (deadline : T → ℕ) (objects : Objects T) where
   taken_earliest now s (Some p) is sorted = is_earliest s (passed (is_due deadline objects now) (first s) p is).0 sorted
 
   later : (now k : ℕ) (s : List Place) → now < k → AllByRecursion (λ q. k ≤ key_at deadline objects q) s → AllByRecursion (λ q. now < key_at deadline objects q) s
-  later now k [] h all = tt
-  later now k (q ∷ s) h all = let x = all.0 in (omega arith, later now k s h all.1)
+  later now k s h = all_map (λ q low. omega (arith, h, low)) s
 
   waits : (now : ℕ) (o : Option T) → IsSome o → due deadline now o ≡ false → now < key_or deadline o
   waits now (Some timer) h not = leb-false (deadline timer) now not

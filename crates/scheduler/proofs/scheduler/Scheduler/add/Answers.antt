@@ -1,4 +1,4 @@
-use Rattle.std.proofs.Common.{refl, ap, is_some, arith}
+use Rattle.std.proofs.Common.{ap, is_some, arith}
 use Rattle.ic_unsafe_ref.proofs.Placing.{placed_there}
 use Rattle.ic_pool.proofs.Pooling.{lacks_exactly}
 use Rattle.scheduler.specs.Refusals.{refusal_number}
