@@ -1,43 +1,38 @@
 -- What slots keep over each of their calls.
 use Rattle.std.specs.Prelude.{⊤}
-use Rattle.std.proofs.Common.{◌≡◌, ◌≢◌, ℕ, ◌+◌, ◌-◌, ◌≤◌, ◌<◌, Bool, true, false, cond, List, [], ◌∷◌, drop, Option, Some, None, IsSome, is_some, inl, inr, refl, sym, ap, subst, ◌∙◌, arith, ◌↔◌, IsTrue, true≢false}
-use Rattle.std.proofs.lemmas.Bool.{cases_eq, lt-leb, le-leb}
-use Rattle.std.proofs.lemmas.Bool.Decides.{leb_tells}
-use Rattle.std.specs.Cmp.{nat_cmp_total}
-use Rattle.std.specs.FinMap as map
-use Rattle.std.specs.FinMap.{get-empty, get-insert, get-remove, len-empty, len-insert, len-remove}
+use Rattle.std.proofs.Common.{◌≡◌, ◌≢◌, ℕ, ◌+◌, ◌-◌, ◌≤◌, ◌<◌, cond, List, [], ◌∷◌, ◌++◌, drop, length, Option, Some, None, IsSome, is_some, inl, inr, refl, sym, ap, subst, ◌∙◌, arith, length-append, true≢false}
+use Rattle.std.proofs.lemmas.Bool.{eqb-false, lt-leb, le-leb}
+use Rattle.std.proofs.lemmas.Bool.Decides.{nat_tests}
 use Rattle.std.specs.List.{AllByRecursion}
-use Rattle.std.specs.Ordering.{nat_cmp}
 use Rattle.ic_unsafe_ref.specs.declared.place.Place.{Place}
 use Rattle.ic_unsafe_ref.specs.Places.{index_of}
 use Rattle.ic_unsafe_ref.specs.Objects.{Objects, Places, object_at, with_object}
-use Rattle.ic_unsafe_ref.proofs.Counting.{fewer_keys, some_key}
-use Rattle.ic_unsafe_ref.proofs.ObjectLemmas.{tied, apart}
 use Rattle.ic_unsafe_ref.proofs.PlaceLemmas.{same_or_not}
-use Rattle.ic_unsafe_ref.proofs.Placing.{Puts, put_there, put_beside, put_others, still_placed, placed_puts, exchanged_puts, placed_there}
+use Rattle.ic_unsafe_ref.proofs.Placing.{Puts, put_there, put_others, still_placed, placed_puts, exchanged_puts}
 use Rattle.ic_link_ops.specs.declared.one_word.OneWord.{OneWord}
 use Rattle.ic_link_ops.specs.declared.table.PlainTable.{PlainTable}
 use Rattle.ic_link_ops.specs.EntryLaws.{linked_in_range}
 use Rattle.ic_link_ops.specs.Links.{link_of}
 use Rattle.ic_link_ops.specs.OneWord.{no_word, has_word}
 use Rattle.ic_link_ops.specs.PlainTables.{entries}
-use Rattle.ic_link_ops.specs.Sequences.{first, IsMember}
+use Rattle.ic_link_ops.specs.Sequences.{first, IsAbsent, IsDistinct, IsMember}
 use Rattle.ic_link_ops.specs.SinglyLinkedList.{Front, list_from, Shows}
 use Rattle.ic_link_ops.specs.Tables.{IsCovered, IsUnlinked, Unlinks, KeepsBeside}
-use Rattle.ic_link_ops.proofs.SequenceLemmas.{first_is, none_not}
+use Rattle.ic_link_ops.proofs.SequenceLemmas.{distinct_remove, first_is, member_split, none_not}
 use Rattle.ic_link_ops.proofs.SinglyLists.{members_shown, singly_lists}
+use Rattle.ic_link_ops.proofs.Walks.{few_places}
 use Rattle.ic_pool.specs.Pooled.{Grows}
 use Rattle.ic_pool.proofs.Pooling.{pooled_first, pooled_grown, pooled_placed, pooled_linked, pooled_unlinked, pooled_changed}
 use Rattle.ic_container.specs.Edited.{HasJoined}
-use Rattle.ic_container.specs.Rows.{home_or}
+use Rattle.ic_container.specs.Rows.{alone, home_of, home_or}
 use Rattle.ic_container.proofs.EditLemmas.{left_front}
-use Rattle.ic_container.proofs.HoldsLemmas.{Reading, holds_changed, holds_grown, holds_joined, holds_left, holds_new, holds_none, new_off}
-use Rattle.ic_container.proofs.RowLemmas.{alone_none, alone_others}
+use Rattle.ic_container.proofs.HoldsLemmas.{Reading, holds_changed, holds_grown, holds_joined, holds_left, holds_none}
+use Rattle.ic_container.proofs.RowLemmas.{alone_none, alone_others, housed_joined, housed_left}
 use Rattle.pool_uses.specs.declared.slots.Handle.{Handle}
 use Rattle.pool_uses.specs.declared.slots.Slot.{Slot}
-use Rattle.pool_uses.specs.KeptSlots.{is_linked, successor, plain_table, members_of, value_in, vacant_home, home_with, IsTaken, naming_of, IsCounted, IsKept}
-use Rattle.pool_uses.specs.Slots.{named_in, is_last, IsUsable, HasVacant, Inserts, Removes}
-use Rattle.pool_uses.proofs.NamingHandles.{inserts, named_slot, removes}
+use Rattle.pool_uses.specs.KeptSlots.{is_linked, successor, plain_table, members_of, value_in, vacant_home, home_with, taken_home, taken_with, IsTaken, naming_of, IsCounted, IsKept}
+use Rattle.pool_uses.specs.Slots.{named_in, IsUsable, HasVacant, Inserts, Removes}
+use Rattle.pool_uses.proofs.NamingHandles.{inserts_filled, named_slot, removes}
 
 -- how slots read their table
 pub slot_reading : {K A : Type 0} → Reading {L = PlainTable (OneWord K) A ⊤} (Shows successor) is_linked (list_from None) plain_table members_of
@@ -52,78 +47,73 @@ module _ {T : Type 0} where
   usable_home None can = absurd can
   usable_home (Some slot) can = rw (can.0, lt-leb 18446744073709551615 slot.generation can.1) refl
 
+  home_tells : (v : Option T) (g : ℕ) → home_with v g ≡ Some 0 → (v ≡ None) × (g < 18446744073709551615)
+  home_tells v g is = grind (arith, nat_tests)
+
   home_usable : (o : Option (Slot T)) → home_or vacant_home o ≡ Some 0 → IsUsable o
   home_usable None h = absurd (none_not 0 h)
-  home_usable (Some slot) h = by slot.value refl h where
-    by : (v : Option T) → slot.value ≡ v → home_with v slot.generation ≡ Some 0 → (slot.value ≡ None) × (slot.generation < 18446744073709551615)
-    by (Some value) e h = absurd (none_not 0 h)
-    by None e h = elim (leb_tells 18446744073709551615 slot.generation) [ inl l ↦ absurd (none_not 0 (sym (ap (λ b. cond b None (Some 0)) l.0) ∙ h)) | inr l ↦ (e, l.1) ]
+  home_usable (Some slot) h = home_tells slot.value slot.generation h
+
+-- what is at home nowhere is in no row
+absent_off : (home : Place → Option ℕ) (p : Place) → home p ≡ None → (i : ℕ) (s : List Place) → AllByRecursion (λ q. home q ≡ Some i) s → IsAbsent p s
+absent_off home p none i [] own = tt
+absent_off home p none i (x ∷ s) own = ((λ e. none_not i (sym none ∙ ap home e ∙ own.0)), absent_off home p none i s own.1)
 
 module _ {T : Type 0} {objects : Objects (Slot T)} {len : ℕ} (k : IsCounted objects len) where
-  -- FEWER VALUES than slots
-  pub count_within : len ≤ map.len objects.values
-  count_within = omega (arith, k.count, fewer_keys (map.len k.values) k.values objects.values refl (λ i is. placed (map.get objects.values i) (ap is_some (sym (k.are i)) ∙ is))) where
-    placed : (o : Option (Slot T)) → is_some (value_in o) ≡ true → is_some o ≡ true
-    placed None is = is
-    placed (Some slot) is = refl
+  -- THERE ARE FEW VALUES, as there are few places
+  pub few : len ≤ 8589934591
+  few = omega (arith, k.count, few_places k.taken k.once)
 
   -- ONE SLOT CHANGES
-  counted_put : {new : Objects (Slot T)} {p : Place} {slot : Slot T} → Puts objects new p slot → (IsSome slot.value → IsTaken (Some slot)) → (values : map.FinMap nat_cmp T)
-      → ((i : ℕ) → i ≢ index_of p → map.get values i ≡ map.get k.values i) → map.get values (index_of p) ≡ slot.value → IsCounted new (map.len values)
-  counted_put {new} {p} puts taken values beside there = record {
-    below = λ q. elim (same_or_not q p) [
-      | inl e ↦ rw (e, put_there puts) taken
-      | inr n ↦ rw (put_others puts q n) (k.below q)
-    ];
-    values = values;
-    are = λ i. elim (cases_eq i (index_of p)) [ inl e ↦ rw (e, there, put_there puts) refl | inr n ↦ rw (beside i n, put_beside puts i n) (k.are i) ];
-    count = refl;
-  }
+  module _ {new : Objects (Slot T)} {p : Place} {slot : Slot T} (puts : Puts objects new p slot) where
+    below_put : (IsSome slot.value → IsTaken (Some slot)) → (q : Place) → IsSome (value_in (object_at new q)) → IsTaken (object_at new q)
+    below_put here q = elim (same_or_not q p) [ inl e ↦ rw (e, put_there puts) here | inr n ↦ rw (put_others puts q n) (k.below q) ]
 
-  -- A NEW ONE, with no value
-  counted_placed : {new : Objects (Slot T)} {p : Place} → Places objects new p (record { generation = 0; value = None }) → IsCounted new len
-  counted_placed {new} {p} places =
-      subst (IsCounted new) (sym k.count) (counted_put (placed_puts places) (λ is. absurd (true≢false (sym is))) k.values (λ i n. refl) (k.are (index_of p) ∙ ap value_in places.vacant))
+    homes : (q : Place) → q ≢ p → home_of taken_home new q ≡ home_of taken_home objects q
+    homes q n = ap (home_or taken_home) (put_others puts q n)
 
-  module _ (p : Place) {was : Slot T} (there : object_at objects p ≡ Some was) {value : T} where
-    -- one gets a value,
-    counted_filled : {new : Objects (Slot T)} → was.value ≡ None → was.generation < 18446744073709551615 → Puts objects new p (record was { value = Some value }) → IsCounted new (len + 1)
-    counted_filled {new} none below puts =
-        let more = map.insert k.values (index_of p) value in
-        let one : map.len more ≡ len + 1 = len-insert nat_cmp_total k.values (index_of p) value ∙ ap (λ o. cond (is_some o) (map.len k.values) (map.len k.values + 1)) (k.are (index_of p) ∙ ap value_in there ∙ none) ∙ ap (λ n. n + 1) (sym k.count) in
-        subst (IsCounted new) one (counted_put puts (λ is. (refl, below)) more
-        (λ i n. get-insert nat_cmp_total k.values (index_of p) value i ∙ ap (λ b. cond b (Some value) (map.get k.values i)) (apart i (index_of p) n))
-        (get-insert nat_cmp_total k.values (index_of p) value (index_of p) ∙ ap (λ b. cond b (Some value) (map.get k.values (index_of p))) (tied (index_of p) (index_of p) refl)))
+    -- it gets a value,
+    counted_more : {value : T} → slot.value ≡ Some value → slot.generation < 18446744073709551615 → home_of taken_home objects p ≡ None → IsCounted new (len + 1)
+    counted_more has below none =
+        let out = absent_off (home_of taken_home objects) p none in record {
+          below = below_put (λ is. (is, below));
+          taken = p ∷ k.taken;
+          once = (out 0 k.taken (k.housed.own 0), k.once);
+          housed = housed_joined k.housed {front = []} {back = k.taken} homes (record { was = refl; is = refl; others = alone_others [] k.taken (p ∷ k.taken) }) (ap (home_or taken_home) (put_there puts) ∙ ap taken_with has) (λ i. out i (alone [] k.taken i) (k.housed.own i));
+          count = omega (arith, k.count);
+        }
 
     -- or loses it
-    module _ (has : was.value ≡ Some value) where
-      in_values : map.contains_key k.values (index_of p) ≡ true
-      in_values = ap is_some (k.are (index_of p) ∙ ap value_in there ∙ has)
+    counted_less : slot.value ≡ None → home_of taken_home objects p ≡ Some 0 → IsCounted new (len - 1)
+    counted_less none here =
+        let m = member_split p k.taken (k.housed.all p 0 here) in record {
+          below = below_put (λ is. absurd (true≢false (sym (sym (ap is_some none) ∙ is))));
+          taken = m.0 ++ m.1;
+          once = distinct_remove m.0 m.1 p (subst IsDistinct m.2 k.once);
+          housed = housed_left k.housed {front = m.0} {back = m.1} homes (record { was = m.2; is = refl; others = alone_others [] k.taken (m.0 ++ m.1) }) (ap (home_or taken_home) (put_there puts) ∙ ap taken_with none) k.once;
+          count = omega (arith, k.count, ap length m.2, length-append m.0 (p ∷ m.1), length-append m.0 m.1);
+        }
 
-      pub some_value : 1 ≤ len
-      some_value = omega (arith, k.count, some_key k.values (index_of p) in_values)
-
-      counted_emptied : {new : Objects (Slot T)} → Puts objects new p (record { generation = was.generation + 1; value = None }) → IsCounted new (len - 1)
-      counted_emptied {new} puts =
-          let less = map.remove k.values (index_of p) in
-          let one : map.len less ≡ len - 1 = len-remove nat_cmp_total k.values (index_of p) ∙ ap (λ b. cond b (map.len k.values - 1) (map.len k.values)) in_values ∙ ap (λ n. n - 1) (sym k.count) in
-          subst (IsCounted new) one (counted_put puts (λ is. absurd (true≢false (sym is))) less
-          (λ i n. get-remove nat_cmp_total k.values (index_of p) i ∙ ap (λ b. cond b None (map.get k.values i)) (apart i (index_of p) n))
-          (get-remove nat_cmp_total k.values (index_of p) (index_of p) ∙ ap (λ b. cond b None (map.get k.values (index_of p))) (tied (index_of p) (index_of p) refl)))
+  some_value : (p : Place) → home_of taken_home objects p ≡ Some 0 → 1 ≤ len
+  some_value p here = let m = member_split p k.taken (k.housed.all p 0 here) in omega (arith, k.count, ap length m.2, length-append m.0 (p ∷ m.1))
 
 -- AT FIRST
-pub kept_none : {T K A : Type 0} (objects : Objects (Slot T)) (links : PlainTable (OneWord K) A ⊤) → objects.values ≡ map.empty → ((p : Place) → object_at objects p ≡ None)
-    → (plain_table links).extent.places ≡ 0 → IsKept objects links (list_from None) 0
-kept_none {T} objects links none vacant no_links =
+pub kept_none : {T K A : Type 0} (objects : Objects (Slot T)) (links : PlainTable (OneWord K) A ⊤) → ((p : Place) → object_at objects p ≡ None) → (plain_table links).extent.places ≡ 0
+    → IsKept objects links (list_from None) 0
+kept_none {T} objects links vacant no_links =
     let pooled = pooled_first has_word no_word refl links no_links vacant in
     record {
       holds = holds_none slot_reading links (alone_none (list_from None) (list_from None) refl) (λ p. ap (home_or vacant_home) (vacant p)) (λ p. pooled.vacant p (vacant p));
       pooled = pooled;
       counted = record {
         below = λ p is. absurd (true≢false (sym (sym (ap (λ o. is_some (value_in o)) (vacant p)) ∙ is)));
-        values = map.empty;
-        are = λ i. get-empty nat_cmp i ∙ sym (ap value_in (ap (λ m. map.get m i) none ∙ get-empty nat_cmp i));
-        count = sym (len-empty nat_cmp T);
+        taken = [];
+        once = tt;
+        housed = record {
+          own = λ i. subst (AllByRecursion (λ p. home_of taken_home objects p ≡ Some i)) (sym (alone_none {X = List Place} [] [] refl i)) tt;
+          all = λ p i at. absurd (none_not i (sym (ap (home_or taken_home) (vacant p)) ∙ at));
+        };
+        count = refl;
       };
     }
 
@@ -141,36 +131,22 @@ module _ {T K A : Type 0} {objects : Objects (Slot T)} {links : PlainTable (OneW
     by [] member = absurd (member tt)
     by (p ∷ s) member = refl
 
-  -- AND WHERE IT HAS ONE, that is a vacant slot
-  pub first_usable : {p : Place} → Some p ≡ first (members_of links vacant) → IsUsable (object_at objects p)
+  -- which is a vacant slot
+  first_usable : {p : Place} → Some p ≡ first (members_of links vacant) → IsUsable (object_at objects p)
   first_usable {p} is = home_usable (object_at objects p) (subst (AllByRecursion (λ q. home_or vacant_home (object_at objects q) ≡ Some 0)) (first_is members is) (k.holds.housed.own 0)).0
-
-  pub vacant_first : (is_empty : Bool) → IsTrue is_empty ↔ (vacant.head ≡ None) → is_empty ≡ false → HasVacant (naming_of objects len)
-  vacant_first is_empty tells off = by (first members) refl where
-    by : (o : Option Place) → first members ≡ o → HasVacant (naming_of objects len)
-    by None none = absurd (true≢false (sym (tells.1 (shown.head ∙ none)) ∙ off))
-    by (Some p) is = (p, first_usable (sym is))
-
-  -- AND WHERE IT IS EMPTY, none is
-  pub none_vacant : (is_empty : Bool) → IsTrue is_empty ↔ (vacant.head ≡ None) → is_empty ≡ true → HasVacant (naming_of objects len) → ⊥
-  none_vacant is_empty tells on can = true≢false (sym (first_of_vacant can) ∙ ap is_some (sym shown.head ∙ tells.0 on))
 
   -- AFTER THE TABLE HAS GROWN
   pub kept_grown : {grown : PlainTable (OneWord K) A ⊤} → Grows (plain_table links) (plain_table grown) → IsKept objects grown vacant len
   kept_grown {grown} grows = record { holds = holds_grown slot_reading k.holds grown grows; pooled = pooled_grown k.pooled grows; counted = k.counted }
 
-  -- A NEW SLOT, with no value, goes to the front of the list
-  module _ (grown : PlainTable (OneWord K) A ⊤) {new : Objects (Slot T)} {p : Place} (grows : Grows (plain_table links) (plain_table grown)) (places : Places objects new p (record { generation = 0; value = None })) where
-    pub new_free : IsUnlinked is_linked (plain_table grown) p
-    new_free = new_off slot_reading vacant_home objects k.holds places grown grows
-
-    pub kept_placed : {more : PlainTable (OneWord K) A ⊤} {front : Front} → IsCovered (plain_table grown) p → {s : List Place} → HasJoined (Shows successor) is_linked (plain_table grown) (plain_table more) vacant front [] p s
-        → IsKept new more front len
-    kept_placed {more} {front} room e = record {
-      holds = holds_new slot_reading vacant_home objects k.holds places grown grows 0 more (alone_others (list_from None) vacant front) refl e;
-      pooled = pooled_linked (pooled_placed k.pooled grows places room) (ap is_some (placed_there places)) e.also e.frame.extent;
-      counted = counted_placed k.counted places;
-    }
+  -- A NEW SLOT, with a value
+  pub kept_placed : {grown : PlainTable (OneWord K) A ⊤} {new : Objects (Slot T)} {p : Place} {value : T} → Grows (plain_table links) (plain_table grown) → Places objects new p (record { generation = 0; value = Some value })
+      → IsCovered (plain_table grown) p → IsKept new grown vacant (len + 1)
+  kept_placed {grown} {p = p} grows places room = record {
+    holds = holds_changed slot_reading vacant_home objects (holds_grown slot_reading k.holds grown grows) (placed_puts places) (sym (ap (home_or vacant_home) places.vacant));
+    pooled = pooled_placed k.pooled grows places room;
+    counted = counted_more k.counted (placed_puts places) refl (omega arith) (ap (home_or taken_home) places.vacant);
+  }
 
   -- THE FIRST VACANT SLOT is taken off the list and filled
   module _ (after : PlainTable (OneWord K) A ⊤) (front : Front) (value : T) {new : Objects (Slot T)} {p : Place} {g : ℕ} (answer : (s : List Place) → Shows successor (plain_table links) vacant s → Some p ≡ first s)
@@ -192,11 +168,11 @@ module _ {T K A : Type 0} {objects : Objects (Slot T)} {links : PlainTable (OneW
       holds = holds_left slot_reading k.holds 0 after (alone_others (list_from None) vacant front) (left_front members shown answer popped off frame)
           (ap (home_or vacant_home) (put_there filled_puts)) (λ q n. ap (home_or vacant_home) (put_others filled_puts q n));
       pooled = pooled_changed (pooled_unlinked k.pooled off (frame members shown).extent) (still_placed filled_puts (ap is_some first_vacant.1));
-      counted = counted_filled k.counted p first_vacant.1 first_vacant.2.0 first_vacant.2.1 filled_puts;
+      counted = counted_more k.counted filled_puts refl first_vacant.2.1 (ap (home_or taken_home) first_vacant.1 ∙ ap taken_with first_vacant.2.0);
     }
 
     pub filled_handle : Inserts (record { place = p; generation = g }) value (naming_of objects len) (naming_of new (len + 1))
-    filled_handle = inserts (record { place = p; generation = g }) len first_vacant.1 filled_puts (sym (fills first_vacant.0 first_vacant.1).0) first_vacant.2.0 refl
+    filled_handle = inserts_filled (record { place = p; generation = g }) len first_vacant.1 (sym (fills first_vacant.0 first_vacant.1).0) filled_puts first_vacant.2.0
 
   -- THE SLOT OF A HANDLE is emptied, where it names a value
   module _ (h : Handle) {new : Objects (Slot T)} {seen value : T} (is : Some seen ≡ named_in (object_at objects h.place) h.generation)
@@ -213,8 +189,11 @@ module _ {T K A : Type 0} {objects : Objects (Slot T)} {links : PlainTable (OneW
     home_was : home_or vacant_home (object_at objects h.place) ≡ None
     home_was = ap (home_or vacant_home) own.1 ∙ ap (λ (o : Option T). home_with o own.0.generation) own.3
 
+    taken_was : home_of taken_home objects h.place ≡ Some 0
+    taken_was = ap (home_or taken_home) own.1 ∙ ap taken_with own.3
+
     pub emptied_some : 1 ≤ len
-    emptied_some = some_value k.counted h.place own.1 own.3
+    emptied_some = some_value k.counted h.place taken_was
 
     pub emptied_free : IsUnlinked is_linked (plain_table links) h.place
     emptied_free = k.holds.only h.place home_was
@@ -230,7 +209,7 @@ module _ {T K A : Type 0} {objects : Objects (Slot T)} {links : PlainTable (OneW
     kept_used_up last = record {
       holds = holds_changed slot_reading vacant_home objects k.holds puts (ap (λ b. cond b None (Some 0)) (le-leb 18446744073709551615 (own.0.generation + 1) (omega (arith, own.2, last))) ∙ sym home_was);
       pooled = pooled_changed k.pooled (still_placed puts (ap is_some own.1));
-      counted = counted_emptied k.counted h.place own.1 own.3 puts;
+      counted = counted_less k.counted puts refl taken_was;
     }
 
     pub kept_vacated : h.generation + 1 ≢ 18446744073709551615 → {more : PlainTable (OneWord K) A ⊤} {front : Front} {s : List Place}
@@ -238,8 +217,8 @@ module _ {T K A : Type 0} {objects : Objects (Slot T)} {links : PlainTable (OneW
     kept_vacated last {more} {front} e = record {
       holds = holds_joined slot_reading k.holds 0 more (alone_others (list_from None) vacant front) e (usable_home (object_at new h.place) (emptied_usable last)) (λ q n. ap (home_or vacant_home) (put_others puts q n));
       pooled = pooled_linked (pooled_changed k.pooled (still_placed puts (ap is_some own.1))) (ap is_some (put_there puts)) e.also e.frame.extent;
-      counted = counted_emptied k.counted h.place own.1 own.3 puts;
+      counted = counted_less k.counted puts refl taken_was;
     }
 
-    pub emptied_handle : (is_last h ≡ false → HasVacant (naming_of new (len - 1))) → Removes h (naming_of objects len) (naming_of new (len - 1))
-    emptied_handle left = removes h len own.1 puts own.2 refl emptied_some left
+    pub emptied_handle : Removes h (naming_of objects len) (naming_of new (len - 1))
+    emptied_handle = removes h len own.1 own.2 puts emptied_some (λ no. (h.place, emptied_usable (eqb-false (h.generation + 1) 18446744073709551615 no)))

@@ -1,31 +1,17 @@
 -- What a change of one slot says of the handles.
-use Rattle.std.proofs.Common.{◌≡◌, ◌≢◌, ℕ, ◌+◌, ◌-◌, ◌≤◌, Bool, true, false, cond, eqb, leb, eq-eqb, ne_eqb, Option, Some, None, inl, inr, refl, sym, ap, ◌∙◌, arith}
-use Rattle.std.proofs.lemmas.Bool.{cases_eq, le-leb, lt-leb}
-use Rattle.std.proofs.lemmas.Bool.Decides.{eqb_tells, leb_tells}
+use Rattle.std.proofs.Common.{◌≡◌, ◌≢◌, ℕ, ◌+◌, ◌-◌, ◌≤◌, true, false, cond, eqb, leb, Option, Some, None, is_some, inl, inr, refl, sym, ap, ◌∙◌, arith}
+use Rattle.std.proofs.lemmas.Bool.{cases_eq}
+use Rattle.std.proofs.lemmas.Bool.Decides.{nat_tests}
 use Rattle.std.specs.FinMap as map
 use Rattle.ic_unsafe_ref.specs.declared.place.Place.{Place}
 use Rattle.ic_unsafe_ref.specs.Places.{index_of}
 use Rattle.ic_unsafe_ref.specs.Objects.{Objects, Places, object_at}
 use Rattle.ic_unsafe_ref.proofs.PlaceLemmas.{same_index}
-use Rattle.ic_unsafe_ref.proofs.Placing.{Puts, put_there, put_beside, placed_puts}
+use Rattle.ic_unsafe_ref.proofs.Placing.{Puts, put_there, put_beside, placed_puts, placed_there}
 use Rattle.pool_uses.specs.declared.slots.Handle.{Handle}
 use Rattle.pool_uses.specs.declared.slots.Slot.{Slot}
 use Rattle.pool_uses.specs.KeptSlots.{naming_of}
-use Rattle.pool_uses.specs.Slots.{Naming, named, is_given, named_in, given_in, is_last, HasVacant, IsUnchanged, Inserts, Removes}
-
--- a new slot names nothing
-new_given : (g : ℕ) → cond (eqb 0 g) false (leb (g + 1) 0) ≡ false
-new_given g = elim (eqb_tells 0 g) [ inl e ↦ rw e.0 refl | inr n ↦ rw n.0 (lt-leb (g + 1) 0 (omega arith)) ]
-
--- the next generation: the one before it was given out, and of all others nothing has changed
-next_given : (g k : ℕ) → k ≢ g → cond (eqb (g + 1) k) false (leb (k + 1) (g + 1)) ≡ leb (k + 1) g
-next_given g k n = elim (eqb_tells (g + 1) k) [
-  | inl e ↦ rw e.0 (sym (lt-leb (k + 1) g (omega (arith, e.1))))
-  | inr m ↦ rw m.0 (elim (leb_tells (k + 1) g) [
-    | inl h ↦ le-leb (k + 1) (g + 1) (omega (arith, h.1)) ∙ sym h.0
-    | inr h ↦ lt-leb (k + 1) (g + 1) (omega (arith, h.1, n, m.1)) ∙ sym h.0
-  ])
-]
+use Rattle.pool_uses.specs.Slots.{Naming, named, is_given, named_in, given_in, is_last, HasVacant, Inserts, Removes}
 
 same_handle : (h k : Handle) → index_of h.place ≡ index_of k.place → h.generation ≡ k.generation → h ≡ k
 same_handle h k e f =
@@ -35,82 +21,82 @@ same_handle h k e f =
 
 module _ {T : Type 0} where
   -- what a handle names is the value of its slot
+  names : (v : Option T) (g k : ℕ) {value : T} → Some value ≡ cond (eqb g k) v None → (g ≡ k) × (v ≡ Some value)
+  names v g k is = grind (arith, nat_tests)
+
   pub named_slot : (o : Option (Slot T)) (g : ℕ) {value : T} → Some value ≡ named_in o g → (slot : Slot T) × (o ≡ Some slot) × (slot.generation ≡ g) × (slot.value ≡ Some value)
   named_slot None g is = absurd (cc)
-  named_slot (Some slot) g {value} is = elim (eqb_tells slot.generation g) [
-    | inl e ↦ (slot, refl, e.1, sym (is ∙ ap (λ b. cond b slot.value None) e.0))
-    | inr n ↦ let never : Some value ≡ None = is ∙ ap (λ b. cond b slot.value None) n.0 in absurd (cc)
-  ]
+  named_slot (Some slot) g is = let own = names slot.value slot.generation g is in (slot, refl, own.0, own.1)
 
-  none_either : (b : Bool) → cond b None None ≡ (let none : Option T = None in none)
-  none_either true = refl
-  none_either false = refl
+  -- what is said of the own generation g of a slot that is filled, with a value for v, and of another one
+  filled_own : (g k : ℕ) (v : Option T) (value : T) → g ≡ k → v ≡ None → (cond (eqb g k) (is_some v) (leb (k + 1) g) ≡ false) × (cond (eqb g k) v None ≡ None)
+      × (cond (eqb g k) (Some value) None ≡ Some value) × (cond (eqb g k) true (leb (k + 1) g) ≡ true)
+  filled_own g k v value is none = grind (arith, nat_tests)
 
-  -- of a handle is said what was, if that is so of the slot that has changed
-  said : {old new : Objects (Slot T)} {p : Place} {was : Option (Slot T)} {now : Slot T} → object_at old p ≡ was → Puts old new p now → {X : Type 0} (says : Option (Slot T) → ℕ → X)
-      → (h : Handle) → (index_of h.place ≡ index_of p → says (Some now) h.generation ≡ says was h.generation)
-      → says (map.get new.values (index_of h.place)) h.generation ≡ says (map.get old.values (index_of h.place)) h.generation
-  said {old} {new} {p} there puts says h alike = elim (cases_eq (index_of h.place) (index_of p)) [
+  filled_other : (g k : ℕ) (v : Option T) (value : T) → v ≡ None → k ≢ g → (cond (eqb g k) (Some value) None ≡ cond (eqb g k) v None)
+      × (cond (eqb g k) true (leb (k + 1) g) ≡ cond (eqb g k) (is_some v) (leb (k + 1) g))
+  filled_other g k v value none n = grind (arith, nat_tests)
+
+  -- of one that is placed,
+  new_other : (k : ℕ) (value : T) → k ≢ 0 → (cond (eqb 0 k) (Some value) None ≡ None) × (cond (eqb 0 k) true (leb (k + 1) 0) ≡ false)
+  new_other k value n = grind (arith, nat_tests)
+
+  -- and of one that is emptied: its next generation is not given out yet
+  emptied_own : (g k : ℕ) → g ≡ k → (cond (eqb (g + 1) k) false (leb (k + 1) (g + 1)) ≡ true) × (cond (eqb (g + 1) k) None None ≡ (let none : Option T = None in none))
+  emptied_own g k is = grind (arith, nat_tests)
+
+  emptied_other : (g k : ℕ) (v : Option T) → k ≢ g → (cond (eqb (g + 1) k) None None ≡ cond (eqb g k) v None)
+      × (cond (eqb (g + 1) k) false (leb (k + 1) (g + 1)) ≡ cond (eqb g k) (is_some v) (leb (k + 1) g))
+  emptied_other g k v n = grind (arith, nat_tests)
+
+  -- of every other handle is said what was, if that is so of the other generations of the slot that has changed
+  others_said : {old new : Objects (Slot T)} (handle : Handle) {was : Option (Slot T)} {now : Slot T} (m n : ℕ) → object_at old handle.place ≡ was → Puts old new handle.place now
+      → ((k : ℕ) → k ≢ handle.generation → (named_in (Some now) k ≡ named_in was k) × (given_in (Some now) k ≡ given_in was k))
+      → (h : Handle) → h ≢ handle → (named (naming_of new n) h ≡ named (naming_of old m) h) × (is_given (naming_of new n) h ≡ is_given (naming_of old m) h)
+  others_said {old} {new} handle {was} {now} m n there puts alike h other = elim (cases_eq (index_of h.place) (index_of handle.place)) [
     | inl same ↦
-        ap (λ i. says (map.get new.values i) h.generation) same ∙ ap (λ s. says s h.generation) (put_there puts) ∙ alike same
-        ∙ sym (ap (λ i. says (map.get old.values i) h.generation) same ∙ ap (λ s. says s h.generation) there)
-    | inr n ↦ ap (λ s. says s h.generation) (put_beside puts (index_of h.place) n)
+        let is : map.get new.values (index_of h.place) ≡ Some now = ap (map.get new.values) same ∙ put_there puts in
+        let had : map.get old.values (index_of h.place) ≡ was = ap (map.get old.values) same ∙ there in
+        rw (is, had) (alike h.generation (λ e. other (same_handle h handle same e)))
+    | inr apart ↦ rw (put_beside puts (index_of h.place) apart) (refl, refl)
   ]
 
-  -- NO HANDLE CHANGES by a slot more
-  pub same_placed : {old new : Objects (Slot T)} {p : Place} (len : ℕ) → Places old new p (record { generation = 0; value = None })
-      → IsUnchanged (naming_of old len) (naming_of new len)
-  same_placed len places = record {
-    names = λ h. said places.vacant (placed_puts places) named_in h (λ same. none_either (eqb 0 h.generation));
-    given = λ h. said places.vacant (placed_puts places) given_in h (λ same. new_given h.generation);
+  -- A SLOT IS PLACED with a value,
+  pub inserts_new : {old new : Objects (Slot T)} (p : Place) {value : T} (len : ℕ) → Places old new p (record { generation = 0; value = Some value })
+      → Inserts (record { place = p; generation = 0 }) value (naming_of old len) (naming_of new (len + 1))
+  inserts_new p {value} len places = record {
+    never = ap (λ s. given_in s 0) places.vacant;
+    nothing = ap (λ s. named_in s 0) places.vacant;
+    names = ap (λ s. named_in s 0) (placed_there places);
+    given = ap (λ s. given_in s 0) (placed_there places);
+    others = others_said (record { place = p; generation = 0 }) len (len + 1) places.vacant (placed_puts places) (λ k n. new_other k value n);
     count = refl;
   }
 
-  module _ {old new : Objects (Slot T)} (handle : Handle) {was now : Slot T} (len : ℕ) (there : object_at old handle.place ≡ Some was) (puts : Puts old new handle.place now)
-      (is : was.generation ≡ handle.generation) where
-    -- of every other handle what is said stays, if what is said of other generations of the slot does
-    beside : {X : Type 0} (says : Option (Slot T) → ℕ → X) → ((k : ℕ) → k ≢ was.generation → says (Some now) k ≡ says (Some was) k)
-        → (h : Handle) → h ≢ handle → says (map.get new.values (index_of h.place)) h.generation ≡ says (map.get old.values (index_of h.place)) h.generation
-    beside says alike h other = said there puts says h (λ same. alike h.generation (λ e. other (same_handle h handle same (e ∙ is))))
-
-    -- THE HANDLE OF A FILLED SLOT is new
-    pub inserts : {value : T} → was.value ≡ None → now ≡ record was { value = Some value } → Inserts handle value (naming_of old len) (naming_of new (len + 1))
-    inserts {value} none fills =
-        let own = eq-eqb was.generation handle.generation is in record {
-          never = ap (λ s. given_in s handle.generation) there ∙ rw (own, none) refl;
-          nothing = ap (λ s. named_in s handle.generation) there ∙ rw (own, none) refl;
-          names = ap (λ s. named_in s handle.generation) (put_there puts) ∙ rw (fills, own) refl;
-          given = ap (λ s. given_in s handle.generation) (put_there puts) ∙ rw (fills, own) refl;
-          others = λ h other. (
-            beside named_in (λ k n. let off = ne_eqb was.generation k (λ e. n (sym e)) in rw (fills, off) refl) h other,
-            beside given_in (λ k n. let off = ne_eqb was.generation k (λ e. n (sym e)) in rw (fills, off) refl) h other,
-          );
+  module _ {old new : Objects (Slot T)} (handle : Handle) {was : Slot T} (len : ℕ) (there : object_at old handle.place ≡ Some was) (is : was.generation ≡ handle.generation) where
+    -- or is filled
+    pub inserts_filled : {value : T} → Puts old new handle.place (record was { value = Some value }) → was.value ≡ None → Inserts handle value (naming_of old len) (naming_of new (len + 1))
+    inserts_filled {value} puts none =
+        let own = filled_own was.generation handle.generation was.value value is none in record {
+          never = ap (λ s. given_in s handle.generation) there ∙ own.0;
+          nothing = ap (λ s. named_in s handle.generation) there ∙ own.1;
+          names = ap (λ s. named_in s handle.generation) (put_there puts) ∙ own.2;
+          given = ap (λ s. given_in s handle.generation) (put_there puts) ∙ own.3;
+          others = others_said handle len (len + 1) there puts (λ k n. filled_other was.generation k was.value value none (λ e. n (e ∙ is)));
           count = refl;
         }
 
-    -- THE HANDLE OF AN EMPTIED SLOT is old
-    pub removes : now ≡ record { generation = was.generation + 1; value = None } → 1 ≤ len → (is_last handle ≡ false → HasVacant (naming_of new (len - 1))) → Removes handle (naming_of old len) (naming_of new (len - 1))
-    removes empties some left = record {
-      given = ap (λ s. given_in s handle.generation) (put_there puts) ∙ rw (empties, ← is, ne_eqb (was.generation + 1) was.generation (λ e. omega (arith, e))) (le-leb (was.generation + 1) (was.generation + 1) (omega arith));
-      nothing = ap (λ s. named_in s handle.generation) (put_there puts) ∙ rw empties (none_either (eqb (was.generation + 1) handle.generation));
-      others = λ h other. (
-        beside named_in (λ k n. let off = ne_eqb was.generation k (λ e. n (sym e)) in rw (empties, off) (none_either (eqb (was.generation + 1) k))) h other,
-        beside given_in (λ k n. let off = ne_eqb was.generation k (λ e. n (sym e)) in rw (empties, off) (next_given was.generation k n)) h other,
-      );
-      count = omega (arith, some);
-      vacant = left;
-    }
-
--- what a call did after one that changed no handle
-pub inserts_after : {T : Type 0} {h : Handle} {v : T} {a b c : Naming T} → IsUnchanged a b → Inserts h v b c → Inserts h v a c
-inserts_after {h = h} same did = record {
-  never = sym (same.given h) ∙ did.never;
-  nothing = sym (same.names h) ∙ did.nothing;
-  names = did.names;
-  given = did.given;
-  others = λ o n. ((did.others o n).0 ∙ same.names o, (did.others o n).1 ∙ same.given o);
-  count = did.count ∙ ap (λ n. n + 1) same.count;
-}
+    -- THE HANDLE IS OLD where the slot is emptied
+    pub removes : Puts old new handle.place (record { generation = was.generation + 1; value = None }) → 1 ≤ len → (is_last handle ≡ false → HasVacant (naming_of new (len - 1)))
+        → Removes handle (naming_of old len) (naming_of new (len - 1))
+    removes puts some left =
+        let own = emptied_own was.generation handle.generation is in record {
+          given = ap (λ s. given_in s handle.generation) (put_there puts) ∙ own.0;
+          nothing = ap (λ s. named_in s handle.generation) (put_there puts) ∙ own.1;
+          others = others_said handle len (len - 1) there puts (λ k n. emptied_other was.generation k was.value (λ e. n (e ∙ is)));
+          count = omega (arith, some);
+          vacant = left;
+        }
 
 -- A HANDLE THAT IS OLD stays so, whatever is inserted and removed: it was given out, and names nothing
 pub record IsOld {T : Type 0} (slots : Naming T) (h : Handle) : Type 0 where

@@ -1,7 +1,5 @@
 -- What slots keep of their pool and of the list of vacant ones.
-use Rattle.std.specs.Prelude.{◌≡◌, ◌<◌, ◌^◌, cond, leb, ℕ, Bool, Option, Some, None, IsSome, List, ⊤}
-use Rattle.std.specs.FinMap as map
-use Rattle.std.specs.Ordering.{nat_cmp}
+use Rattle.std.specs.Prelude.{◌≡◌, ◌<◌, ◌^◌, cond, leb, ℕ, Bool, Option, Some, None, IsSome, List, [], length, ⊤}
 use Rattle.ic_unsafe_ref.specs.declared.place.Place.{Place}
 use Rattle.ic_unsafe_ref.specs.Objects.{Objects, object_at}
 use Rattle.ic_link_ops.specs.declared.link.Link.{Link}
@@ -10,11 +8,12 @@ use Rattle.ic_link_ops.specs.declared.table.PlainTable.{PlainTable}
 use Rattle.ic_link_ops.specs.OneWord.{no_word, has_word, next_word_of}
 use Rattle.ic_link_ops.specs.PlainTables.{linked_by, table}
 use Rattle.ic_link_ops.specs.Readings.{successor_of}
+use Rattle.ic_link_ops.specs.Sequences.{IsDistinct}
 use Rattle.ic_link_ops.specs.SinglyLinkedList.{Front, Successor, Shows, list_from, members}
 use Rattle.ic_link_ops.specs.Tables.{Table}
 use Rattle.ic_pool.specs.Pooled.{IsPooled}
 use Rattle.ic_container.specs.Holds.{Holds}
-use Rattle.ic_container.specs.Rows.{alone, home_of}
+use Rattle.ic_container.specs.Rows.{IsHoused, alone, home_of}
 use Rattle.pool_uses.specs.declared.slots.Slot.{Slot}
 use Rattle.pool_uses.specs.Slots.{Naming}
 
@@ -51,16 +50,25 @@ module _ {T : Type 0} where
   abbrev pub vacant_home : Slot T → Option ℕ
   vacant_home slot = home_with slot.value slot.generation
 
+  -- and is counted if it has one
+  abbrev pub taken_with : Option T → Option ℕ
+  taken_with None = None
+  taken_with (Some value) = Some 0
+
+  abbrev pub taken_home : Slot T → Option ℕ
+  taken_home slot = taken_with slot.value
+
 -- what they are for a clause
 abbrev pub naming_of : {T : Type 0} → Objects (Slot T) → ℕ → Naming T
 naming_of objects len = record { slots = objects.values; count = len; is_full = leb (2 ^ 32) objects.next }
 
--- a slot with a value is not used up, and `len` is how many have one (`values`: by the index of their places)
+-- a slot with a value is not used up, and `len` is how many places have one
 pub record IsCounted {T : Type 0} (objects : Objects (Slot T)) (len : ℕ) : Type 0 where
   pub below : (p : Place) → IsSome (value_in (object_at objects p)) → IsTaken (object_at objects p)
-  pub values : map.FinMap nat_cmp T
-  pub are : (index : ℕ) → map.get values index ≡ value_in (map.get objects.values index)
-  pub count : len ≡ map.len values
+  pub taken : List Place
+  pub once : IsDistinct taken
+  pub housed : IsHoused (home_of taken_home objects) (alone [] taken)
+  pub count : len ≡ length taken
 
 -- WHAT SLOTS KEEP: exactly the slots that are vacant and not used up are in the list, each has room for its link, and those with a
 -- value are counted

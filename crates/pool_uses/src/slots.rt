@@ -133,27 +133,6 @@ impl<T: Drop, A: Allocator> Slots<T, A> {
         }
     }
 
-    // Sees that a slot is vacant: places a new one where none is.
-    fn make_vacant(&mut self) -> Result<(), PlaceError<Slot<T>>>
-        ensures vacant { OnOk result (HasVacant self.new) }
-        ensures unchanged { IsUnchanged self.old self.new }
-        ensures refused { IfErr result (λ refused. lacks_place refused ≡ self.old.is_full) }
-        ensures ready { HasVacant self.old → IsOk result }
-    {
-        if !self.vacant.is_empty() {
-            return Ok(());
-        }
-        let slot = match self.pool.place(Slot {
-            generation: 0,
-            value: None,
-        }) {
-            Ok(slot) => slot,
-            Err(refused) => return Err(refused),
-        };
-        let _ = self.vacant.push_front(&mut self.pool.links, slot); // proved: a new object is not linked
-        Ok(())
-    }
-
     /// Puts the value into the slot that was vacated last, or into a new one, and returns its handle. O(1), and it
     /// takes memory only for a new slot.
     ///
@@ -166,18 +145,30 @@ impl<T: Drop, A: Allocator> Slots<T, A> {
             × (lacks_place refused ≡ self.old.is_full)) }
         ensures ready { HasVacant self.old → IsOk result }
     {
-        match self.make_vacant() {
-            Ok(()) => {}
-            Err(PlaceError::NoPlaceLeft(_)) => return Err(PlaceError::NoPlaceLeft(value)),
-            Err(PlaceError::OutOfMemory(_)) => return Err(PlaceError::OutOfMemory(value)),
+        if let Some(slot) = self.vacant.pop_front(&mut self.pool.links) {
+            let generation = fill(&mut self.pool, &slot, value);
+            self.len += 1;
+            return Ok(Handle {
+                place: slot.place(),
+                generation,
+            });
         }
-        let slot = self.vacant.pop_front(&mut self.pool.links).unwrap(); // proved: there is one
-        let generation = fill(&mut self.pool, &slot, value);
-        prove!(self.len < self.pool.len());
+        let slot = match self.pool.place(Slot {
+            generation: 0,
+            value: Some(value),
+        }) {
+            Ok(slot) => slot,
+            Err(PlaceError::NoPlaceLeft(slot)) => {
+                return Err(PlaceError::NoPlaceLeft(slot.value.unwrap())); // proved: it has one
+            }
+            Err(PlaceError::OutOfMemory(slot)) => {
+                return Err(PlaceError::OutOfMemory(slot.value.unwrap()));
+            }
+        };
         self.len += 1;
         Ok(Handle {
             place: slot.place(),
-            generation,
+            generation: 0,
         })
     }
 

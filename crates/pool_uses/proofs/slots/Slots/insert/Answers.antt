@@ -1,34 +1,53 @@
-use Rattle.std.proofs.Common.{arith, sym, ◌∙◌, IsSome, subst}
-use Rattle.pool_uses.proofs.KeepingSlots.{count_within, first_of_vacant, filled, filled_handle, shown}
-use Rattle.pool_uses.proofs.NamingHandles.{inserts_after}
+use Rattle.std.proofs.Common.{is_some, ap, ◌∙◌, arith}
+use Rattle.pool_uses.proofs.KeepingSlots.{few, filled, filled_handle, first_of_vacant, kept_grown, kept_placed, shown}
+use Rattle.pool_uses.proofs.NamingHandles.{inserts_new}
 use Rattle.pool_uses.proofs.slots.Slots.insert.Goals as goal
 
 pub pop_front-requires : goal.pop_front-requires
 pop_front-requires g c = record { shown = (_, shown c.self.invariant) }
 
--- a slot is vacant, and so the list has a first one
-pub unwrap-slot-requires : goal.unwrap-slot-requires
-unwrap-slot-requires g c =
-    let k = c.self.invariant in
-    subst IsSome (sym (c.pop_front.ensures.answer _ (shown k))) (first_of_vacant k (rw (← c.self.view_is) at c.in-Ok.ensures.vacant))
+-- a vacant slot is filled
+pub overflow_add-self : goal.overflow_add-self
+overflow_add-self g c = omega (arith, few c.self.invariant.counted)
 
 pub invariant_of-self : goal.invariant_of-self
 invariant_of-self g c =
-    let k = c.self.invariant in
-    let pop = c.pop_front.ensures in
-    rw c.fill-generation.ensures.links
-    (filled k c.pop_front.new.links c.pop_front.new.self c.args.value (λ s shown. sym c.unwrap-slot.ensures ∙ pop.answer s shown) pop.removed (rw c.unwrap-slot.ensures at pop.released) pop.frame c.fill-generation.ensures.filled)
+    let pop = c.in-Some.ensures in
+    rw c.fill-generation.ensures.links (filled c.self.invariant c.pop_front.new.links c.pop_front.new.self c.args.value pop.answer pop.removed pop.released pop.frame c.fill-generation.ensures.filled)
 
-pub prove-unreachable-requires : goal.prove-unreachable-requires
-prove-unreachable-requires g c =
-    let k = c.self.invariant in
-    let pop = c.pop_front.ensures in
-    let kept = filled k c.pop_front.new.links c.pop_front.new.self c.args.value (λ s shown. sym c.unwrap-slot.ensures ∙ pop.answer s shown) pop.removed (rw c.unwrap-slot.ensures at pop.released) pop.frame c.fill-generation.ensures.filled in
-    omega (arith, count_within kept.counted, c.len.ensures, c.if-prove.true)
+pub returns-in-Some-clause-inserted : goal.returns-in-Some-clause-inserted
+returns-in-Some-clause-inserted g c =
+    let pop = c.in-Some.ensures in
+    rw (c.place.ensures, ← c.self.view_is) (filled_handle c.self.invariant c.pop_front.new.links c.pop_front.new.self c.args.value pop.answer pop.removed pop.released pop.frame c.fill-generation.ensures.filled)
+
+-- there is none, and no place or no memory
+pub invariant_of-self-in-Err-NoPlaceLeft : goal.invariant_of-self-in-Err-NoPlaceLeft
+invariant_of-self-in-Err-NoPlaceLeft g c =
+    let none = c.in_default.ensures.empty in
+    let e = rw c.in-Err-NoPlaceLeft.field-0-is at c.in-Err-NoPlaceLeft.ensures in
+    rw (e.refused.1, none.0) (kept_grown c.self.invariant (rw none.1 at e.keeps))
+
+pub returns-in-Err-NoPlaceLeft-clause-ready : goal.returns-in-Err-NoPlaceLeft-clause-ready
+returns-in-Err-NoPlaceLeft-clause-ready g c can = let k = c.self.invariant in ap is_some (c.in_default.ensures.answer _ (shown k)) ∙ first_of_vacant k (rw (← c.self.view_is) at can)
+
+pub invariant_of-self-in-Err-OutOfMemory : goal.invariant_of-self-in-Err-OutOfMemory
+invariant_of-self-in-Err-OutOfMemory g c =
+    let none = c.in_default.ensures.empty in
+    let e = rw c.in-Err-OutOfMemory.field-0-is at c.in-Err-OutOfMemory.ensures in
+    rw (e.refused.1, none.0) (kept_grown c.self.invariant (rw none.1 at e.keeps))
+
+pub returns-in-Err-OutOfMemory-clause-ready : goal.returns-in-Err-OutOfMemory-clause-ready
+returns-in-Err-OutOfMemory-clause-ready g c can = let k = c.self.invariant in ap is_some (c.in_default.ensures.answer _ (shown k)) ∙ first_of_vacant k (rw (← c.self.view_is) at can)
+
+-- a new slot has a place
+pub overflow_add-self-2 : goal.overflow_add-self-2
+overflow_add-self-2 g c = omega (arith, few c.self.invariant.counted)
+
+pub invariant_of-self-2 : goal.invariant_of-self-2
+invariant_of-self-2 g c =
+    let none = c.in_default.ensures.empty in
+    let e = c.in-Ok.ensures in
+    rw none.0 (kept_placed c.self.invariant (rw none.1 at e.keeps) e.placed e.covered)
 
 pub returns-clause-inserted : goal.returns-clause-inserted
-returns-clause-inserted g c =
-    let k = c.self.invariant in
-    let pop = c.pop_front.ensures in
-    let handle = filled_handle k c.pop_front.new.links c.pop_front.new.self c.args.value (λ s shown. sym c.unwrap-slot.ensures ∙ pop.answer s shown) pop.removed (rw c.unwrap-slot.ensures at pop.released) pop.frame c.fill-generation.ensures.filled in
-    rw c.place.ensures (inserts_after c.in-Ok.ensures.unchanged (rw (← c.self.view_is) handle))
+returns-clause-inserted g c = rw (c.place-3.ensures, ← c.self.view_is) (inserts_new c.in-Ok.slot c.self.inside.len c.in-Ok.ensures.placed)

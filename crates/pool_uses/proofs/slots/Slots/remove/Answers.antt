@@ -1,6 +1,5 @@
-use Rattle.std.proofs.Common.{◌≡◌, ◌+◌, true, false, eq-eqb, sym, ◌∙◌}
 use Rattle.ic_container.proofs.EditLemmas.{joined_front}
-use Rattle.pool_uses.proofs.KeepingSlots.{emptied_free, emptied_handle, emptied_some, emptied_usable, emptied_value, kept_used_up, kept_vacated, members, shown}
+use Rattle.pool_uses.proofs.KeepingSlots.{emptied_free, emptied_handle, emptied_some, emptied_value, kept_used_up, kept_vacated, members, shown}
 use Rattle.pool_uses.proofs.slots.Slots.remove.Goals as goal
 
 pub overflow_sub-self : goal.overflow_sub-self
@@ -18,10 +17,7 @@ returns-then-handle-eq18446744073709551615-clause-value g c =
 
 pub returns-then-handle-eq18446744073709551615-clause-removed : goal.returns-then-handle-eq18446744073709551615-clause-removed
 returns-then-handle-eq18446744073709551615-clause-removed g c =
-    let last = eq-eqb (c.args.handle.generation + 1) 18446744073709551615 c.if-handle-eq18446744073709551615.true in
-    rw (← c.self.view_is)
-    (emptied_handle c.self.invariant c.args.handle (rw (← c.self.view_is) at c.in_ok-get.ensures) (rw c.new-slot.ensures at c.empty-value.ensures.emptied)
-    (λ no. let never : true ≡ false = sym last ∙ no in absurd (cc)))
+    rw (← c.self.view_is) (emptied_handle c.self.invariant c.args.handle (rw (← c.self.view_is) at c.in_ok-get.ensures) (rw c.new-slot.ensures at c.empty-value.ensures.emptied))
 
 -- it is vacant, and goes to the front of the list
 pub push_front-requires-clause-shown : goal.push_front-requires-clause-shown
@@ -41,7 +37,4 @@ returns-clause-value g c =
 
 pub returns-clause-removed : goal.returns-clause-removed
 returns-clause-removed g c =
-    let is = rw (← c.self.view_is) at c.in_ok-get.ensures in
-    let empties = rw c.new-slot.ensures at c.empty-value.ensures.emptied in
-    rw (← c.self.view_is)
-    (emptied_handle c.self.invariant c.args.handle is empties (λ no. (c.args.handle.place, emptied_usable c.self.invariant c.args.handle is empties c.if-handle-eq18446744073709551615.false)))
+    rw (← c.self.view_is) (emptied_handle c.self.invariant c.args.handle (rw (← c.self.view_is) at c.in_ok-get.ensures) (rw c.new-slot.ensures at c.empty-value.ensures.emptied))
