@@ -81,12 +81,8 @@ changed_apart front out back {r} h fits =
 
 -- FREE ADDRESSES of what is cut at a region: those of the others, and its own
 free_with : (front : List Region) (r : Region) (back : List Region) (a : ℕ) → IsFree (front ++ r ∷ back) a ↔ (IsFree (front ++ back) a ⊎ Has r a)
-free_with [] r back a = (λ free. elim free [ inl own ↦ inr own | inr other ↦ inl other ], λ either. elim either [ inl other ↦ inr other | inr own ↦ inl own ])
-free_with (x ∷ front) r back a =
-    let rest = free_with front r back a in (
-      λ free. elim free [ inl has ↦ inl (inl has) | inr free ↦ elim (rest.0 free) [ inl other ↦ inl (inr other) | inr own ↦ inr own ] ],
-      λ either. elim either [ inl free ↦ elim free [ inl has ↦ inl has | inr other ↦ inr (rest.1 (inl other)) ] | inr own ↦ inr (rest.1 (inr own)) ],
-    )
+free_with [] r back a = (λ free. grind arith, λ either. grind arith)
+free_with (x ∷ front) r back a = let rest = free_with front r back a in (λ free. grind (arith, rest), λ either. grind (arith, rest))
 
 pub free_here : (front : List Region) (r : Region) (back : List Region) (a : ℕ) → Has r a → IsFree (front ++ r ∷ back) a
 free_here front r back a own = (free_with front r back a).1 (inr own)

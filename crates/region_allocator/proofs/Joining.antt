@@ -1,6 +1,5 @@
 -- A region that is freed joins those that it touches, and what is left of one that is cut.
 use Rattle.std.proofs.Common.{◌≡◌, ◌≢◌, ℕ, ◌+◌, ◌<◌, ◌⊎◌, ◌↔◌, inl, inr, List, refl, sym, subst, arith, add_assoc}
-use Rattle.std.proofs.lemmas.Bool.{cases_lt}
 use Rattle.std.specs.List.{AllByRecursion}
 use Rattle.ic_link_ops.proofs.Each.{all_both, all_map, all_without}
 use Rattle.region_allocator.specs.declared.region.Region.{Region}
@@ -15,29 +14,17 @@ IsBeside region x = AreApart region x ⊎ ((end_of x ≡ region.start) ⊎ (x.st
 
 -- ADDRESSES, those of two parts: `Was` and `Is` are in addition to the same others, and differ by `More`
 frees_more : {Old New Others Was Is More : Type 0} → Old ↔ (Others ⊎ Was) → New ↔ (Others ⊎ Is) → Is ↔ (Was ⊎ More) → New ↔ (Old ⊎ More)
-frees_more old new parts = (
-  λ free. elim (new.0 free) [ inl other ↦ inl (old.1 (inl other)) | inr is ↦ elim (parts.0 is) [ inl was ↦ inl (old.1 (inr was)) | inr more ↦ inr more ] ],
-  λ either. elim either [
-    | inl free ↦ elim (old.0 free) [ inl other ↦ new.1 (inl other) | inr was ↦ new.1 (inr (parts.1 (inl was))) ]
-    | inr more ↦ new.1 (inr (parts.1 (inr more)))
-  ],
-)
+frees_more old new parts = (λ free. grind (arith, old, new, parts), λ either. grind (arith, old, new, parts))
 
 leaves_less : {Old New Others Was Is Less : Type 0} → Old ↔ (Others ⊎ Was) → New ↔ (Others ⊎ Is) → Was ↔ (Less ⊎ Is) → (Others → Less → ⊥) → (Is → Less → ⊥) → New ↔ (Old × ¬ Less)
-leaves_less old new parts off out = (
-  λ free. elim (new.0 free) [ inl other ↦ (old.1 (inl other), off other) | inr is ↦ (old.1 (inr (parts.1 (inr is))), out is) ],
-  λ both. elim (old.0 both.0) [ inl other ↦ new.1 (inl other) | inr was ↦ elim (parts.0 was) [ inl less ↦ absurd (both.1 less) | inr is ↦ new.1 (inr is) ] ],
-)
+leaves_less old new parts off out = (λ free. grind (arith, old, new, parts, off, out), λ both. grind (arith, old, new, parts, off, out))
 
 swapped : {P Q R : Type 0} → P ↔ (Q ⊎ R) → P ↔ (R ⊎ Q)
-swapped both = (λ p. elim (both.0 p) [ inl q ↦ inr q | inr r ↦ inl r ], λ either. elim either [ inl r ↦ both.1 (inr r) | inr q ↦ both.1 (inl q) ])
+swapped both = (λ p. grind (arith, both), λ either. grind (arith, both))
 
 -- two regions that touch have the addresses of one
 has_joined : (x y joined : Region) → joined.start ≡ x.start → end_of x ≡ y.start → end_of joined ≡ end_of y → (a : ℕ) → Has joined a ↔ (Has x a ⊎ Has y a)
-has_joined x y joined from at to a = (
-  λ has. elim (cases_lt a y.start) [ inl low ↦ inl (omega (arith, has.0, from), omega (arith, low, at)) | inr high ↦ inr (high, omega (arith, has.1, to)) ],
-  λ either. elim either [ inl has ↦ (omega (arith, has.0, from), omega (arith, has.1, at, to)) | inr has ↦ (omega (arith, has.0, from, at), omega (arith, has.1, to)) ],
-)
+has_joined x y joined from at to a = (λ has. grind arith, λ either. grind arith)
 
 -- one that touches a region is not apart from it
 pub touches_front : (region x : Region) → end_of x ≡ region.start → AreApart region x → ⊥
@@ -50,9 +37,7 @@ touches_back region x at apart = grind arith
 pub none_touches : (region : Region) (s : List Region) → AllByRecursion (IsBeside region) s → AllByRecursion (λ x. end_of x ≢ region.start) s → AllByRecursion (λ x. x.start ≢ end_of region) s → AllByRecursion (AreApart region) s
 none_touches region s beside front back = all_map apart s (all_and _ _ s beside (all_and _ _ s front back)) where
   apart : (x : Region) → IsBeside region x × ((end_of x ≢ region.start) × (x.start ≢ end_of region)) → AreApart region x
-  apart x (inl e, n) = e
-  apart x (inr (inl e), n) = absurd (n.0 e)
-  apart x (inr (inr e), n) = absurd (n.1 e)
+  apart x h = grind arith
 
 -- no address of a region is free where all are beside it
 beside_not : (region : Region) (s : List Region) → AllByRecursion (IsBeside region) s → (a : ℕ) → Has region a → IsFree s a → ⊥
@@ -143,7 +128,7 @@ module _ {out : Region} (length rest : ℕ) (sum : length + rest ≡ out.length)
     pub cut_whole : rest ≡ 0 → Adds out new s → AllocatesRegion (region_of out.start length) s new
     cut_whole none less = record {
       was_free = λ a has. (adds_free less a).1 (inr ((has_parts a).1 (inl has)));
-      free = λ a. leaves_less (adds_free less a) (λ free. inl free, λ either. elim either [ inl free ↦ free | inr has ↦ absurd (omega (arith, has.0, has.1, none)) ]) (has_parts a)
+      free = λ a. leaves_less (adds_free less a) (λ free. inl free, λ either. grind (arith, none)) (has_parts a)
           (λ other has. others_not less.front out less.back (subst StandApart less.is apart) a (subst (λ (l : List Region). IsFree l a) less.was other) ((has_parts a).1 (inl has))) (left_not a);
     }
 

@@ -199,7 +199,7 @@ module _ {A B : Type 0} where
             beside = beside_put more z' p (placed_there places) (numbers_stay z z' same p ∙ told) (λ q n t there. numbers_stay z z' same q ∙ k.beside q t (sym (others_placed places q n) ∙ there));
             consistent = λ s shown. consistent_in node_of s (put k.by_start.sorted.members members_consistent).inserted.shows shown;
             apart = subst StandApart (sym a.1.is) (added_apart a.1.front a.1.back r is (subst StandApart was k.apart) (subst (AllByRecursion (AreApart r)) (regions_are ∙ was) apart)
-                (front_is_least start_of a.1.front r a.1.back (subst (λ (l : List Region). IsSorted nat_cmp (map start_of l)) a.1.is a.1.sorted)) (all_map (λ x less. told_lt r.start x.start _ refl less) a.1.back a.1.greater));
+                (front_is_least start_of a.1.front r a.1.back (subst (λ (l : List Region). IsSorted nat_cmp (map start_of l)) a.1.is a.1.sorted)) (all_map (λ x less. told_lt r.start x.start less) a.1.back a.1.greater));
           },
           record { front = a.1.front; back = a.1.back; was = regions_are ∙ was; is = ap (values_at more) (plain_members w' a.2.sorted.shown) ∙ a.2.sorted.stand.are ∙ a.1.is },
         )

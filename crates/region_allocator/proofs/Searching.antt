@@ -107,10 +107,10 @@ module _ {A B : Type 0} {objects : Objects Region} {w : TreeLinkOps A} {root : O
     apart = parts_apart (values_at objects gap.front) (values_at objects gap.back) (subst StandApart cut_is (shown_apart k))
 
     low : (p : Place) {x : Region} → object_at objects p ≡ Some x → last gap.front ≡ Some p → x.start ≤ n
-    low p {x} there at = told_ge n x.start _ refl (sym (ap (λ (o : Option Region). is_ge (answer_at (order_of nat_cmp start_of n) o)) there) ∙ not-false _ (border.fails p at))
+    low p {x} there at = told_ge n x.start (sym (ap (λ (o : Option Region). is_ge (answer_at (order_of nat_cmp start_of n) o)) there) ∙ not-false _ (border.fails p at))
 
     high : (p : Place) {x : Region} → object_at objects p ≡ Some x → first gap.back ≡ Some p → n < x.start
-    high p {x} there at = told_less n x.start _ refl (sym (ap (λ (o : Option Region). is_ge (answer_at (order_of nat_cmp start_of n) o)) there) ∙ not-true _ (border.passes p at))
+    high p {x} there at = told_less n x.start (sym (ap (λ (o : Option Region). is_ge (answer_at (order_of nat_cmp start_of n) o)) there) ∙ not-true _ (border.passes p at))
 
     front_parts : (o : Option Place) → last gap.front ≡ o → IsLast objects (values_at objects gap.front) (found_at objects o) × AllByRecursion (λ (x : Region). x.start ≤ n) (values_at objects gap.front)
     front_parts None at = let none = ap (values_at objects) (nothing_last gap.front (sym at)) in (none, rw none tt)

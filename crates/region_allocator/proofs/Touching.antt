@@ -14,12 +14,8 @@ use Rattle.ic_link_ops.proofs.Each.{all_both, all_map, all_back}
 
 -- what is free of two parts
 free_parts : (front back : List Region) (a : ℕ) → IsFree (front ++ back) a ↔ (IsFree front a ⊎ IsFree back a)
-free_parts [] back a = (λ free. inr free, λ either. elim either [ inl never ↦ absurd never | inr free ↦ free ])
-free_parts (x ∷ front) back a =
-    let rest = free_parts front back a in (
-      λ free. elim free [ inl has ↦ inl (inl has) | inr free ↦ elim (rest.0 free) [ inl left ↦ inl (inr left) | inr right ↦ inr right ] ],
-      λ either. elim either [ inl free ↦ elim free [ inl has ↦ inl has | inr left ↦ inr (rest.1 (inl left)) ] | inr right ↦ inr (rest.1 (inr right)) ],
-    )
+free_parts [] back a = (λ free. grind arith, λ either. grind arith)
+free_parts (x ∷ front) back a = let rest = free_parts front back a in (λ free. grind (arith, rest), λ either. grind (arith, rest))
 
 module _ (objects : Objects Region) where
   -- the last of regions ends behind all, and the first starts in front of all

@@ -1,4 +1,5 @@
-use Rattle.std.proofs.Common.{◌≡◌, ◌≢◌, Some, Result, Ok, Err, OnOk, sym, ap, ◌∙◌, arith}
+use Rattle.std.proofs.Common.{◌≡◌, ◌≢◌, Some, sym, ap, ◌∙◌, arith}
+use Rattle.std.proofs.lemmas.Result.{on_ok_weaker}
 use Rattle.ic_unsafe_ref.specs.Objects.{Objects, object_at}
 use Rattle.region_allocator.specs.declared.neighbors.Found.{Found}
 use Rattle.region_allocator.specs.declared.region.Region.{Region}
@@ -8,10 +9,6 @@ use Rattle.region_allocator.proofs.Apart.{all_regions}
 use Rattle.region_allocator.proofs.Joining.{adds_frees, none_touches, touches_front, touches_back, front_fits, front_frees, back_fits, back_frees, both_fit, both_frees}
 use Rattle.region_allocator.proofs.Keeping.{shown_apart, others_apart, at_region}
 use Rattle.region_allocator.proofs.free_regions.FreeRegions.add.Goals as goal
-
-on_ok : {A E P Q : Type 0} (r : Result A E) → (P → Q) → OnOk r P → OnOk r Q
-on_ok (Ok a) f holds = f holds
-on_ok (Err e) f holds = tt
 
 -- the region in front stands elsewhere than the one behind
 elsewhere : {objects : Objects Region} {front back : Found} {region : Region} → IsRegion region → IsFound objects front × (end_of front.region ≡ region.start) → IsFound objects back × (back.region.start ≡ end_of region)
@@ -51,7 +48,7 @@ resize-requires-in-Some-back-2-clause-fits g c out there =
 pub returns-in-None-back-clause-freed : goal.returns-in-None-back-clause-freed
 returns-in-None-back-clause-freed g c =
     let t = rw (c.in-None.is, c.in-None-back.is) at c.in-Ok.ensures.touched in
-    on_ok c.put_in.result (adds_frees c.requires.region (none_touches c.args.region _ t.each t.front_is t.back_is)) c.put_in.ensures.put
+    on_ok_weaker c.put_in.result (adds_frees c.requires.region (none_touches c.args.region _ t.each t.front_is t.back_is)) c.put_in.ensures.put
 
 pub returns-in-Some-back-clause-freed : goal.returns-in-Some-back-clause-freed
 returns-in-Some-back-clause-freed g c =
