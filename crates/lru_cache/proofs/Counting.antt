@@ -1,5 +1,5 @@
 -- What a cache keeps over each of its calls.
-use Rattle.std.proofs.Common.{◌≡◌, ◌≢◌, ℕ, eqb, cond, ◌+◌, ◌-◌, Option, None, Some, IsSome, List, [], ◌∷◌, ◌++◌, length, refl, sym, ap, ◌∙◌, arith, subst, true≢false}
+use Rattle.std.proofs.Common.{◌≡◌, ◌≢◌, ℕ, eqb, cond, ◌+◌, ◌-◌, Option, None, Some, IsSome, List, ◌∷◌, ◌++◌, length, refl, sym, ap, ◌∙◌, arith, subst, true≢false}
 use Rattle.std.specs.Option.{option_or}
 use Rattle.ic_container.specs.Values.{Without}
 use Rattle.ic_indexed.specs.Indexed.{IndexedOrder}

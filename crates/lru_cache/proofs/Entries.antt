@@ -1,5 +1,5 @@
 -- Entries by their keys: the one of a key among others, and what is left without it.
-use Rattle.std.proofs.Common.{◌≡◌, ◌≢◌, ℕ, zero, suc, ◌+◌, ◌≤◌, Bool, true, false, not, eqb, Option, None, Some, List, [], ◌∷◌, ◌++◌, length, take, filter, refl, sym, ap, ◌∙◌, subst, arith, append-nil, cond, eqb-true, length-append, ne_eqb}
+use Rattle.std.proofs.Common.{◌≡◌, ◌≢◌, ℕ, zero, suc, ◌+◌, ◌≤◌, Bool, true, false, not, eqb, Option, None, Some, List, [], ◌∷◌, ◌++◌, length, take, filter, refl, sym, ap, ◌∙◌, subst, arith, append-nil, cond, eq-eqb, eqb-true, length-append, ne_eqb}
 use Rattle.std.proofs.lemmas.Bool.{eqb-false}
 use Rattle.std.proofs.lemmas.List.{take_all, take-append-le}
 use Rattle.std.proofs.lemmas.Option.{same_Some}
@@ -8,7 +8,7 @@ use Rattle.std.proofs.lemmas.List.Folds.{find-append}
 use Rattle.std.specs.List.{AllByRecursion, slice_get}
 use Rattle.std.specs.Option.{option_or}
 use Rattle.ic_link_ops.proofs.SequenceLemmas.{none_not}
-use Rattle.ic_link_ops.proofs.Each.{all_both, all_map, all_without}
+use Rattle.ic_link_ops.proofs.Each.{all_back, all_both, all_map, all_without}
 use Rattle.ic_rbtree.proofs.KeyLaws.{filter_front, filter_pass}
 use Rattle.ic_container.specs.Values.{Without}
 use Rattle.lru_cache.specs.declared.entry.Entry.{Entry}
@@ -17,10 +17,7 @@ use Rattle.lru_cache.specs.Cache.{Cache, key_of, has_key, entry_with, without, t
 
 -- a key is itself
 pub itself : (k : ℕ) → eqb k k ≡ true
-itself k = by (eqb k k) refl where
-  by : (b : Bool) → eqb k k ≡ b → b ≡ true
-  by true e = refl
-  by false e = absurd (eqb-false k k e refl)
+itself k = eq-eqb k k refl
 
 module _ {V : Type 0} where
   -- none of them has the key
@@ -41,21 +38,13 @@ module _ {V : Type 0} where
   other_way : (a b : Entry V) → has_key (key_of a) b ≡ false → has_key (key_of b) a ≡ false
   other_way a b h = ne_eqb (key_of a) (key_of b) (λ same. eqb-false (key_of b) (key_of a) h (sym same))
 
-  all_at : (P : Entry V → Type 0) (front : List (Entry V)) (entry : Entry V) (back : List (Entry V)) → AllByRecursion P (front ++ entry ∷ back) → P entry
-  all_at P [] entry back h = h.0
-  all_at P (x ∷ front) entry back h = all_at P front entry back h.1
-
-  own_front : (front : List (Entry V)) (entry : Entry V) (back : List (Entry V)) → HaveOwnKeys (front ++ entry ∷ back) → Lack (key_of entry) front
-  own_front [] entry back own = tt
-  own_front (x ∷ front) entry back own = (other_way x entry (all_at (λ other. has_key (key_of x) other ≡ false) front entry back own.0), own_front front entry back own.1)
-
-  own_back : (front : List (Entry V)) (entry : Entry V) (back : List (Entry V)) → HaveOwnKeys (front ++ entry ∷ back) → Lack (key_of entry) back
-  own_back [] entry back own = own.0
-  own_back (x ∷ front) entry back own = own_back front entry back own.1
-
-  own_rest : (front : List (Entry V)) (entry : Entry V) (back : List (Entry V)) → HaveOwnKeys (front ++ entry ∷ back) → HaveOwnKeys (front ++ back)
-  own_rest [] entry back own = own.1
-  own_rest (x ∷ front) entry back own = (all_without (λ other. has_key (key_of x) other ≡ false) front entry back own.0, own_rest front entry back own.1)
+  -- cut at an entry: none in front and none behind has its key
+  own_cut : (front : List (Entry V)) (entry : Entry V) (back : List (Entry V)) → HaveOwnKeys (front ++ entry ∷ back) → Lack (key_of entry) front × Lack (key_of entry) back × HaveOwnKeys (front ++ back)
+  own_cut [] entry back own = (tt, own.0, own.1)
+  own_cut (x ∷ front) entry back own =
+      let cut = own_cut front entry back own.1 in
+      let apart = all_back (λ other. has_key (key_of x) other ≡ false) front (entry ∷ back) own.0 in
+      ((other_way x entry apart.0, cut.0), cut.1, (all_without (λ other. has_key (key_of x) other ≡ false) front entry back own.0, cut.2))
 
   -- ONE ENTRY OF THOSE, which have their own keys
   module _ {entry : Entry V} {entries rest : List (Entry V)} (w : Without entry entries rest) where
@@ -68,37 +57,34 @@ module _ {V : Type 0} where
         subst (Lack key) (sym w.is) (all_without (λ other. has_key key other ≡ false) w.front entry w.back (subst (Lack key) w.was lack))
 
     module _ (own : HaveOwnKeys entries) where
-      lack_front : Lack (key_of entry) w.front
-      lack_front = own_front w.front entry w.back (subst HaveOwnKeys w.was own)
-
-      lack_back : Lack (key_of entry) w.back
-      lack_back = own_back w.front entry w.back (subst HaveOwnKeys w.was own)
+      cut : Lack (key_of entry) w.front × Lack (key_of entry) w.back × HaveOwnKeys (w.front ++ w.back)
+      cut = own_cut w.front entry w.back (subst HaveOwnKeys w.was own)
 
       pub rest_own : HaveOwnKeys rest
-      rest_own = subst HaveOwnKeys (sym w.is) (own_rest w.front entry w.back (subst HaveOwnKeys w.was own))
+      rest_own = subst HaveOwnKeys (sym w.is) cut.2
 
       pub rest_lack : Lack (key_of entry) rest
-      rest_lack = subst (Lack (key_of entry)) (sym w.is) (all_both (λ other. has_key (key_of entry) other ≡ false) w.front w.back lack_front lack_back)
+      rest_lack = subst (Lack (key_of entry)) (sym w.is) (all_both (λ other. has_key (key_of entry) other ≡ false) w.front w.back cut.0 cut.1)
 
       -- it is found,
       pub found_it : entry_with (key_of entry) entries ≡ Some entry
       found_it =
           ap (entry_with (key_of entry)) w.was ∙ find-append (has_key (key_of entry)) w.front (entry ∷ w.back)
-          ∙ ap (λ (o : Option (Entry V)). option_or o (entry_with (key_of entry) (entry ∷ w.back))) (found_none (key_of entry) w.front lack_front) ∙ rw (itself (key_of entry)) refl
+          ∙ ap (λ (o : Option (Entry V)). option_or o (entry_with (key_of entry) (entry ∷ w.back))) (found_none (key_of entry) w.front cut.0) ∙ rw (itself (key_of entry)) refl
 
       -- the others are left without it,
       pub without_it : without (key_of entry) entries ≡ rest
       without_it =
           let test : Entry V → Bool = λ other. not (has_key (key_of entry) other) in
           ap (without (key_of entry)) w.was ∙ filter-append test w.front (entry ∷ w.back)
-          ∙ rw (without_none (key_of entry) w.front lack_front, itself (key_of entry), without_none (key_of entry) w.back lack_back) (sym w.is)
+          ∙ rw (without_none (key_of entry) w.front cut.0, itself (key_of entry), without_none (key_of entry) w.back cut.1) (sym w.is)
 
       -- and it goes in front of them
       pub touched_it : touched (key_of entry) entries ≡ entry ∷ rest
       touched_it =
           let first : filter (has_key (key_of entry)) entries ≡ entry ∷ [] =
           ap (filter (has_key (key_of entry))) w.was ∙ filter-append (has_key (key_of entry)) w.front (entry ∷ w.back)
-          ∙ rw (with_none (key_of entry) w.front lack_front, itself (key_of entry), with_none (key_of entry) w.back lack_back) refl in
+          ∙ rw (with_none (key_of entry) w.front cut.0, itself (key_of entry), with_none (key_of entry) w.back cut.1) refl in
           ap (λ (l : List (Entry V)). l ++ without (key_of entry) entries) first ∙ ap (λ (l : List (Entry V)). entry ∷ l) without_it
 
   found_has : (key : ℕ) (entries : List (Entry V)) {entry : Entry V} → entry_with key entries ≡ Some entry → has_key key entry ≡ true

@@ -1,7 +1,7 @@
 -- Which entry a key finds.
-use Rattle.std.proofs.Common.{◌≡◌, ◌≢◌, ℕ, true, false, Option, None, Some, IfSome, is_some, List, sym, ap, ◌∙◌, ne_eqb}
+use Rattle.std.proofs.Common.{◌≡◌, ℕ, true, false, Option, None, Some, IfSome, is_some, sym, ap, ◌∙◌, ne_eqb}
 use Rattle.ic_unsafe_ref.specs.declared.place.Place.{Place}
-use Rattle.ic_unsafe_ref.specs.Objects.{object_at, is_placed}
+use Rattle.ic_unsafe_ref.specs.Objects.{is_placed}
 use Rattle.ic_link_ops.specs.Positions.{object_there}
 use Rattle.ic_link_ops.proofs.PlacedValues.{from_each}
 use Rattle.ic_container.specs.Orders.{IsWhole}
