@@ -5,7 +5,7 @@ use Rattle.ic_unsafe_ref.specs.Objects.{Objects}
 use Rattle.region_allocator.specs.declared.free_error.FreeError.{FreeError}
 use Rattle.region_allocator.specs.declared.neighbors.Found.{Found}
 use Rattle.region_allocator.specs.declared.region.Region.{Region}
-use Rattle.region_allocator.specs.Neighbors.{IsFound, IsLast, IsFirst, AreNeighbors, IsEnding, IsStarting, Touches, EndsBy, StartsFrom}
+use Rattle.region_allocator.specs.Neighbors.{IsLast, IsFirst, AreNeighbors, IsEnding, IsStarting, Touches, EndsBy, StartsFrom}
 use Rattle.region_allocator.specs.Refusals.{IsRefused}
 use Rattle.region_allocator.specs.Regions.{space_of, end_of, IsFree, IsRegion, StandApart}
 use Rattle.region_allocator.proofs.Joining.{IsBeside}
@@ -35,11 +35,9 @@ module _ (objects : Objects Region) where
   front_clear front n (Some found) None is apart ends =
       let all = last_ends front is.1.0 found.region is.1.1 apart in
       (all_map (λ x low. omega (arith, low, ends)) front all, all_map (λ x low same. omega (arith, low, ends, same)) front all)
-  front_clear front n None (Some result) is apart ends = absurd (let never : None ≡ Some result = ends.0 in cc)
-  front_clear front n (Some found) (Some result) is apart ends =
-      let same : found ≡ result = (let e : Some found ≡ Some result = ends.0 in cc) in
-      let all = last_ends front is.1.0 found.region is.1.1 apart in
-      (all_map (λ x low. omega (arith, low, ap (λ (f : Found). end_of f.region) same, ends.1)) front all, (subst (IsFound objects) same is.0, ends.1))
+  front_clear front n below (Some result) is apart ends =
+      let last = subst (IsLast objects front) ends.0 is in
+      (all_map (λ x low. omega (arith, low, ends.1)) front (last_ends front last.1.0 result.region last.1.1 apart), (last.0, ends.1))
 
   -- and none behind starts before it
   back_clear : (back : List Region) (n : ℕ) (above result : Option Found) → IsFirst objects back above → StandApart back → StartsFrom above n (Ok result)
@@ -48,11 +46,9 @@ module _ (objects : Objects Region) where
   back_clear back n (Some found) None is apart starts =
       let all = first_starts back is.1.0 found.region is.1.1 apart in
       (all_map (λ x high. omega (arith, high, starts)) back all, all_map (λ x high same. omega (arith, high, starts, same)) back all)
-  back_clear back n None (Some result) is apart starts = absurd (let never : None ≡ Some result = starts.0 in cc)
-  back_clear back n (Some found) (Some result) is apart starts =
-      let same : found ≡ result = (let e : Some found ≡ Some result = starts.0 in cc) in
-      let all = first_starts back is.1.0 found.region is.1.1 apart in
-      (all_map (λ x high. omega (arith, high, ap (λ (f : Found). f.region.start) same, starts.1)) back all, (subst (IsFound objects) same is.0, starts.1))
+  back_clear back n above (Some result) is apart starts =
+      let first = subst (IsFirst objects back) starts.0 is in
+      (all_map (λ x high. omega (arith, high, starts.1)) back (first_starts back first.1.0 result.region first.1.1 apart), (first.0, starts.1))
 
   ending_in : (s : List Region) (front : List Region) (n : ℕ) (result : Option Found) → IsEnding objects front n result → ((AllByRecursion (λ x. end_of x ≢ n) front) → AllByRecursion (λ x. end_of x ≢ n) s) → IsEnding objects s n result
   ending_in s front n None is more = more is
