@@ -1,12 +1,12 @@
 //! A list and the table of its links, which a scope borrows together: the form for a loop of many calls.
 //!
 //! ```text
-//! fn run_all(list: &mut LinkedList<Job>, links: &mut [Link]) {
-//!     let mut links = LentTable::new(links);
-//!     let mut lent = list.lend(&mut links);
+//! fn run_all<L: LinkedListOps>(list: &mut LinkedList<Job>, links: &mut L) {
+//!     let mut lent = list.lend(links);
 //!     while let Some(job) = lent.pop_front() { .. }
 //! }
-//! run_all(&mut list, table.lend()); // the list and the table have what `lent` showed last
+//! let mut links = LentTable::new(table.lend());
+//! run_all(&mut list, &mut links); // the list and the table have what `lent` showed last
 //! ```
 
 ghost use Rattle.std.specs.Prelude.{◌≡◌, ◌++◌, ◌∷◌, List, [], OnOk, OnErr, IfErr, IfSome, IfNone};
@@ -26,7 +26,7 @@ use ic_unsafe_ref::UnsafeRef;
 ///
 /// In a loop over it no call reads again where the list begins, as each call over a list behind a reference does. Over a view of the
 /// links ([`LentTable`](ic_link_ops::LentTable)) no call reads again where these are kept, either. When it goes out of scope, the list has
-/// what it showed last. A call that it does not have itself is made on its fields: `lent.list.cursor_mut(lent.links)`.
+/// what it showed last. A function that takes it by `&mut` makes all other calls on its fields: `lent.list.cursor_mut(lent.links)`.
 pub struct LentList<'a, K: ListKind, T, L> {
     home: &'a mut Chain<K, T>,
     /// The list.
