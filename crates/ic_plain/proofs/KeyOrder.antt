@@ -9,7 +9,7 @@ use Rattle.std.specs.declared.cmp.Ordering.TheVariants.{Less, Equal, Greater}
 use Rattle.ic_unsafe_ref.specs.declared.place.Place.{Place}
 use Rattle.ic_unsafe_ref.specs.Objects.{Objects, Places, object_at}
 use Rattle.ic_unsafe_ref.proofs.Placing.{others_placed}
-use Rattle.ic_link_ops.specs.PlacedObjects.{ArePlaced, values_at}
+use Rattle.ic_link_ops.specs.PlacedObjects.{ArePlaced, ShowsPlaced, values_at}
 use Rattle.ic_link_ops.specs.Positions.{HasMember}
 use Rattle.ic_link_ops.specs.RedBlackTree.{Node, Shows}
 use Rattle.ic_link_ops.specs.Sequences.{join, insert, first, last, but_last}
@@ -22,13 +22,15 @@ use Rattle.ic_link_ops.proofs.ShownTrees.{shows_nothing}
 use Rattle.ic_rbtree.specs.Borders.{Finds, IsBorder, IsLowerBorder, IsSorted, IsSortedFor, at_most_at, equal_at, less_at}
 use Rattle.ic_rbtree.specs.Comparing.{compared, order_of, own_order}
 use Rattle.ic_rbtree.specs.Ordered.{InsertsInOrder}
-use Rattle.ic_rbtree.specs.PlainTrees.{TreeLinkOps, PlainShows, plain_table}
+use Rattle.ic_rbtree.specs.PlainTrees.{TreeLink, ShowsTree}
+use Rattle.ic_rbtree.specs.Tree.{adapter_of, root_of}
+use Rattle.ic_rbtree.specs.declared.tree.RBTree.{RBTree}
 use Rattle.ic_rbtree.specs.declared.keys.key_adapter.Bound.TheVariants.{Included}
 use Rattle.ic_rbtree.proofs.KeyLaws.{cuts_at_most, found_is, lower_is, sorted_for, stays_sorted, value_there}
 use Rattle.ic_rbtree.proofs.PlainTrees.{plain_trees}
 use Rattle.ic_rbtree.proofs.SortedAnswers.{put_behind}
 use Rattle.ic_rbtree.proofs.SortedValues.{own_order_is}
-use Rattle.ic_plain.specs.SortedTrees.{ShowsInOrder}
+use Rattle.ic_plain.specs.SortedTrees.{IsInOrder, ShowsInOrder}
 
 -- a member at an end of what is shown
 pub first_member : {shows : List Place → Type 0} (s : List Place) → shows s → {p : Place} → Some p ≡ first s → HasMember shows p
@@ -73,18 +75,6 @@ module _ {T K : Type 0} {cmp : K → K → Ordering} (key : T → K) where
   -- A NEW TREE is in order
   pub nothing_in_order : {E : Type 0} {n : E → Node} (t : Table E) {root : Option Place} (objects : Objects T) → root ≡ None → ShowsInOrder cmp key (Shows n t root) objects
   nothing_in_order {n = n} t objects none = record { placed = record { members = []; shown = rw none (shows_nothing {n = n} t); placed = tt }; sorted = tt }
-
-  -- AFTER `Pool::place`: `keeps.entries` and `placed` are clauses of the call
-  pub placed_in_order : {A : Type 0} (links grown : TreeLinkOps A) {root : Option Place} {objects more : Objects T} {p : Place} {v : T}
-      → ((q : Place) → (plain_table grown).entry q ≡ (plain_table links).entry q) → Places objects more p v
-      → ShowsInOrder cmp key (PlainShows links root) objects → ShowsInOrder cmp key (PlainShows grown root) more
-  placed_in_order links grown {objects = objects} {more} {p} entries places o =
-      let s = o.placed.members in
-      let stood = stand_beside objects more p (others_placed places) (vacant_absent objects p places.vacant s o.placed.placed) (record { placed = o.placed.placed; are = refl }) in
-      record {
-        placed = record { members = s; shown = kept_shown plain_trees entries o.placed.shown; placed = stood.placed };
-        sorted = subst (λ (l : List T). IsSorted cmp (map key l)) (sym stood.are) o.sorted;
-      }
 
 module _ {T K : Type 0} {cmp : K → K → Ordering} (total : IsTotalOrder cmp) (key : T → K) {old : List Place → Type 0} (one : (s u : List Place) → old s → old u → s ≡ u) where
   module _ (objects : Objects T) (o : ShowsInOrder cmp key old objects) where
@@ -148,4 +138,22 @@ module _ {T K : Type 0} {cmp : K → K → Ordering} (total : IsTotalOrder cmp) 
         };
         sorted = subst (λ (l : List T). IsSorted cmp (map key l)) (sym (filter_map-append (object_at objects) m.front m.back))
             (rises_without total key (values_at objects m.front) v.0 (values_at objects m.back) (subst (λ (l : List T). IsSorted cmp (map key l)) are sorted));
+      }
+
+-- A TREE IN ORDER
+module _ {D T K : Type 0} (cmp : K → K → Ordering) (key_of : D → T → K) (t : Table TreeLink) (tree : RBTree D) (objects : Objects T) (o : IsInOrder cmp key_of t tree objects) where
+  -- is shown, with an object at each member,
+  pub in_order_placed : ShowsPlaced (ShowsTree t (root_of tree)) objects
+  unfolding IsInOrder
+  in_order_placed = o.placed
+
+  -- and is so AFTER `Pool::place`: `keeps.entries` and `placed` are clauses of the call
+  pub in_order_grown : (grown : Table TreeLink) {more : Objects T} {p : Place} {v : T} → ((q : Place) → grown.entry q ≡ t.entry q) → Places objects more p v → IsInOrder cmp key_of grown tree more
+  unfolding IsInOrder
+  in_order_grown grown {more} {p} entries places =
+      let s = o.placed.members in
+      let stood = stand_beside objects more p (others_placed places) (vacant_absent objects p places.vacant s o.placed.placed) (record { placed = o.placed.placed; are = refl }) in
+      record {
+        placed = record { members = s; shown = kept_shown plain_trees entries o.placed.shown; placed = stood.placed };
+        sorted = subst (λ (l : List T). IsSorted cmp (map (key_of (adapter_of tree)) l)) (sym stood.are) o.sorted;
       }

@@ -30,9 +30,13 @@ plain_table links = table no_word links
 abbrev pub ShowsList : Table SinglyLink → Front → List Place → Type 0
 ShowsList = Shows (successor_of next_word_of has_word)
 
+-- and some sequence
+abbrev pub ShowsSomeList : Table SinglyLink → Front → Type 0
+ShowsSomeList = ShowsSome (successor_of next_word_of has_word)
+
 -- the plain table does; and it shows some sequence
 abbrev pub PlainShows : {A : Type 0} → SinglyLinkOps A → Front → List Place → Type 0
 PlainShows links list s = ShowsList (plain_table links) list s
 
 abbrev pub PlainShowsSome : {A : Type 0} → SinglyLinkOps A → Front → Type 0
-PlainShowsSome links list = ShowsSome (successor_of next_word_of has_word) (plain_table links) list
+PlainShowsSome links list = ShowsSomeList (plain_table links) list

@@ -31,9 +31,13 @@ plain_table links = table no_word links
 abbrev pub ShowsList : Table XorLink → Ends → List Place → Type 0
 ShowsList = Shows is_linked (XorJoins next_word_of)
 
+-- and some sequence
+abbrev pub ShowsSomeList : Table XorLink → Ends → Type 0
+ShowsSomeList = ShowsSome is_linked (XorJoins next_word_of)
+
 -- the plain table does; and it shows some sequence
 abbrev pub PlainShows : {A : Type 0} → XorLinkOps A → Ends → List Place → Type 0
 PlainShows links list s = ShowsList (plain_table links) list s
 
 abbrev pub PlainShowsSome : {A : Type 0} → XorLinkOps A → Ends → Type 0
-PlainShowsSome links list = ShowsSome is_linked (XorJoins next_word_of) (plain_table links) list
+PlainShowsSome links list = ShowsSomeList (plain_table links) list

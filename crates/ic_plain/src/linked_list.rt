@@ -11,7 +11,8 @@ ghost use Rattle.ic_unsafe_ref.specs.declared.place.Place.{Place};
 ghost use Rattle.ic_link_ops.specs.Sequences.{first, last, but_last};
 ghost use Rattle.ic_link_ops.specs.Tables.{Table, IsCovered, IsUnlinked, LinksAlso, Unlinks, KeepsLinked, KeepsBeside};
 ghost use Rattle.ic_link_ops.specs.Positions.{HasMember};
-ghost use Rattle.ic_link_ops.specs.DoublyEntries.{DoublyLink, ShowsList, is_linked, plain_table, PlainShows, PlainShowsSome};
+ghost use Rattle.ic_link_ops.specs.LinkedList.{ShowsSome};
+ghost use Rattle.ic_link_ops.specs.DoublyEntries.{DoublyLink, ShowsList, is_linked, neighbors_of, plain_table, PlainShows, PlainShowsSome};
 
 use ic_link_ops::linked_list::LinkOps;
 use ic_linked_list::LinkedList;
@@ -22,6 +23,7 @@ use std::alloc::Allocator;
 #[inline]
 pub fn new<T>() -> LinkedList<T>
     ensures empty { (t : Table DoublyLink) → ShowsList t result [] }
+    ensures shows { (t : Table DoublyLink) → ShowsSome neighbors_of t result }
 {
     LinkedList::new()
 }
@@ -67,6 +69,7 @@ pub fn push_front<T, A: Allocator>(
     requires unlinked { IsUnlinked is_linked (plain_table links.old) object }
     requires shown { PlainShowsSome links.old list.old }
     ensures shown { (s : List Place) → PlainShows links.old list.old s → PlainShows links.new list.new (object ∷ s) }
+    ensures shows { PlainShowsSome links.new list.new }
     ensures linked { LinksAlso is_linked (plain_table links.old) (plain_table links.new) object }
     ensures frame { (s : List Place) → PlainShows links.old list.old s
         → KeepsBeside (plain_table links.old) (plain_table links.new) (object ∷ s) }
@@ -85,6 +88,7 @@ pub fn push_back<T, A: Allocator>(
     requires unlinked { IsUnlinked is_linked (plain_table links.old) object }
     requires shown { PlainShowsSome links.old list.old }
     ensures shown { (s : List Place) → PlainShows links.old list.old s → PlainShows links.new list.new (s ++ object ∷ []) }
+    ensures shows { PlainShowsSome links.new list.new }
     ensures linked { LinksAlso is_linked (plain_table links.old) (plain_table links.new) object }
     ensures frame { (s : List Place) → PlainShows links.old list.old s
         → KeepsBeside (plain_table links.old) (plain_table links.new) (object ∷ s) }
@@ -101,6 +105,7 @@ pub fn pop_front<T, A: Allocator>(
     requires shown { PlainShowsSome links.old list.old }
     ensures answer { (s : List Place) → PlainShows links.old list.old s → result ≡ first s }
     ensures shown { (s : List Place) → PlainShows links.old list.old s → PlainShows links.new list.new (drop 1 s) }
+    ensures shows { PlainShowsSome links.new list.new }
     ensures unlinked { IfSome result (λ object. Unlinks is_linked (plain_table links.old) (plain_table links.new) object) }
     ensures empty { IfNone result ((list.new ≡ list.old) × (links.new ≡ links.old)) }
     ensures frame { (s : List Place) → PlainShows links.old list.old s → KeepsBeside (plain_table links.old) (plain_table links.new) s }
@@ -117,6 +122,7 @@ pub fn pop_back<T, A: Allocator>(
     requires shown { PlainShowsSome links.old list.old }
     ensures answer { (s : List Place) → PlainShows links.old list.old s → result ≡ last s }
     ensures shown { (s : List Place) → PlainShows links.old list.old s → PlainShows links.new list.new (but_last s) }
+    ensures shows { PlainShowsSome links.new list.new }
     ensures unlinked { IfSome result (λ object. Unlinks is_linked (plain_table links.old) (plain_table links.new) object) }
     ensures empty { IfNone result ((list.new ≡ list.old) × (links.new ≡ links.old)) }
     ensures frame { (s : List Place) → PlainShows links.old list.old s → KeepsBeside (plain_table links.old) (plain_table links.new) s }
@@ -134,6 +140,7 @@ pub fn remove<T, A: Allocator>(
     requires member { HasMember (PlainShows links.old list.old) object.now }
     ensures shown { (front back : List Place) → PlainShows links.old list.old (front ++ object.now ∷ back)
         → PlainShows links.new list.new (front ++ back) }
+    ensures shows { PlainShowsSome links.new list.new }
     ensures unlinked { Unlinks is_linked (plain_table links.old) (plain_table links.new) object.now }
     ensures frame { (s : List Place) → PlainShows links.old list.old s → KeepsBeside (plain_table links.old) (plain_table links.new) s }
 {
@@ -150,6 +157,7 @@ pub fn move_to_front<T, A: Allocator>(
     requires member { HasMember (PlainShows links.old list.old) object.now }
     ensures shown { (front back : List Place) → PlainShows links.old list.old (front ++ object.now ∷ back)
         → PlainShows links.new list.new (object.now ∷ (front ++ back)) }
+    ensures shows { PlainShowsSome links.new list.new }
     ensures linked { KeepsLinked is_linked (plain_table links.old) (plain_table links.new) }
     ensures frame { (s : List Place) → PlainShows links.old list.old s → KeepsBeside (plain_table links.old) (plain_table links.new) s }
 {
@@ -166,6 +174,7 @@ pub fn move_to_back<T, A: Allocator>(
     requires member { HasMember (PlainShows links.old list.old) object.now }
     ensures shown { (front back : List Place) → PlainShows links.old list.old (front ++ object.now ∷ back)
         → PlainShows links.new list.new ((front ++ back) ++ object.now ∷ []) }
+    ensures shows { PlainShowsSome links.new list.new }
     ensures linked { KeepsLinked is_linked (plain_table links.old) (plain_table links.new) }
     ensures frame { (s : List Place) → PlainShows links.old list.old s → KeepsBeside (plain_table links.old) (plain_table links.new) s }
 {

@@ -11,7 +11,9 @@ ghost use Rattle.std.specs.Prelude.{◌≡◌, ◌↔◌, ◌++◌, ◌∷◌, [
 ghost use Rattle.ic_unsafe_ref.specs.declared.place.Place.{Place};
 ghost use Rattle.ic_unsafe_ref.specs.Objects.{Objects as Placed, is_placed};
 ghost use Rattle.ic_link_ops.specs.Positions.{HasMember};
+ghost use Rattle.ic_link_ops.specs.RedBlackTree.{ShowsSome};
 ghost use Rattle.ic_link_ops.specs.Sequences.{first, last, but_last};
+ghost use Rattle.ic_link_ops.specs.ThreeWords.{node_of};
 ghost use Rattle.ic_link_ops.specs.Tables.{Table, IsCovered, IsUnlinked, LinksAlso, Unlinks, KeepsBeside};
 ghost use Rattle.ic_rbtree.specs.PlainTrees.{TreeLink, ShowsTree, is_linked, plain_table, PlainShows, PlainShowsSome};
 ghost use Rattle.ic_rbtree.specs.Tree.{adapter_of, root_of};
@@ -28,6 +30,7 @@ use std::alloc::Allocator;
 #[inline]
 pub fn new<K: KeyAdapter>(adapter: K) -> RBTree<K>
     ensures empty { (t : Table TreeLink) → ShowsTree t (root_of result) [] }
+    ensures shows { (t : Table TreeLink) → ShowsSome node_of t (root_of result) }
     ensures sorted { (t : Table TreeLink) (objects : Placed K.Value) → IsInOrder K.Key.cmp K.key_of t result objects }
     ensures adapter { adapter_of result ≡ adapter }
 {
@@ -138,6 +141,7 @@ pub fn insert<K: KeyAdapter, A: Allocator, B: Allocator>(
     requires sorted { IsInOrder K.Key.cmp K.key_of (plain_table links.old) tree.old objects.now }
     ensures shown { (s : List Place) → PlainShows links.old (root_of tree.old) s → PlainShows links.new (root_of tree.new)
         (put_by_key K.Key.cmp K.key_of tree.old objects.now s object) }
+    ensures shows { PlainShowsSome links.new (root_of tree.new) }
     ensures sorted { IsInOrder K.Key.cmp K.key_of (plain_table links.new) tree.new objects.now }
     ensures linked { LinksAlso is_linked (plain_table links.old) (plain_table links.new) object }
     ensures adapter { adapter_of tree.new ≡ adapter_of tree.old }
@@ -157,6 +161,7 @@ pub fn remove<K: KeyAdapter, A: Allocator>(
     requires member { HasMember (PlainShows links.old (root_of tree.old)) object.now }
     ensures shown { (front back : List Place) → PlainShows links.old (root_of tree.old) (front ++ object.now ∷ back)
         → PlainShows links.new (root_of tree.new) (front ++ back) }
+    ensures shows { PlainShowsSome links.new (root_of tree.new) }
     ensures sorted { StaysInOrder K.Key.cmp K.key_of (plain_table links.old) tree.old (plain_table links.new) tree.new }
     ensures unlinked { Unlinks is_linked (plain_table links.old) (plain_table links.new) object.now }
     ensures adapter { adapter_of tree.new ≡ adapter_of tree.old }
@@ -179,6 +184,7 @@ pub fn remove_key<K: KeyAdapter, A: Allocator, B: Allocator>(
         → result ≡ first (with_key K.Key.cmp K.key_of tree.old objects.now key.now s) }
     ensures shown { IfSome result (λ object. (front back : List Place) → PlainShows links.old (root_of tree.old) (front ++ object ∷ back)
         → PlainShows links.new (root_of tree.new) (front ++ back)) }
+    ensures shows { PlainShowsSome links.new (root_of tree.new) }
     ensures sorted { IsInOrder K.Key.cmp K.key_of (plain_table links.new) tree.new objects.now }
     ensures unlinked { IfSome result (λ object. Unlinks is_linked (plain_table links.old) (plain_table links.new) object) }
     ensures none { IfNone result ((tree.new ≡ tree.old) × (links.new ≡ links.old)) }
@@ -199,6 +205,7 @@ pub fn pop_front<K: KeyAdapter, A: Allocator>(
     requires shown { PlainShowsSome links.old (root_of tree.old) }
     ensures answer { (s : List Place) → PlainShows links.old (root_of tree.old) s → result ≡ first s }
     ensures shown { (s : List Place) → PlainShows links.old (root_of tree.old) s → PlainShows links.new (root_of tree.new) (drop 1 s) }
+    ensures shows { PlainShowsSome links.new (root_of tree.new) }
     ensures sorted { StaysInOrder K.Key.cmp K.key_of (plain_table links.old) tree.old (plain_table links.new) tree.new }
     ensures unlinked { IfSome result (λ object. Unlinks is_linked (plain_table links.old) (plain_table links.new) object) }
     ensures empty { IfNone result ((tree.new ≡ tree.old) × (links.new ≡ links.old)) }
@@ -219,6 +226,7 @@ pub fn pop_back<K: KeyAdapter, A: Allocator>(
     requires shown { PlainShowsSome links.old (root_of tree.old) }
     ensures answer { (s : List Place) → PlainShows links.old (root_of tree.old) s → result ≡ last s }
     ensures shown { (s : List Place) → PlainShows links.old (root_of tree.old) s → PlainShows links.new (root_of tree.new) (but_last s) }
+    ensures shows { PlainShowsSome links.new (root_of tree.new) }
     ensures sorted { StaysInOrder K.Key.cmp K.key_of (plain_table links.old) tree.old (plain_table links.new) tree.new }
     ensures unlinked { IfSome result (λ object. Unlinks is_linked (plain_table links.old) (plain_table links.new) object) }
     ensures empty { IfNone result ((tree.new ≡ tree.old) × (links.new ≡ links.old)) }

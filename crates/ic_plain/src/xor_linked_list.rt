@@ -10,7 +10,7 @@ ghost use Rattle.std.specs.Prelude.{◌≡◌, ◌↔◌, ◌∷◌, [], None, L
 ghost use Rattle.ic_unsafe_ref.specs.declared.place.Place.{Place};
 ghost use Rattle.ic_link_ops.specs.Sequences.{first, last, but_last};
 ghost use Rattle.ic_link_ops.specs.Tables.{Table, IsCovered, IsUnlinked, LinksAlso, Unlinks, KeepsBeside};
-ghost use Rattle.ic_plain.specs.XorEntries.{XorLink, ShowsList, is_linked, plain_table, PlainShows, PlainShowsSome};
+ghost use Rattle.ic_plain.specs.XorEntries.{XorLink, ShowsList, ShowsSomeList, is_linked, plain_table, PlainShows, PlainShowsSome};
 
 use ic_link_ops::xor_linked_list::LinkOps;
 use ic_unsafe_ref::{Place, UnsafeRef};
@@ -21,6 +21,7 @@ use std::alloc::Allocator;
 #[inline]
 pub fn new<T>() -> XorLinkedList<T>
     ensures empty { (t : Table XorLink) → ShowsList t result [] }
+    ensures shows { (t : Table XorLink) → ShowsSomeList t result }
 {
     XorLinkedList::new()
 }
@@ -66,6 +67,7 @@ pub fn push_front<T, A: Allocator>(
     requires unlinked { IsUnlinked is_linked (plain_table links.old) object }
     requires shown { PlainShowsSome links.old list.old }
     ensures shown { (s : List Place) → PlainShows links.old list.old s → PlainShows links.new list.new (object ∷ s) }
+    ensures shows { PlainShowsSome links.new list.new }
     ensures linked { LinksAlso is_linked (plain_table links.old) (plain_table links.new) object }
     ensures frame { (s : List Place) → PlainShows links.old list.old s
         → KeepsBeside (plain_table links.old) (plain_table links.new) (object ∷ s) }
@@ -84,6 +86,7 @@ pub fn push_back<T, A: Allocator>(
     requires unlinked { IsUnlinked is_linked (plain_table links.old) object }
     requires shown { PlainShowsSome links.old list.old }
     ensures shown { (s : List Place) → PlainShows links.old list.old s → PlainShows links.new list.new (s ++ object ∷ []) }
+    ensures shows { PlainShowsSome links.new list.new }
     ensures linked { LinksAlso is_linked (plain_table links.old) (plain_table links.new) object }
     ensures frame { (s : List Place) → PlainShows links.old list.old s
         → KeepsBeside (plain_table links.old) (plain_table links.new) (object ∷ s) }
@@ -100,6 +103,7 @@ pub fn pop_front<T, A: Allocator>(
     requires shown { PlainShowsSome links.old list.old }
     ensures answer { (s : List Place) → PlainShows links.old list.old s → result ≡ first s }
     ensures shown { (s : List Place) → PlainShows links.old list.old s → PlainShows links.new list.new (drop 1 s) }
+    ensures shows { PlainShowsSome links.new list.new }
     ensures unlinked { IfSome result (λ object. Unlinks is_linked (plain_table links.old) (plain_table links.new) object) }
     ensures empty { IfNone result ((list.new ≡ list.old) × (links.new ≡ links.old)) }
     ensures frame { (s : List Place) → PlainShows links.old list.old s → KeepsBeside (plain_table links.old) (plain_table links.new) s }
@@ -116,6 +120,7 @@ pub fn pop_back<T, A: Allocator>(
     requires shown { PlainShowsSome links.old list.old }
     ensures answer { (s : List Place) → PlainShows links.old list.old s → result ≡ last s }
     ensures shown { (s : List Place) → PlainShows links.old list.old s → PlainShows links.new list.new (but_last s) }
+    ensures shows { PlainShowsSome links.new list.new }
     ensures unlinked { IfSome result (λ object. Unlinks is_linked (plain_table links.old) (plain_table links.new) object) }
     ensures empty { IfNone result ((list.new ≡ list.old) × (links.new ≡ links.old)) }
     ensures frame { (s : List Place) → PlainShows links.old list.old s → KeepsBeside (plain_table links.old) (plain_table links.new) s }

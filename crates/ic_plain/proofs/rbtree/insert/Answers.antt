@@ -33,3 +33,7 @@ returns-clause-frame g c s shown =
     let e = c.insert.ensures in
     let x = accepted _ c.insert.result c.requires.unlinked e.refused (e.inserted s shown) in
     subst (λ (u : List Place). KeepsBeside (plain_table c.args.links.now) (plain_table c.insert.new.links) (c.args.object ∷ u)) x.same x.inserted.frame
+
+pub returns-clause-shows : goal.returns-clause-shows
+unfolding IsInOrder
+returns-clause-shows g c = let p = c.requires.sorted.placed in (_, returns-clause-shown g c p.members p.shown)

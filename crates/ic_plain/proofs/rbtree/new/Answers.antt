@@ -1,3 +1,4 @@
+use Rattle.std.proofs.Common.{[]}
 use Rattle.ic_rbtree.specs.Tree.{adapter_of}
 use Rattle.ic_rbtree.proofs.PlainTrees.{plain_trees}
 use Rattle.ic_plain.specs.SortedTrees.{IsInOrder}
@@ -10,3 +11,6 @@ returns-clause-empty g c t = rw c.new.ensures.empty (plain_trees.nothing t)
 pub returns-clause-sorted : goal.returns-clause-sorted
 unfolding IsInOrder
 returns-clause-sorted g c t objects = nothing_in_order (g.K.KeyAdapter.key_of (adapter_of c.new.result)) t objects c.new.ensures.empty
+
+pub returns-clause-shows : goal.returns-clause-shows
+returns-clause-shows g c t = ([], returns-clause-empty g c t)

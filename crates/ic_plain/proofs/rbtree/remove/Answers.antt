@@ -1,3 +1,4 @@
+use Rattle.std.proofs.Common.{◌++◌}
 use Rattle.ic_rbtree.specs.PlainTrees.{plain_table}
 use Rattle.ic_rbtree.specs.Tree.{adapter_of, root_of}
 use Rattle.ic_rbtree.proofs.PlainTrees.{plain_trees}
@@ -11,3 +12,6 @@ returns-clause-sorted g c objects o =
     let e = c.remove.ensures in
     rw e.adapter (removed_in_order g.met.K.Key.Ord.total (g.K.KeyAdapter.key_of (adapter_of c.args.tree.now)) (plain_trees.one (plain_table c.args.links.now) (root_of c.args.tree.now))
     c.requires.member e.removed objects o)
+
+pub returns-clause-shows : goal.returns-clause-shows
+returns-clause-shows g c = let m = c.requires.member in (m.front ++ m.back, c.remove.ensures.removed m.front m.back m.shown)

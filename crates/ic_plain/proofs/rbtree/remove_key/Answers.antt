@@ -20,3 +20,7 @@ returns-in_err-find-clause-answer g c s shown = let none = c.in_err-find.ensures
 
 pub returns-clause-answer : goal.returns-clause-answer
 returns-clause-answer g c s shown = ap Some c.new-object.ensures ∙ c.in_ok-find.ensures.found s shown
+
+pub returns-in_err-find-clause-shows : goal.returns-in_err-find-clause-shows
+unfolding IsInOrder
+returns-in_err-find-clause-shows g c = let p = c.requires.sorted.placed in (p.members, p.shown)
