@@ -1,5 +1,6 @@
 pub mod Builders
 pub mod HashTables
+pub mod Intervals
 pub mod KeyedTrees
 pub mod PlacedChains
 pub mod Positions

@@ -31,6 +31,15 @@ pub on_ok : {X Y P : Type 0} (r : Result X Y) → is_ok r ≡ true → OnOk r P 
 on_ok (Ok x) e holds = holds
 on_ok (Err y) e holds = let never : false ≡ true = e in absurd (cc)
 
+-- and what follows from it, too
+pub on_ok_map : {X Y P Q : Type 0} → (P → Q) → (r : Result X Y) → OnOk r P → OnOk r Q
+on_ok_map follows (Ok x) holds = follows holds
+on_ok_map follows (Err y) holds = tt
+
+pub if_err_map : {X Y : Type 0} {F G : Y → Type 0} → ((y : Y) → F y → G y) → (r : Result X Y) → IfErr r F → IfErr r G
+if_err_map follows (Ok x) holds = tt
+if_err_map follows (Err y) holds = follows y holds
+
 -- whatever an insert answered
 pub either_answer : {X Y P Q Goal : Type 0} (F : Y → Type 0) (r : Result X Y) → OnOk r P → OnErr r Q → IfErr r F → (P → Goal) → (Q → (y : Y) → F y → Goal) → Goal
 either_answer F (Ok x) holds refused unchanged accepts refuses = accepts holds

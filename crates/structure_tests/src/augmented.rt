@@ -1,6 +1,6 @@
 //! Trees with summaries: edits and questions in turn, each requirement met by the call before.
 
-ghost use Rattle.std.specs.Prelude.{◌≡◌, ◌<◌, List, filter, length, map, min};
+ghost use Rattle.std.specs.Prelude.{◌≡◌, ◌<◌, None, List, filter, length, map, min};
 ghost use Rattle.std.specs.Ordering.{nat_cmp};
 ghost use Rattle.ic_unsafe_ref.specs.declared.place.Place.{Place};
 ghost use Rattle.ic_unsafe_ref.specs.Places.{index_of};
@@ -17,6 +17,8 @@ ghost use Rattle.ic_augmented.specs.Intervals.{start_in, overlaps};
 ghost use Rattle.ic_augmented.specs.Summed.{links_of, sums_of};
 ghost use Rattle.ic_augmented.specs.SumTables.{joined, room_of};
 ghost use Rattle.structure_tests.specs.Ready.{IsReady};
+
+mod intervals;
 
 use crate::keyed::{OwnKey, keyed_links, place_at, reference};
 use ic_augmented::{
@@ -39,6 +41,7 @@ fn empty_tree<V: Joins<u64>>(
     requires { length keys.now < 4294967296 }
     ensures covers { (keyed_table (links_of result.1)).extent.places ≡ length keys.now }
     ensures ready { IsReady node_of keyed_table (joined V.join V.initial) (λ sums q. index_of q < room_of sums) result.0 result.1 }
+    ensures empty { root_of result.0 ≡ None }
 {
     let mut sums = SumTable::new(alloc);
     let covered = sums.cover(keys.len());

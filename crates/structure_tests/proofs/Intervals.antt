@@ -1,0 +1,70 @@
+-- Intervals at the members of a tree, and how many of them have been counted.
+use Rattle.std.proofs.Common.{◌≡◌, ◌+◌, ◌<◌, ℕ, suc, Bool, not, Option, Some, None, List, [], ◌∷◌, ◌++◌, length, refl, sym, ap, ◌∙◌, subst, arith, append_assoc}
+use Rattle.std.proofs.lemmas.List.Filters.{length-filter_both}
+use Rattle.std.specs.List.{filter}
+use Rattle.std.specs.Ordering.{nat_cmp}
+use Rattle.ic_unsafe_ref.specs.declared.place.Place.{Place}
+use Rattle.ic_unsafe_ref.specs.Objects.{Objects}
+use Rattle.ic_link_ops.specs.PlacedObjects.{ArePlaced}
+use Rattle.ic_link_ops.specs.RedBlackTree.{Node, Shows}
+use Rattle.ic_link_ops.specs.Sequences.{first, IsDistinct}
+use Rattle.ic_link_ops.specs.Tables.{Table}
+use Rattle.ic_link_ops.proofs.ShownTrees.{one_sequence}
+use Rattle.ic_link_ops.proofs.Walks.{few_places}
+use Rattle.ic_rbtree.specs.Borders.{IsSorted}
+use Rattle.ic_rbtree.specs.SortedObjects.{keys_at, ShowsSorted}
+use Rattle.ic_augmented.proofs.AllOverlaps.{FirstFound, first_found, none_passes}
+
+-- a start is its own key
+abbrev pub own : ℕ → ℕ
+own start = start
+
+-- the shown members are placed, and in order
+pub in_order_at : {E : Type 0} {n : E → Node} {t : Table E} {root : Option Place} {starts : Objects ℕ} {s : List Place} → Shows n t root s → ShowsSorted own (Shows n t root) starts
+    → ArePlaced starts s × IsSorted nat_cmp (keys_at own starts s)
+in_order_at {starts = starts} shown q =
+    let same = one_sequence q.placed.shown shown in
+    (subst (ArePlaced starts) same q.placed.placed, subst (λ (t : List Place). IsSorted nat_cmp (keys_at own starts t)) same q.sorted)
+
+module _ (test : Place → Bool) (s : List Place) where
+  -- so many of s that pass are counted, and the next one stands there
+  pub record IsCounted (count : ℕ) (at : Option Place) : Type 0 where
+    pub front : List Place
+    pub back : List Place
+    pub same : s ≡ front ++ back
+    pub next : at ≡ first (filter test back)
+    pub counted : count + length (filter test back) ≡ length (filter test s)
+
+  pub none_counted : {at : Option Place} → at ≡ first (filter test s) → IsCounted 0 at
+  none_counted next = record { front = []; back = s; same = refl; next = next; counted = omega arith }
+
+  module _ {count : ℕ} {at : Option Place} {p : Place} (k : IsCounted count at) (is : at ≡ Some p) where
+    -- the next one, as a member
+    abbrev pub found : FirstFound test k.back p
+    found = first_found test k.back p (sym k.next ∙ is)
+
+    abbrev pub in_front : List Place
+    in_front = k.front ++ found.front
+
+    pub parted : s ≡ in_front ++ p ∷ found.back
+    parted = k.same ∙ (ap (λ (t : List Place). k.front ++ t) found.same ∙ sym (append_assoc k.front found.front (p ∷ found.back)))
+
+    rest_is : length (filter test k.back) ≡ suc (length (filter test found.back))
+    rest_is = ap length found.passing
+
+    pub one_more : {next : Option Place} → next ≡ first (filter test found.back) → IsCounted (count + 1) next
+    one_more next = record {
+      front = in_front ++ p ∷ [];
+      back = found.back;
+      same = parted ∙ sym (append_assoc in_front (p ∷ []) found.back);
+      next = next;
+      counted = omega (arith, k.counted, rest_is);
+    }
+
+    -- no more are counted than there are places
+    pub few_counted : IsDistinct s → count < 8589934591
+    few_counted distinct = omega (arith, k.counted, rest_is, length-filter_both test (λ q. not (test q)) (λ q. refl) s, few_places s distinct)
+
+  -- all are counted
+  pub all_counted : {count : ℕ} {at : Option Place} (k : IsCounted count at) → at ≡ None → count ≡ length (filter test s)
+  all_counted k none = let rest : length (filter test k.back) ≡ 0 = ap length (none_passes test k.back (sym k.next ∙ none)) in omega (arith, k.counted, rest)
