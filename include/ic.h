@@ -1,4 +1,5 @@
-/* Lists and a red-black tree over tables of links in the caller's memory. The lists are doubly linked, singly linked and XOR lists.
+/* Lists, a red-black tree and hash tables over tables of links in the caller's memory. The lists are doubly linked, singly linked and XOR
+ * lists.
  *
  * An object is a place, which is an index of your own arrays. A table has a link for each place, and a list or a tree leads from place
  * to place through one table. A place is in at most one list or tree of a table. An object that has to be in several at once has a link
@@ -16,18 +17,18 @@
  * Every bit pattern is a value, and zeroed memory is a table of unlinked places, an empty list and an empty tree. A copy of a table with
  * its lists and trees is as good as the original.
  *
- * What a call requires: `table` points to `places` links, `keys` to `key_count` keys, each other pointer to one value of its type, no two
- * of these overlap, and no other thread writes or reads them during the call. Other threads may read what a call takes as const. Nothing
- * else: words, keys, lengths and places may be any.
+ * What a call requires: `table` points to `places` links, `keys` to `key_count` keys, `buckets` to `bucket_count` lists, each other pointer
+ * to one value of its type, no two of these overlap, and no other thread writes or reads them during the call. Other threads may read what
+ * a call takes as const. Nothing else: words, keys, hashes, lengths and places may be any.
  *
  * What every call does, whatever it is handed:
  *   - It returns one of the statuses below.
- *   - It writes to nothing but table[0 .. places - 1], the lists, the tree and the out parameter that it is handed.
+ *   - It writes to nothing but table[0 .. places - 1], the lists, the tree, the bucket of the hash and the out parameter that it is handed.
  *   - If the status is not IC_OK, it has changed nothing, out parameters included. The status says what is wrong with the first member
  *     that is named, else with the next one, else with the place to insert, else that the words do not fit together (IC_BROKEN).
- *   - It takes at most a fixed number of steps, but for ic_stack_splice_after and the calls whose names end with fill, clear, check or
- *     merge, which take at most a fixed number more for each place of the table, and ic_list_sort, which takes O(n log n). Any other call
- *     of a list takes a few, and of a tree O(log n).
+ *   - It takes at most a fixed number of steps, but for ic_stack_splice_after, the calls of hash tables that walk a chain, and the calls
+ *     whose names end with fill, clear, check or merge, which take at most a fixed number more for each place of the table, and
+ *     ic_list_sort, which takes O(n log n). Any other call of a list takes a few, and of a tree O(log n).
  *
  * Where the table holds the list or tree, and the member that you name is one of its members, the call makes the edit that its comment
  * says. Every other list and tree of the table stays as it was. A member of another list of the same table is refused with IC_BROKEN where
@@ -76,7 +77,7 @@ extern "C" {
 /* What a call returns. */
 enum ic_status {
     IC_OK = 0,           /* the edit is made */
-    IC_OUT_OF_RANGE = 1, /* a place is not below `places`, or there are fewer keys than places */
+    IC_OUT_OF_RANGE = 1, /* a place is not below `places`, or there are fewer keys than places, or no buckets */
     IC_LINKED = 2,       /* the place to insert is in a list or tree of this table */
     IC_NOT_LINKED = 3,   /* the member that is named is in no list or tree of this table */
     IC_NULL = 4,         /* there is no member where the call needs one */
@@ -642,6 +643,63 @@ uint32_t ic_stack_clear(struct ic_link1 *table, size_t places, struct ic_stack *
  * IC_BROKEN: the links lead from the first member to no end within the table. */
 IC_NODISCARD
 uint32_t ic_stack_check(const struct ic_link1 *table, size_t places, const struct ic_stack *list, uint64_t *members);
+
+/* ---- Hash tables: 8 bytes a place and 8 a bucket ---------------------------------------------------------------------------------------
+ *
+ * Good for finding objects by a key, in no order. A hash table is an array of buckets, of which {0} is empty. A bucket is a singly linked
+ * list, its chain. Your hash function makes a number of each key, and a member is in the bucket whose index is hash % bucket_count. So hand
+ * the same hash to each call for one object. With about as many buckets as members, chains are short.
+ *
+ *     struct ic_link1 links[100] = {0};
+ *     struct ic_stack buckets[64] = {0};
+ *     status = ic_hash_insert(links, 100, buckets, 64, hash_of(keys[7]), 7);
+ *     status = ic_hash_find(links, 100, keys, 100, buckets, 64, hash_of(30), 30, &found);
+ *     status = ic_hash_remove(links, 100, buckets, 64, hash_of(keys[7]), 7);
+ *
+ * ic_hash_find compares numbers, in an array of your own: keys[place]. Any other comparison is yours, in a loop over the chain:
+ *
+ *     IC_HASH_FOREACH(place, links, 100, buckets, 64, hash_of(name))
+ *         if (strcmp(names[place], name) == 0)
+ *             break;
+ *
+ * Each call for singly linked lists takes a bucket, too: ic_stack_clear empties one, and by ic_stack_pop_front and ic_hash_insert all members
+ * move to a larger array of buckets. A place is in one chain or list of a table, so the free places may be in a list of the same table.
+ */
+
+/* The first member of the chain of a hash, or IC_NONE. */
+static inline uint32_t ic_hash_first(const struct ic_stack *buckets, size_t bucket_count, uint64_t hash) {
+    return bucket_count ? ic_stack_first(&buckets[hash % bucket_count]) : IC_NONE;
+}
+
+/* Loops over the chain of a hash. The body leaves its members where they are. */
+#define IC_HASH_FOREACH(place, table, places, buckets, bucket_count, hash)                                                              \
+    IC_LOOP(place, ic_hash_first(buckets, bucket_count, hash), places, ic_stack_is_linked(table, places, place),                        \
+            ic_stack_next(table, places, place))
+
+/* Links a place at the front of its chain. O(1).
+ * IC_OUT_OF_RANGE: `place` is, or there is no bucket. IC_LINKED: `place` is. IC_BROKEN: the first member of the chain is none of this table. */
+IC_NODISCARD
+uint32_t ic_hash_insert(struct ic_link1 *table, size_t places, struct ic_stack *buckets, size_t bucket_count, uint64_t hash, uint32_t place);
+
+/* Takes a place off its chain, wherever it is in it. O(members of the chain).
+ * IC_NULL: `place` is IC_NONE. IC_OUT_OF_RANGE: `place` is, or there is no bucket. IC_NOT_LINKED: `place` is not. IC_BROKEN: it is no member of
+ * this chain, as with another hash, or the chain is none of this table. */
+IC_NODISCARD
+uint32_t ic_hash_remove(struct ic_link1 *table, size_t places, struct ic_stack *buckets, size_t bucket_count, uint64_t hash, uint32_t place);
+
+/* Sets *found to the first member of the chain whose key is `key`: of several, the one that was inserted last. O(members of the chain).
+ * IC_NULL: there is none. IC_OUT_OF_RANGE: there are fewer keys than places, or there is no bucket. IC_BROKEN: the chain is none of this
+ * table. */
+IC_NODISCARD
+uint32_t ic_hash_find(const struct ic_link1 *table, size_t places, const uint64_t *keys, size_t key_count, const struct ic_stack *buckets,
+                      size_t bucket_count, uint64_t hash, uint64_t key, uint32_t *found);
+
+/* Sets *found to the next member behind the member `at`, in its chain, whose key is keys[at].
+ * IC_NULL: there is none, or `at` is IC_NONE. IC_OUT_OF_RANGE: `at` is, or there are fewer keys than places. IC_NOT_LINKED: `at` is not.
+ * IC_BROKEN: the chain is none of this table. */
+IC_NODISCARD
+uint32_t ic_hash_next_equal(const struct ic_link1 *table, size_t places, const uint64_t *keys, size_t key_count, uint32_t at,
+                            uint32_t *found);
 
 /* ---- XOR lists: 8 bytes a place, all calls O(1) but ic_xor_fill and ic_xor_clear ---------------------------------------------------
  *

@@ -1,4 +1,4 @@
-// Views of the lists and trees of ic.h for C++17: iterators, std::optional, and a status that can't be overlooked.
+// Views of the lists, trees and hash tables of ic.h for C++17: iterators, std::optional, and a status that can't be overlooked.
 //
 //     std::vector<ic_link2> links(100);                 // a hundred unlinked places
 //     ic_list head{};                                   // a list with no members
@@ -557,6 +557,71 @@ public:
         return edit_both(given, ic_stack_splice_after, at, given.head_);
     }
     status split_after(std::uint32_t at, stack_view rest) const noexcept { return edit_both(rest, ic_stack_split_after, at, rest.head_); }
+};
+
+// ---- Hash tables ---------------------------------------------------------------------------------------------------------------------
+
+/// Edits a hash table: an array of buckets, each a singly linked list of the members whose hash leads there. Hand each call for one object
+/// the same hash.
+class hash_view {
+public:
+    using keys_view = array_view<const std::uint64_t>;
+
+    hash_view(array_view<ic_link1> table, array_view<ic_stack> buckets) noexcept : table_(table), buckets_(buckets) {}
+
+    /// Links a place at the front of its chain.
+    status insert(std::uint64_t hash, std::uint32_t place) const noexcept { return edit(ic_hash_insert, hash, place); }
+
+    /// Takes a place off its chain, wherever it is in it.
+    status remove(std::uint64_t hash, std::uint32_t place) const noexcept { return edit(ic_hash_remove, hash, place); }
+
+    /// The first member of the chain with this key: of several, the one that was inserted last. std::nullopt: there is none, or it is refused.
+    [[nodiscard]] std::optional<std::uint32_t> find(keys_view keys, std::uint64_t hash, std::uint64_t key) const noexcept {
+        std::uint32_t place = none;
+        const std::uint32_t done = ic_hash_find(table_.data(), table_.size(), keys.data(), keys.size(), buckets_.data(), buckets_.size(), hash,
+                                                key, &place);
+        return found(done, place);
+    }
+
+    /// The next member behind the member `at` with the key of that one. std::nullopt: there is none, or it is refused.
+    [[nodiscard]] std::optional<std::uint32_t> next_equal(keys_view keys, std::uint32_t at) const noexcept {
+        std::uint32_t place = none;
+        const std::uint32_t done = ic_hash_next_equal(table_.data(), table_.size(), keys.data(), keys.size(), at, &place);
+        return found(done, place);
+    }
+
+    /// The first member of the chain of which the predicate is true.
+    template <class Predicate>
+    [[nodiscard]] std::optional<std::uint32_t> find_by(std::uint64_t hash, Predicate is_equal) const {
+        IC_HASH_FOREACH(place, table_.data(), table_.size(), buckets_.data(), buckets_.size(), hash)
+            if (is_equal(place))
+                return place;
+        return std::nullopt;
+    }
+
+    /// The chain of a hash, as a list. There has to be a bucket.
+    [[nodiscard]] stack_view chain(std::uint64_t hash) const noexcept { return {table_, buckets_.data()[hash % buckets_.size()]}; }
+
+    /// Calls a function with each member, chain by chain.
+    template <class Function>
+    void for_each(Function then) const {
+        for (std::size_t i = 0; i < buckets_.size(); ++i)
+            for (const std::uint32_t place : stack_view(table_, buckets_.data()[i]))
+                then(place);
+    }
+
+private:
+    template <class Call>
+    status edit(Call call, std::uint64_t hash, std::uint32_t place) const noexcept {
+        return static_cast<status>(call(table_.data(), table_.size(), buckets_.data(), buckets_.size(), hash, place));
+    }
+
+    static std::optional<std::uint32_t> found(std::uint32_t done, std::uint32_t place) noexcept {
+        return done == IC_OK ? std::optional<std::uint32_t>(place) : std::nullopt;
+    }
+
+    array_view<ic_link1> table_;
+    array_view<ic_stack> buckets_;
 };
 
 // ---- XOR lists ---------------------------------------------------------------------------------------------------------------------

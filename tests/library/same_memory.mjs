@@ -20,9 +20,10 @@ function random(below) {
 const place = () => (random(40) === 0 ? NONE : random(PLACES + 2));
 const word = () => BigInt(random(3) === 0 ? random(16) : 8 * random(PLACES + 2) + random(2)) | (random(60) === 0 ? 1n << 60n : 0n);
 
-// An area of each memory has the table, the keys, two lists or a tree, and an out parameter. Keys are words 48 to 79.
+// An area of each memory has the table, the keys, two lists or a tree, an out parameter, and buckets. Keys are words 48 to 79.
 const AREA = 1024, KEYS = [48, 80];
-const OFFSETS = { table: 0, keys: 8 * KEYS[0], list: 640, tree: 640, given: 656, rest: 656, popped: 672, removed: 672, out: 672, found: 672, members: 672 };
+const OFFSETS = { table: 0, keys: 8 * KEYS[0], list: 640, tree: 640, given: 656, rest: 656, popped: 672, removed: 672, out: 672, found: 672, members: 672, buckets: 680 };
+const BUCKETS = 4;
 const bases = both.map((library) => library.take(AREA));
 const areas = both.map((library, at) => new BigUint64Array(library.calls.memory.buffer, bases[at], AREA / 8));
 function write(at, value) {
@@ -33,6 +34,7 @@ function write(at, value) {
 function argument(parameter, length) {
   const [name] = parameter.match(/\w+$/);
   if (parameter.includes("*")) return { offset: OFFSETS[name] };
+  if (name === "bucket_count") return { value: BigInt(random(40) === 0 ? 0 : BUCKETS) };
   if (parameter.startsWith("size_t")) return { value: BigInt(length) };
   return { value: parameter.startsWith("uint64_t") ? BigInt(random(20)) : place() };
 }
@@ -47,7 +49,7 @@ function prepare(turn) {
   }
 }
 
-const KINDS = ["ic_list", "ic_ring", "ic_stack", "ic_xor", "ic_tree"].map((kind) => declared.filter(({ name }) => name.startsWith(kind)));
+const KINDS = ["ic_list", "ic_ring", "ic_stack", "ic_hash", "ic_xor", "ic_tree"].map((kind) => declared.filter(({ name }) => name.startsWith(kind)));
 for (let turn = 0; turn < calls; turn++) {
   prepare(turn % 400);
   // A table is of one kind, so the calls of a round are of one kind.

@@ -2,7 +2,7 @@
 //
 //     views [EDITS [SEED]]
 //
-// Two lists of each kind are in one table, and two trees. After each edit they have the members of the plain ones, forwards and backwards.
+// Two lists of each kind are in one table, and two trees, two rings, and a hash table. After each edit they have the members of the plain ones, forwards and backwards.
 // In between, loops run over tables of random words: each ends within as many rounds as there are places. Prints how many edits were made,
 // and how many of them were refused.
 #include "ic.hpp"
@@ -478,6 +478,63 @@ void step(rings &it) {
     it.check();
 }
 
+// ---- Hash tables -----------------------------------------------------------------------------------------------------------------------
+
+/// A hash table beside a list of the standard library for each of its buckets.
+struct chains {
+    std::vector<ic_link1> table = std::vector<ic_link1>(places);
+    std::vector<ic_stack> buckets = std::vector<ic_stack>(5);
+    std::vector<std::uint64_t> keys = std::vector<std::uint64_t>(places);
+    std::vector<std::list<std::uint32_t>> plain = std::vector<std::list<std::uint32_t>>(5);
+
+    ic::hash_view view() { return {table, buckets}; }
+
+    void check() {
+        std::vector<std::uint32_t> all, gathered;
+        view().for_each([&](std::uint32_t place) { all.push_back(place); });
+        for (std::size_t i = 0; i < plain.size(); i++) {
+            gathered.insert(gathered.end(), plain[i].begin(), plain[i].end());
+            expect(view().chain(i).front() == (plain[i].empty() ? std::nullopt : std::optional(plain[i].front())), "a chain has another first member");
+        }
+        expect(all == gathered, "a hash table has other members");
+    }
+};
+
+void step(chains &it) {
+    const ic::hash_view view = it.view();
+    const std::uint32_t place = below(places);
+    const bool is_linked = (it.table[place].next & 1) != 0;
+    const std::uint64_t key = below(8), hash = key * 7;
+    auto &plain = it.plain[hash % 5];
+    const auto has_key = [&](std::uint32_t at) { return it.keys[at] == key; };
+    const auto found = std::find_if(plain.begin(), plain.end(), has_key);
+    const auto first = found == plain.end() ? std::nullopt : std::optional(*found);
+    switch (below(4)) {
+    case 0:
+        if (!is_linked)
+            it.keys[place] = key;
+        if (made(view.insert(hash, place), is_linked ? ic::status::linked : ic::status::ok))
+            plain.push_front(place);
+        break;
+    case 1: {
+        const auto at = std::find(plain.begin(), plain.end(), place);
+        if (made(view.remove(hash, place), !is_linked ? ic::status::not_linked : at == plain.end() ? ic::status::broken : ic::status::ok))
+            plain.erase(at);
+        break;
+    }
+    case 2:
+        expect_taken(view.find(it.keys, hash, key), first);
+        expect(view.find_by(hash, has_key) == first, "a search by a predicate finds another member");
+        break;
+    default:
+        if (first) {
+            const auto next = std::find_if(std::next(found), plain.end(), has_key);
+            expect_taken(view.next_equal(it.keys, *first), next == plain.end() ? std::nullopt : std::optional(*next));
+        }
+    }
+    it.check();
+}
+
 // ---- Any words -----------------------------------------------------------------------------------------------------------------------
 
 template <class View>
@@ -517,8 +574,10 @@ int main(int count, char **words) {
     lists<ic::xor_view> both;
     trees sorted;
     rings circles;
+    chains hashed;
     while (edits < wanted) {
         step(circles);
+        step(hashed);
         step(doubly);
         step(singly);
         step(both);

@@ -8,6 +8,8 @@ pub mod Doubly
 pub mod Moves
 pub mod DoublyWalks
 pub mod Singly
+pub mod HashWalks
+pub mod HashTables
 pub mod Xor
 pub mod Seen
 pub mod Trees

@@ -44,7 +44,7 @@ gap_viewed t view same is finds cut shows after = finds cut (rw same (viewed no_
 -- A CHAIN THAT ENDS COMES TO NO PLACE TWICE: from there it would go on the same way, and end as soon
 module _ (t : Place → RawOne) where
   -- no entry says what stands in front of its place
-  behind_any : (b b' : Option Place) (w : List Place) (a : Option Place) → IsChain (IsFollowed successor) t b w a → IsChain (IsFollowed successor) t b' w a
+  pub behind_any : (b b' : Option Place) (w : List Place) (a : Option Place) → IsChain (IsFollowed successor) t b w a → IsChain (IsFollowed successor) t b' w a
   behind_any b b' [] a c = tt
   behind_any b b' (x ∷ w) a c = (record { linked = c.0.linked; next = c.0.next }, c.1)
 

@@ -14,3 +14,4 @@ pub mod WholeTree
 pub mod Sorting
 pub mod MarkedTree
 pub mod Ring
+pub mod Hash

@@ -66,6 +66,9 @@ fault_of = calls.fault_of Shows is_linked_one no_word list_of
 abbrev pub Inserted : (old new : List RawOne) (list list' : RawFront) (status : ℕ) → Cut → Place → Type 0
 Inserted = calls.Inserted Shows is_linked_one no_word list_of
 
+abbrev pub Removed : (old new : List RawOne) (list list' : RawFront) (status : ℕ) → Place → (front back : List Place) → Type 0
+Removed = calls.Removed Shows is_linked_one no_word list_of
+
 abbrev pub Popped : (old new : List RawOne) (list list' : RawFront) (status number : ℕ) → Place → (front back : List Place) → Type 0
 Popped = calls.Popped Shows is_linked_one no_word list_of
 

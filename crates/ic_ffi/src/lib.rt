@@ -15,10 +15,12 @@
 //! place to insert, or else [`BROKEN`]. [`NULL`] says that no place was named where one is needed, or that a call has looked and found none.
 #![tactic(auto)]
 
+mod chain;
 mod check_calls;
 mod fill;
 mod fill_calls;
 mod gap;
+mod hash_calls;
 mod list;
 mod list_calls;
 mod marked_tree;

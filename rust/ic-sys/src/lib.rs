@@ -1,8 +1,8 @@
 //! The library for C as `include/ic.h` declares it, with its machine code, which is assembly text. The header says what each call
 //! does; the crate `ic` has safe types.
 //!
-//! A call requires that `table` points to `places` links, `keys` to `key_count` keys, and each other pointer to one value of its type, that
-//! no two of these overlap, and that nothing else uses them during the call, but that others may read what is `*const`. It requires nothing
+//! A call requires that `table` points to `places` links, `keys` to `key_count` keys, `buckets` to `bucket_count` lists, and each other
+//! pointer to one value of its type, that no two of these overlap, and that nothing else uses them during the call, but that others may read what is `*const`. It requires nothing
 //! of what they hold, nor of the places.
 
 #![no_std]
@@ -18,7 +18,7 @@ pub const IC_NONE: u32 = u32::MAX;
 
 /// The edit is made.
 pub const IC_OK: u32 = 0;
-/// A place is not below `places`, or there are fewer keys than places.
+/// A place is not below `places`, or there are fewer keys than places, or no buckets.
 pub const IC_OUT_OF_RANGE: u32 = 1;
 /// The place to insert is in a list or tree of this table.
 pub const IC_LINKED: u32 = 2;
@@ -204,6 +204,42 @@ extern "C" {
         at: u32,
         rest: *mut ic_stack,
     ) -> u32;
+    pub fn ic_hash_insert(
+        table: *mut ic_link1,
+        places: usize,
+        buckets: *mut ic_stack,
+        bucket_count: usize,
+        hash: u64,
+        place: u32,
+    ) -> u32;
+    pub fn ic_hash_remove(
+        table: *mut ic_link1,
+        places: usize,
+        buckets: *mut ic_stack,
+        bucket_count: usize,
+        hash: u64,
+        place: u32,
+    ) -> u32;
+    pub fn ic_hash_find(
+        table: *const ic_link1,
+        places: usize,
+        keys: *const u64,
+        key_count: usize,
+        buckets: *const ic_stack,
+        bucket_count: usize,
+        hash: u64,
+        key: u64,
+        found: *mut u32,
+    ) -> u32;
+    pub fn ic_hash_next_equal(
+        table: *const ic_link1,
+        places: usize,
+        keys: *const u64,
+        key_count: usize,
+        at: u32,
+        found: *mut u32,
+    ) -> u32;
+
     pub fn ic_xor_push_front(table: *mut ic_link1, places: usize, list: *mut ic_xor_list, place: u32) -> u32;
     pub fn ic_xor_push_back(table: *mut ic_link1, places: usize, list: *mut ic_xor_list, place: u32) -> u32;
     pub fn ic_xor_pop_front(table: *mut ic_link1, places: usize, list: *mut ic_xor_list, popped: *mut u32) -> u32;

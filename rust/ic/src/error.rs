@@ -19,7 +19,7 @@ use ic_sys::*;
 /// ```
 #[derive(Clone, Copy, Debug, PartialEq, Eq, Hash)]
 pub enum Error {
-    /// A place is not below the table's length, or there are fewer keys than places.
+    /// A place is not below the table's length, or there are fewer keys than places, or no buckets.
     OutOfRange,
     /// The place to insert is in a list or tree of this table.
     Linked,
@@ -34,7 +34,9 @@ pub enum Error {
 impl fmt::Display for Error {
     fn fmt(&self, f: &mut fmt::Formatter<'_>) -> fmt::Result {
         f.write_str(match self {
-            Error::OutOfRange => "a place is not below the table's length, or there are fewer keys than places",
+            Error::OutOfRange => {
+                "a place is not below the table's length, or there are fewer keys than places, or no buckets"
+            }
             Error::Linked => "the place to insert is in a list or tree of this table",
             Error::NotLinked => "the member that is named is in no list or tree of this table",
             Error::Null => "there is no member where the call needs one",

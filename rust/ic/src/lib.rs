@@ -1,4 +1,4 @@
-//! Lists and a red-black tree over tables of links, which allocate nothing.
+//! Lists, a red-black tree and hash tables over tables of links, which allocate nothing.
 //!
 //! An object is a place, which is an index of your own collections. A table is a slice of links, one for each place, and a list or a tree
 //! leads from place to place through one table. A place is in at most one list or tree of a table. An object that has to be in several at
@@ -25,6 +25,7 @@
 //! | [`List`] | [`Link2`], 16 bytes | queues and caches, from whose middle objects leave |
 //! | [`ring`] | [`Link2`], 16 bytes | queues whose members leave with no queue named |
 //! | [`Stack`] | [`Link1`], 8 bytes | stacks and free lists |
+//! | [`mod@hash`] | [`Link1`], 8 bytes | objects that are found by a key, in no order |
 //! | [`XorList`] | [`Link1`], 8 bytes | both ends and both directions, where memory is scarce |
 //! | [`Tree`] | [`Link3`], 24 bytes | timers, priorities and indices: objects in order, which are searched for |
 //!
@@ -67,8 +68,8 @@
 //!
 //! No call panics, and no call needs unsafe code of you. You may hand any table, list, tree and place to each. A call that returns an
 //! [`Error`] has changed nothing, except `retain`, which has made its edits up to the member at which it stopped. An edit of a list takes a
-//! constant number of steps, except [`Stack::splice_after`], `fill`, `clear`, `retain`, `sort` and `merge`, and an edit or a search of a tree
-//! takes O(log n), except `clear` and `retain`. A `check` takes O(n).
+//! constant number of steps, except [`Stack::splice_after`], [`hash::remove`], `fill`, `clear`, `retain`, `sort` and `merge`, and an edit or
+//! a search of a tree takes O(log n), except `clear` and `retain`. A `check` takes O(n).
 //!
 //! The types don't say which table a list or tree belongs to. Use each with its own table. With another one every call is memory safe, but
 //! it may mix up the members of both, if no word tells it to return [`Error::Broken`]. An iterator ends after as many members as the table
@@ -83,6 +84,7 @@
 mod collection;
 mod cursor;
 mod error;
+pub mod hash;
 mod link;
 mod list;
 pub mod ring;

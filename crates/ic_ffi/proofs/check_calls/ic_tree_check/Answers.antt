@@ -1,4 +1,4 @@
-use Rattle.std.proofs.Common.{◌≡◌, sym, ap}
+use Rattle.std.proofs.Common.{sym, ap}
 use Rattle.ic_link_ops.specs.PlainTables.{entry_at}
 use Rattle.ic_ffi.specs.MarkedTree.{marked_table}
 use Rattle.ic_ffi.specs.Tree.{Shows, root_in}

@@ -1,4 +1,4 @@
-use Rattle.std.proofs.Common.{subst, ◌∙◌, rules}
+use Rattle.std.proofs.Common.{subst, rules}
 use Rattle.ic_link_ops.specs.Sequences.{join}
 use Rattle.ic_ffi.specs.Words.{no_words, place_of}
 use Rattle.ic_ffi.specs.Doubly.{Shows, TellsGap, ends_of, lent_table}

@@ -1,4 +1,4 @@
-use Rattle.std.proofs.Common.{◌≡◌, Some, refl, sym, ◌∙◌}
+use Rattle.std.proofs.Common.{refl, sym, ◌∙◌}
 use Rattle.ic_link_ops.proofs.SequenceLemmas.{none_not}
 use Rattle.ic_ring.proofs.Circles.{circle_taken, circle_beside, ring_frame}
 use Rattle.ic_ffi.specs.declared.gap.Side.TheVariants.{After, Before}

@@ -8,7 +8,7 @@ use Rattle.ic_ffi.specs.Tree.{node, lent_table}
 use Rattle.ic_ffi.specs.Seen.{seen, seen_node, has_place}
 use Rattle.ic_ffi.proofs.Gaps.{never}
 use Rattle.ic_ffi.proofs.Seen.{seen_changes}
-use Rattle.ic_ffi.proofs.Trees.{in_range, has, end_in, closed, beside_stands, seen_shown, told_kept, members_told, told, frame_told}
+use Rattle.ic_ffi.proofs.Trees.{in_range, has, end_in, closed, seen_shown, told_kept, members_told, told, frame_told}
 use Rattle.ic_ffi.proofs.tree.remove.Goals as goal
 
 pub returns-then-not-stand-clause-removed : goal.returns-then-not-stand-clause-removed

@@ -1,0 +1,258 @@
+/* Random calls on a hash table beside plain sequences, which are arrays of places, one for each bucket.
+ *
+ *     hashes [CALLS [SEED]]
+ *
+ * The members of the buckets are in one table with those of a singly linked list beside them. After each call every word has to be that of the
+ * sequences, and the reads of the header have to walk them. One of some calls has a fault, and must be refused for it; in some a chain leads
+ * to no end. Prints for each call how often it returned each status.
+ */
+#define CALLS(X) X(hash_insert) X(hash_remove) X(hash_find) X(hash_next_equal)
+
+enum { PLACES = 24, BUCKETS = 6, BESIDE = BUCKETS, NOBODY, KEYS = 7, MORE_KEYS = 3, UNSET = 123456789 };
+
+#include "expected.h"
+#include "plain.h"
+
+static struct ic_link1 table[PLACES], table_was[PLACES];
+static struct ic_stack buckets[BUCKETS], beside;
+static size_t bucket_count = BUCKETS;
+static struct sequence chains[BUCKETS + 1]; /* the last is the list beside the buckets */
+static uint64_t keys[PLACES + MORE_KEYS];
+static int owner[PLACES];
+
+static uint64_t hash_of(uint64_t key) {
+    return (key + 1) * UINT64_C(0x9E3779B97F4A7C15);
+}
+
+static struct sequence *chain_of(uint64_t hash) {
+    return &chains[hash % bucket_count];
+}
+
+/* The first member from a position on that has this key, or IC_NONE. */
+static uint32_t first_with(const struct sequence *plain, uint32_t at, uint64_t key) {
+    while (at < plain->count && keys[plain->members[at]] != key)
+        at++;
+    return member(plain, at);
+}
+
+/* The words of a list are those of a sequence. */
+static void check_list(int which, const struct ic_stack *list) {
+    const struct sequence *plain = &chains[which];
+    uint32_t i = 0;
+    expect(list->head == ic_word(member(plain, 0)), "left another first member");
+    for (uint32_t k = 0; k < plain->count; k++) {
+        owner[plain->members[k]] = which;
+        expect(table[plain->members[k]].next == ic_word(member(plain, k + 1)) + 1, "left other words");
+    }
+    IC_STACK_FOREACH(place, table, PLACES, list)
+        expect(place == member(plain, i++), "has another member in a loop");
+    expect(i == plain->count, "has other members in a loop");
+}
+
+/* All words are those of the sequences. But for members, no link is another than before the call. */
+static void check(uint32_t edited) {
+    for (int place = 0; place < PLACES; place++)
+        owner[place] = NOBODY;
+    for (int i = 0; i < BUCKETS; i++)
+        check_list(i, &buckets[i]);
+    check_list(BESIDE, &beside);
+    for (uint32_t place = 0; place < PLACES; place++) {
+        expect((table[place].next & 1) == (owner[place] != NOBODY), "has marks that read wrong");
+        expect(owner[place] != NOBODY || place == edited || table[place].next == table_was[place].next, "has changed a link of no member");
+    }
+    uint64_t hash = any();
+    uint32_t i = 0;
+    IC_HASH_FOREACH(place, table, PLACES, buckets, bucket_count, hash)
+        expect(place == member(chain_of(hash), i++), "has another member in a loop over a chain");
+    expect(i == chain_of(hash)->count, "has other members in a loop over a chain");
+    memcpy(table_was, table, sizeof table);
+}
+
+/* ---- What is handed in -------------------------------------------------------------------------------------------------------- */
+
+/* How many buckets a call gets: now and then none, which is said before anything of the place. */
+static size_t some_buckets(void) {
+    if (below(32))
+        return bucket_count;
+    faults = 1u << IC_OUT_OF_RANGE;
+    return 0;
+}
+
+/* How many keys a call gets: now and then too few. */
+static size_t some_keys(void) {
+    if (below(32))
+        return PLACES + below(MORE_KEYS);
+    faults = 1u << IC_OUT_OF_RANGE;
+    return below(PLACES);
+}
+
+static uint32_t to_link(void) {
+    uint32_t place = below(PLACES);
+    for (uint32_t tries = below(16); tries && owner[place] != NOBODY; tries--)
+        place = (place + 1) % PLACES;
+    if (below(16) == 0)
+        place = below(2) ? PLACES : below(IC_NONE - PLACES) + PLACES;
+    fault(place >= PLACES, IC_OUT_OF_RANGE);
+    fault(place < PLACES && owner[place] != NOBODY, IC_LINKED);
+    return place;
+}
+
+/* A place that is mostly a member of a bucket. */
+static uint32_t to_find(void) {
+    uint32_t place = below(PLACES);
+    for (uint32_t tries = below(16); tries && owner[place] >= BESIDE; tries--)
+        place = (place + 1) % PLACES;
+    if (below(16) == 0)
+        place = below(2) ? IC_NONE : PLACES;
+    fault(place == IC_NONE, IC_NULL);
+    fault(place == PLACES, IC_OUT_OF_RANGE);
+    fault(place < PLACES && owner[place] == NOBODY, IC_NOT_LINKED);
+    return place;
+}
+
+/* ---- Calls -------------------------------------------------------------------------------------------------------------------- */
+
+static void step_insert(void) {
+    uint32_t place = to_link();
+    size_t count = some_buckets();
+    uint64_t hash = any();
+    if (!faults) {
+        keys[place] = below(KEYS);
+        hash = hash_of(keys[place]);
+    }
+    if (made(ic_hash_insert(table, PLACES, buckets, count, hash, place)))
+        insert(chain_of(hash), 0, &place, 1);
+    check(place);
+}
+
+static void step_remove(void) {
+    uint32_t place = to_find(), at = 0;
+    uint64_t hash = place < PLACES ? hash_of(keys[place]) : any();
+    if (below(8) == 0)
+        hash = any();
+    if (!faults)
+        fault(owner[place] != (int)(hash % bucket_count), IC_BROKEN);
+    size_t count = place == IC_NONE ? bucket_count : some_buckets();
+    if (made(ic_hash_remove(table, PLACES, buckets, count, hash, place))) {
+        struct sequence *plain = chain_of(hash);
+        while (plain->members[at] != place)
+            at++;
+        take(plain, at, 1);
+    }
+    check(place);
+}
+
+static void step_find(void) {
+    uint64_t key = below(KEYS + 1);
+    uint32_t found = UNSET, wanted = first_with(chain_of(hash_of(key)), 0, key);
+    fault(wanted == IC_NONE, IC_NULL);
+    size_t key_count = some_keys(), count = some_buckets();
+    if (!made(ic_hash_find(table, PLACES, keys, key_count, buckets, count, hash_of(key), key, &found)))
+        wanted = UNSET;
+    expect(found == wanted, "found another member");
+    check(IC_NONE);
+}
+
+static void step_next_equal(void) {
+    uint32_t at = to_find(), found = UNSET, wanted = UNSET, i = 0;
+    if (!faults) {
+        const struct sequence *plain = &chains[owner[at]];
+        while (plain->members[i] != at)
+            i++;
+        wanted = first_with(plain, i + 1, keys[at]);
+        fault(wanted == IC_NONE, IC_NULL);
+    }
+    size_t key_count = at == IC_NONE ? PLACES : some_keys();
+    if (!made(ic_hash_next_equal(table, PLACES, keys, key_count, at, &found)))
+        wanted = UNSET;
+    expect(found == wanted, "found another member");
+    check(IC_NONE);
+}
+
+/* A chain whose last member leads to its first, or a place that is not linked: each walk is refused, and changes nothing. */
+static void step_endless(void) {
+    uint32_t which = below((uint32_t)bucket_count), found = UNSET, other = below(PLACES);
+    struct sequence *plain = &chains[which];
+    if (!plain->count)
+        return;
+    uint32_t last = before(plain, plain->count), to = below(2) ? plain->members[below(plain->count)] : other;
+    if (owner[to] != (int)which && owner[to] != NOBODY)
+        return;
+    uint64_t was = table[last].next, hash = which; /* which is the remainder of itself */
+    struct ic_link1 spoiled[PLACES];
+    table[last].next = ic_word(to) + 1;
+    memcpy(spoiled, table, sizeof table);
+    now = CALL_hash_find;
+    faults = 1u << IC_BROKEN;
+    made(ic_hash_find(table, PLACES, keys, PLACES, buckets, bucket_count, hash, KEYS, &found));
+    if (owner[other] != (int)which) {
+        now = CALL_hash_remove;
+        faults = owner[other] == NOBODY ? 1u << IC_NOT_LINKED : 1u << IC_BROKEN;
+        made(ic_hash_remove(table, PLACES, buckets, bucket_count, hash, other));
+    }
+    expect(found == UNSET && !memcmp(spoiled, table, sizeof table), "has changed something, and refused");
+    table[last].next = was;
+}
+
+/* All members move to another number of buckets, as a hash table grows and shrinks. */
+static void step_rebuild(void) {
+    struct ic_stack made_anew[BUCKETS] = {{0}};
+    struct sequence gathered[BUCKETS] = {{0, {0}}};
+    size_t count = 1 + below(BUCKETS);
+    for (size_t i = 0; i < bucket_count; i++) {
+        uint32_t place;
+        while (ic_stack_pop_front(table, PLACES, &buckets[i], &place) == IC_OK) {
+            expect(place == member(&chains[i], 0), "is popped in another order");
+            take(&chains[i], 0, 1);
+            expect(ic_hash_insert(table, PLACES, made_anew, count, hash_of(keys[place]), place) == IC_OK, "is not inserted anew");
+            insert(&gathered[hash_of(keys[place]) % count], 0, &place, 1);
+        }
+    }
+    bucket_count = count;
+    memcpy(buckets, made_anew, sizeof buckets);
+    memcpy(chains, gathered, sizeof gathered);
+    memcpy(table_was, table, sizeof table);
+    check(IC_NONE);
+}
+
+/* The list beside the buckets takes a place, or gives its first one up. */
+static void step_beside(void) {
+    uint32_t place = below(PLACES);
+    if (owner[place] == NOBODY && chains[BESIDE].count < 4) {
+        expect(ic_stack_push_front(table, PLACES, &beside, place) == IC_OK, "is not pushed");
+        keys[place] = below(KEYS);
+        insert(&chains[BESIDE], 0, &place, 1);
+    } else if (ic_stack_pop_front(table, PLACES, &beside, &place) == IC_OK) {
+        take(&chains[BESIDE], 0, 1);
+    }
+    memcpy(table_was, table, sizeof table);
+    check(IC_NONE);
+}
+
+int main(int count, char **words) {
+    uint64_t wanted = calls_wanted(count, words);
+    for (int place = 0; place < PLACES; place++)
+        table_was[place].next = table[place].next = any() << 1;
+    for (int place = 0; place < PLACES + MORE_KEYS; place++)
+        keys[place] = below(KEYS);
+    check(IC_NONE);
+    while (done < wanted) {
+        now = (enum call)below(COUNT);
+        faults = 0;
+        switch (below(32)) {
+        case 0: step_rebuild(); break;
+        case 1: step_beside(); break;
+        case 2: step_endless(); break;
+        default:
+            switch (now) {
+            case CALL_hash_insert: step_insert(); break;
+            case CALL_hash_remove: step_remove(); break;
+            case CALL_hash_find: step_find(); break;
+            default: step_next_equal();
+            }
+        }
+    }
+    for (int call = 0; call < COUNT; call++)
+        report(names[call], returned[call]);
+    return 0;
+}
