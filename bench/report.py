@@ -3,9 +3,11 @@
 import dataclasses
 import math
 
+# Workloads for which there are programs of their own: their tables have other columns.
+OF_FEW = ("sort", "fresh", "hash_find")
 PAGE, PLOT = "beside-peers.md", "beside-peers.svg"
 OURS, OTHER, ENDS, RUST = "ours", "ours, other", "ours, kept ends", "Rust crate"
-PEERS = [RUST, "Boost", "BSD"]  # those that no check makes slower
+PEERS = [RUST, "Boost", "BSD", "list_sort", "uthash"]  # those that no check makes slower, and that are as their users get them
 
 
 @dataclasses.dataclass
@@ -17,6 +19,7 @@ class Figures:
     counts: dict  # (workload, program) -> instructions per operation
     machine: list
     left_out: list
+    comparisons: dict = dataclasses.field(default_factory=dict)  # (program, members) -> how often a sort compares two values
     program: dict = dataclasses.field(default_factory=dict)  # (stream, run) -> the quartiles of nanoseconds, and instructions, per line
 
     def ratio(self, workload, members, ours):
@@ -31,6 +34,18 @@ class Figures:
 
         mine, best = fastest([OURS, OTHER, ENDS]), fastest(PEERS)
         return (mine[0] / best[0], best[1]) if mine and best else None
+
+
+def without_empty(head, rows, fixed):
+    """The head and the rows without those columns behind the first `fixed` ones in which no row has a figure."""
+    kept = [at for at in range(len(head)) if at < fixed or any(row[at] != "-" for row in rows)]
+    return [head[at] for at in kept], [[row[at] for at in kept] for row in rows]
+
+
+def parts(figures, rows):
+    """The rows of the workloads that peers of several kinds have, and those of the ones that some libraries have by themselves."""
+    names = {figures.workloads[workload][0] for workload in OF_FEW if workload in figures.workloads}
+    return [part for part in ([row for row in rows if (row[0] in names) == few] for few in (False, True)) if part]
 
 
 def table(head, rows):
@@ -55,7 +70,7 @@ def beside_rust(figures):
     ours = [name for name in (OURS, OTHER) if name in figures.programs]
     head = ["", *(f"{members:,}" for members in figures.options.sizes), *(f"instructions: {name}" for name in figures.programs)]
     for workload in figures.options.only:
-        ratios = (" / ".join(shown(figures.ratio(workload, members, name)) for name in ours if (workload, members, name) in figures.times)
+        ratios = (" / ".join(shown(ratio) for name in ours if (ratio := figures.ratio(workload, members, name))) or "-"
                   for members in figures.options.sizes)
         counts = (shown(figures.counts.get((workload, name)), "{:.0f}") for name in figures.programs)
         yield head, [figures.workloads[workload][0], *ratios, *counts]
@@ -80,7 +95,7 @@ def page(figures):
         *(f"- left out: {line}" for line in figures.left_out),
         "",
         f"Each program was run {figures.options.rounds} times, in turn with the others, and five times as often with 1,000 members. The figures are "
-        "of one operation. Other work ran on the machine at the same time: instructions are exact, nanoseconds vary.",
+        "of one operation. Instructions are exact. Nanoseconds vary with whatever else runs on the machine, of which the load tells.",
         "",
     ]
     best = list(beside_best(figures))
@@ -89,13 +104,14 @@ def page(figures):
             "## Beside the best peer",
             "",
             "How many times the time of the fastest peer ours takes, in the fastest of our forms, by the number of members. The peer stands "
-            "behind the ratio: the Rust crate, Boost or BSD. Below 1 ours is the fastest of all.",
+            "behind the ratio: the Rust crate, Boost, BSD, uthash, or the model of Linux's list_sort that calls its comparison. Below 1 ours is "
+            "the fastest of all.",
             "",
             *table(["", *(f"{members:,}" for members in figures.options.sizes)], best),
             f"![The time of each program beside that of the fastest peer, as a plot]({PLOT})",
             "",
         ]
-    rows = list(beside_rust(figures))
+    rows = [row for _head, row in beside_rust(figures)]
     if rows:
         lines += [
             "## Beside the Rust crate",
@@ -104,11 +120,17 @@ def page(figures):
             "stroke in another form. That is a lent table for lists, and for trees a table with the keys beside the links. Below 1 ours is faster. Then come the "
             "instructions of one operation with 1,000 members.",
             "",
-            *table(rows[0][0], [row for _head, row in rows]),
+            *(line for part in parts(figures, rows) for line in table(*without_empty(next(beside_rust(figures))[0], part, 1))),
         ]
         for members in figures.options.sizes:
             lines += [f"## Nanoseconds, {members:,} members", "", "The median, and the quartiles.", ""]
-            lines += table(["", *figures.programs], nanoseconds(figures, members))
+            for part in parts(figures, list(nanoseconds(figures, members))):
+                lines += table(*without_empty(["", *figures.programs], part, 1))
+    if figures.comparisons:
+        names = list(dict.fromkeys(name for name, _members in figures.comparisons))
+        lines += ["## Comparisons of a sort", "", "How often a sort compares two values.", ""]
+        lines += table(["members", *names], ([f"{members:,}", *(f"{figures.comparisons[name, members]:,}" for name in names)]
+                                             for members in figures.options.sizes))
     if figures.program:
         lines += [
             "## The program",
@@ -139,8 +161,11 @@ class Plot:
         RUST: ("triangle", "#b2182b"),
         "Boost": ("diamond", "#2166ac"),
         "BSD": ("cross", "#8c510a"),
+        "list_sort": ("pentagon", "#35978f"),
+        "uthash": ("hourglass", "#4d4d4d"),
     }
-    SHAPES = {"square": "-5,-5 5,-5 5,5 -5,5", "triangle": "0,-6 6,5 -6,5", "diamond": "0,-7 7,0 0,7 -7,0"}
+    SHAPES = {"square": "-5,-5 5,-5 5,5 -5,5", "triangle": "0,-6 6,5 -6,5", "diamond": "0,-7 7,0 0,7 -7,0", "pentagon": "0,-6 6,-1 4,6 -4,6 -6,-1",
+              "hourglass": "-5,-6 5,-6 -5,6 5,6"}
 
     def __init__(self, figures):
         self.figures, self.sizes = figures, figures.options.sizes
@@ -214,7 +239,7 @@ class Plot:
         yield f'<svg xmlns="http://www.w3.org/2000/svg" viewBox="0 0 {self.width} {self.height}" width="{self.width}" height="{self.height}" font-family="sans-serif" font-size="13">'
         yield f'<rect width="{self.width}" height="{self.height}" fill="white"/>'
         yield self.text(14, 26, "Time of one operation, beside the fastest peer's", more=' font-size="16" font-weight="bold"')
-        yield self.text(14, 50, "left of 1: faster than all three peers", more=' fill="#444"')
+        yield self.text(14, 50, "left of 1: faster than all peers", more=' fill="#444"')
         yield from self.legend()
         yield from self.rows()
         yield "</svg>"

@@ -6,6 +6,7 @@
 #include <boost/intrusive/list.hpp>
 #include <boost/intrusive/set.hpp>
 #include <boost/intrusive/slist.hpp>
+#include <boost/intrusive/unordered_set.hpp>
 #include <chrono>
 #include <cstdint>
 #include <cstdlib>
@@ -27,12 +28,23 @@ struct by_value {
     template <class Object> const uint64_t &operator()(const Object &object) const { return object.value; }
 };
 
+// The hash that all programs share.
+struct by_product {
+    std::size_t operator()(uint64_t key) const {
+        uint64_t product = key * 11400714819323198485u;
+        return product ^ product >> 29;
+    }
+};
+
 using doubly_object = object<bi::list_base_hook<>>;
 using singly_object = object<bi::slist_base_hook<>>;
 using tree_object = object<bi::set_base_hook<bi::optimize_size<true>>>;
+using hash_object = object<bi::unordered_set_base_hook<>>;
 using doubly_list = bi::list<doubly_object, bi::constant_time_size<false>>;
 using singly_list = bi::slist<singly_object, bi::constant_time_size<false>>;
 using tree = bi::multiset<tree_object, bi::key_of_value<by_value>, bi::constant_time_size<false>>;
+using hash_table = bi::unordered_multiset<hash_object, bi::key_of_value<by_value>, bi::hash<by_product>, bi::power_2_buckets<true>,
+                                          bi::constant_time_size<false>>;
 template <class Object> using references = std::vector<Object *>;
 
 // The generator that all programs share.
@@ -112,9 +124,7 @@ TIMED timed_pair(doubly_list &list, uint64_t operations) {
 TIMED timed_touch(doubly_list &list, const references<doubly_object> &order, uint64_t operations) {
     generator random;
     while (operations--) {
-        auto &object = *order[random.below(order.size())];
-        list.erase(list.iterator_to(object));
-        list.push_back(object);
+        list.splice(list.end(), list, list.iterator_to(*order[random.below(order.size())]));
     }
     return 0;
 }
@@ -168,6 +178,75 @@ static outcome doubly(const std::string &workload, uint64_t members, uint64_t op
                                       : timed_iter(list, operations / members);
     });
     outcome.checksum += hash(list);
+    return outcome;
+}
+
+// ---- The sort of a doubly linked list ----
+
+struct less_value {
+    bool operator()(const doubly_object &one, const doubly_object &other) const { return one.value < other.value; }
+};
+
+TIMED timed_sort(doubly_list &list) {
+    list.sort(less_value());
+    return 0;
+}
+
+// How often it compares two objects.
+static uint64_t count_comparisons(doubly_list &list) {
+    uint64_t count = 0;
+    list.sort([&](const doubly_object &one, const doubly_object &other) {
+        ++count;
+        return less_value()(one, other);
+    });
+    return count;
+}
+
+static outcome sorted(const std::string &workload, uint64_t members, uint64_t operations) {
+    generator random;
+    auto objects = make_objects<doubly_object>(random, members);
+    auto order = refer(random, objects);
+    doubly_list list;
+    outcome outcome;
+    for (uint64_t rounds = operations / members; rounds--;) {
+        list.clear();
+        for (auto object : order)
+            list.push_back(*object);
+        if (workload == "sort-counted")
+            outcome.time = std::chrono::nanoseconds(count_comparisons(list));
+        else
+            outcome.time += timed([&] { return timed_sort(list); }).time;
+    }
+    outcome.checksum = hash(list);
+    return outcome;
+}
+
+// ---- The hash table ----
+
+TIMED timed_hash_find(const hash_table &table, uint64_t members, uint64_t operations) {
+    generator random;
+    uint64_t sum = 0;
+    while (operations--) {
+        auto found = table.find(2 * random.below(members));
+        if (found != table.end())
+            sum += found->value;
+    }
+    return sum;
+}
+
+// As many buckets as members, rounded up to a power of two.
+static outcome hashed(uint64_t members, uint64_t operations) {
+    generator random;
+    auto objects = make_objects<hash_object>(random, members);
+    std::size_t count = 1;
+    while (count < members)
+        count *= 2;
+    std::vector<hash_table::bucket_type> buckets(count);
+    hash_table table(hash_table::bucket_traits(buckets.data(), count));
+    for (auto object : refer(random, objects))
+        table.insert(*object);
+    outcome outcome = timed([&] { return timed_hash_find(table, members, operations); });
+    table.clear();
     return outcome;
 }
 
@@ -303,7 +382,9 @@ int main(int count, char **words) {
     const std::string workload = words[1];
     const uint64_t members = std::strtoull(words[2], nullptr, 10), operations = std::strtoull(words[3], nullptr, 10);
     const std::string on_doubly = " pair touch splice step iter ";
-    const outcome outcome = workload == "singly" ? singly(members, operations)
+    const outcome outcome = workload == "singly"      ? singly(members, operations)
+                            : workload == "hash_find" ? hashed(members, operations)
+                            : workload.rfind("sort", 0) == 0 ? sorted(workload, members, operations)
                             : on_doubly.find(" " + workload + " ") != std::string::npos ? doubly(workload, members, operations)
                                                                                         : on_tree(workload, members, operations);
     std::cout << outcome.time.count() << ' ' << outcome.checksum << '\n';

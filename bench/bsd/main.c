@@ -3,13 +3,9 @@
  * `peer WORKLOAD MEMBERS OPERATIONS` prints the nanoseconds of all operations and a checksum. bench/README.md says what each workload
  * does. The functions timed_* are what is timed, and what callgrind counts. */
 
+#include "../peer.h"
 #include <bsd/sys/queue.h>
 #include <bsd/sys/tree.h>
-#include <inttypes.h>
-#include <stdio.h>
-#include <stdlib.h>
-#include <string.h>
-#include <time.h>
 
 struct doubly {
     TAILQ_ENTRY(doubly) link;
@@ -40,32 +36,6 @@ struct room {
     uint64_t members, operations, *values, *order, *other;
 };
 
-/* The generator that all programs share. */
-static uint64_t below(uint64_t *state, uint64_t bound) {
-    *state = *state * 6364136223846793005u + 1442695040888963407u;
-    return ((*state >> 32) * bound) >> 32;
-}
-
-static void *room_for(uint64_t count, size_t size) {
-    void *memory = calloc(count, size);
-    if (!memory)
-        exit(1);
-    return memory;
-}
-
-/* The numbers below `count`, in a random order. */
-static uint64_t *shuffled(uint64_t *state, uint64_t count) {
-    uint64_t *numbers = room_for(count, sizeof *numbers);
-    for (uint64_t index = 0; index < count; index++)
-        numbers[index] = index;
-    for (uint64_t last = count - 1; last > 0; last--) {
-        uint64_t other = below(state, last + 1), number = numbers[last];
-        numbers[last] = numbers[other];
-        numbers[other] = number;
-    }
-    return numbers;
-}
-
 /* Objects with the even numbers as values, in a random order, and references to them in another random order. */
 #define REFER(type, refs, objects, count, numbers)                     \
     struct type **refs = room_for(count, sizeof *refs);                \
@@ -76,14 +46,6 @@ static uint64_t *shuffled(uint64_t *state, uint64_t count) {
     struct type *objects = room_for((room)->members, sizeof *objects); \
     for (uint64_t index = 0; index < (room)->members; index++)         \
         objects[index].value = 2 * (room)->values[index];
-
-static uint64_t now(void) {
-    struct timespec time;
-    clock_gettime(CLOCK_MONOTONIC, &time);
-    return (uint64_t)time.tv_sec * 1000000000u + (uint64_t)time.tv_nsec;
-}
-
-#define TIMED static __attribute__((noinline)) uint64_t
 
 /* ---- The doubly linked list ---- */
 

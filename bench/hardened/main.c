@@ -7,12 +7,8 @@
  * `peer WORKLOAD MEMBERS OPERATIONS` prints the nanoseconds of all operations and a checksum. bench/README.md says what each workload
  * does. The functions timed_* are what is timed, and what callgrind counts. */
 
-#include <inttypes.h>
+#include "../peer.h"
 #include <stdbool.h>
-#include <stdio.h>
-#include <stdlib.h>
-#include <string.h>
-#include <time.h>
 
 struct links {
     struct links *next, *prev;
@@ -52,15 +48,25 @@ static inline void add_between(struct links *added, struct links *prev, struct l
 
 static inline void push_back(struct links *list, struct links *added) { add_between(added, list->prev, list); }
 
-static inline void take(struct links *member) {
+/* Links the neighbors of a member with each other. */
+static inline void unlink(struct links *member) {
     if (!may_remove(member)) {
         damaged();
         return;
     }
     member->next->prev = member->prev;
     member->prev->next = member->next;
+}
+
+static inline void take(struct links *member) {
+    unlink(member);
     member->next = POISON_NEXT;
     member->prev = POISON_PREV;
+}
+
+static inline void move_to_back(struct links *list, struct links *member) {
+    unlink(member);
+    push_back(list, member);
 }
 
 static inline bool is_empty(const struct links *list) { return list->next == list; }
@@ -98,40 +104,6 @@ struct room {
     uint64_t members, operations, *values, *order;
 };
 
-/* The generator that all programs share. */
-static uint64_t below(uint64_t *state, uint64_t bound) {
-    *state = *state * 6364136223846793005u + 1442695040888963407u;
-    return ((*state >> 32) * bound) >> 32;
-}
-
-static void *room_for(uint64_t count, size_t size) {
-    void *memory = calloc(count, size);
-    if (!memory)
-        exit(1);
-    return memory;
-}
-
-/* The numbers below `count`, in a random order. */
-static uint64_t *shuffled(uint64_t *state, uint64_t count) {
-    uint64_t *numbers = room_for(count, sizeof *numbers);
-    for (uint64_t index = 0; index < count; index++)
-        numbers[index] = index;
-    for (uint64_t last = count - 1; last > 0; last--) {
-        uint64_t other = below(state, last + 1), number = numbers[last];
-        numbers[last] = numbers[other];
-        numbers[other] = number;
-    }
-    return numbers;
-}
-
-static uint64_t now(void) {
-    struct timespec time;
-    clock_gettime(CLOCK_MONOTONIC, &time);
-    return (uint64_t)time.tv_sec * 1000000000u + (uint64_t)time.tv_nsec;
-}
-
-#define TIMED static __attribute__((noinline)) uint64_t
-
 TIMED timed_pair(struct links *list, uint64_t operations) {
     while (operations--) {
         struct links *member = list->next;
@@ -144,9 +116,7 @@ TIMED timed_pair(struct links *list, uint64_t operations) {
 TIMED timed_touch(struct links *list, struct object **order, uint64_t members, uint64_t operations) {
     uint64_t random = 1;
     while (operations--) {
-        struct links *member = &order[below(&random, members)]->links;
-        take(member);
-        push_back(list, member);
+        move_to_back(list, &order[below(&random, members)]->links);
     }
     return 0;
 }

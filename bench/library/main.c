@@ -71,11 +71,8 @@ TIMED timed_pair(struct ic_link2 *links, uint32_t members, struct ic_list *list,
 
 TIMED timed_touch(struct ic_link2 *links, uint32_t members, struct ic_list *list, const uint32_t *order, uint64_t operations) {
     uint64_t random = 1, failed = 0;
-    while (operations--) {
-        uint32_t place = order[below(&random, members)];
-        failed += ic_list_remove(links, members, list, place);
-        failed += ic_list_push_back(links, members, list, place);
-    }
+    while (operations--)
+        failed += ic_list_move_to_back(links, members, list, order[below(&random, members)]);
     return failed;
 }
 
@@ -121,6 +118,32 @@ static uint64_t doubly(const char *workload, const struct room *room, uint64_t *
     IC_LIST_FOREACH(at, links, members, &list)
         hash = hash * 31 + room->values[at];
     return hash + checksum;
+}
+
+/* ---- The sort of a doubly linked list ---- */
+
+TIMED timed_sort(struct ic_link2 *links, uint32_t members, const uint64_t *values, struct ic_list *list) {
+    return ic_list_sort(links, members, values, members, list);
+}
+
+static uint64_t sorted(const struct room *room, uint64_t *time) {
+    uint32_t members = room->members;
+    struct ic_link2 *links = room_for(members, sizeof *links);
+    struct ic_list list = {0, 0};
+    uint64_t failed = 0, hash = 0;
+    *time = 0;
+    for (uint64_t rounds = room->operations / members; rounds--;) {
+        memset(links, 0, members * sizeof *links);
+        list = (struct ic_list){0, 0};
+        for (uint32_t index = 0; index < members; index++)
+            must(ic_list_push_back(links, members, &list, room->order[index]));
+        uint64_t start = now();
+        failed += timed_sort(links, members, room->values, &list);
+        *time += now() - start;
+    }
+    IC_LIST_FOREACH(at, links, members, &list)
+        hash = hash * 31 + room->values[at];
+    return hash + failed;
 }
 
 /* ---- The singly linked list ---- */
@@ -351,6 +374,7 @@ int main(int count, char **words) {
     for (size_t index = 0; index < sizeof of_lists / sizeof *of_lists; index++)
         is_doubly |= !strcmp(words[1], of_lists[index]);
     uint64_t checksum = !strcmp(words[1], "singly") ? singly(&room, &time)
+                        : !strcmp(words[1], "sort") ? sorted(&room, &time)
                         : !strcmp(words[1], "xor")  ? xor_list(&room, &time)
                         : is_doubly                 ? doubly(words[1], &room, &time)
                                                     : tree(words[1], &room, &time);

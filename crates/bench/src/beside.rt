@@ -24,9 +24,9 @@ use ic_rbtree::RBTree;
 use ic_unsafe_ref::{Objects, Place, UnsafeRef, Values};
 
 /// Sets the key of each of these places: the value of the object that stands there.
-pub fn set_keys(links: &mut LinkOpsWith<u64>, objects: &Objects<u64>, order: &[Place])
-    requires covered { All (λ place. index_of place < (keyed_table links.old).extent.places) order.now }
-    ensures covers { (keyed_table links.new).extent.places ≡ (keyed_table links.old).extent.places }
+pub fn set_keys<L: LinkValues<u64>>(links: &mut L, objects: &Objects<u64>, order: &[Place])
+    requires covered { All (λ place. index_of place < (L.table links.old).extent.places) order.now }
+    ensures covers { (L.table links.new).extent.places ≡ (L.table links.old).extent.places }
 {
     for place in order {
         links.set_value(*place, value_at(objects, Some(*place)));

@@ -13,13 +13,15 @@ ghost use Rattle.ic_link_ops.specs.DoublyEntries.{neighbors_of, plain_table, tab
 ghost use Rattle.ic_link_ops.specs.PlacedObjects.{ShowsPlaced};
 ghost use Rattle.ic_link_ops.specs.Positions.{HasMember};
 ghost use Rattle.ic_link_ops.specs.Tables.{IsCovered};
+ghost use Rattle.ic_chain.specs.LentLists.{SameLoans};
 
 use crate::random::Random;
 use crate::room::{Size, Watch, value_at};
+use ic_chain::LentList;
 use ic_link_ops::LentTable;
 use ic_link_ops::linked_list::{Link, LinkOps, LinkedListOps};
-use ic_linked_list::LinkedList;
-use ic_unsafe_ref::{Objects, Place, UnsafeRef};
+use ic_linked_list::{DoublyLinked, LinkedList};
+use ic_unsafe_ref::{Objects, Place, UnsafeRef, Values};
 
 // Puts the object at the back of the list, unless its link is refused.
 #[inline]
@@ -46,24 +48,18 @@ fn pair<L: LinkedListOps>(list: &mut LinkedList<u64>, links: &mut L, operations:
     }
 }
 
-// Takes the member off and puts it at the back. It returns whether its link was given again: over a plain table it always is.
+// Moves the member behind all others.
 #[inline]
-fn put_last<L: LinkedListOps>(
-    list: &mut LinkedList<u64>,
-    links: &mut L,
-    object: UnsafeRef<u64>,
-) -> bool
+fn move_last<L: LinkedListOps>(list: &mut LinkedList<u64>, links: &mut L, object: UnsafeRef<u64>)
     requires member { HasMember (Shows L.neighbors (L.table links.old) list.old) object }
-    ensures shown { ShowsSome L.neighbors (L.table links.new) list.new }
+    ensures kept { (q : Place) → HasMember (Shows L.neighbors (L.table links.old) list.old) q
+        → HasMember (Shows L.neighbors (L.table links.new) list.new) q }
     ensures extent { (L.table links.new).extent ≡ (L.table links.old).extent }
-    ensures kept { OnTrue result ((q : Place) → HasMember (Shows L.neighbors (L.table links.old) list.old) q
-        → HasMember (Shows L.neighbors (L.table links.new) list.new) q) }
 {
-    list.remove(links, &object);
-    list.push_back(links, object).is_ok()
+    list.move_to_back(links, &object);
 }
 
-// Members at random are taken off and put at the back.
+// Members at random are moved behind all others.
 #[inline(always)]
 fn touch<L: LinkedListOps>(
     list: &mut LinkedList<u64>,
@@ -79,8 +75,8 @@ fn touch<L: LinkedListOps>(
     let mut random = Random::new();
     for _operation in 0..operations {
         let index = random.below(order.len() as u64) as usize;
-        if index >= order.len() || !put_last(list, links, UnsafeRef::new(order[index])) {
-            break;
+        if index < order.len() {
+            move_last(list, links, UnsafeRef::new(order[index]));
         }
     }
 }
@@ -153,16 +149,16 @@ fn iter<L: LinkedListOps>(
 }
 
 // Puts the object at the back, and returns whether it is a member then.
-fn link<L: LinkedListOps>(
+fn link<L: LinkedListOps, O: Values<u64>>(
     list: &mut LinkedList<u64>,
     links: &mut L,
-    objects: &Objects<u64>,
+    objects: &O,
     object: Place,
 ) -> bool
     requires covered { IsCovered (L.table links.old) object }
-    requires object { is_placed objects.now object ≡ true }
-    requires placed { ShowsPlaced (Shows L.neighbors (L.table links.old) list.old) objects.now }
-    ensures placed { ShowsPlaced (Shows L.neighbors (L.table links.new) list.new) objects.now }
+    requires object { is_placed (O.values objects.now) object ≡ true }
+    requires placed { ShowsPlaced (Shows L.neighbors (L.table links.old) list.old) (O.values objects.now) }
+    ensures placed { ShowsPlaced (Shows L.neighbors (L.table links.new) list.new) (O.values objects.now) }
     ensures member { OnTrue result (HasMember (Shows L.neighbors (L.table links.new) list.new) object) }
     ensures kept { (q : Place) → HasMember (Shows L.neighbors (L.table links.old) list.old) q
         → HasMember (Shows L.neighbors (L.table links.new) list.new) q }
@@ -172,16 +168,17 @@ fn link<L: LinkedListOps>(
 }
 
 // Puts the objects at these places into the list, in this order, up to one that is refused. It returns whether none was.
-fn fill<L: LinkedListOps>(
+pub(crate) fn fill<L: LinkedListOps, O: Values<u64>>(
     list: &mut LinkedList<u64>,
     links: &mut L,
-    objects: &Objects<u64>,
+    objects: &O,
     order: &[Place],
 ) -> bool
     requires covered { All (λ place. index_of place < (L.table links.old).extent.places) order.now }
-    requires objects { All (λ place. is_placed objects.now place ≡ true) order.now }
-    requires placed { ShowsPlaced (Shows L.neighbors (L.table links.old) list.old) objects.now }
-    ensures placed { ShowsPlaced (Shows L.neighbors (L.table links.new) list.new) objects.now }
+    requires objects { All (λ place. is_placed (O.values objects.now) place ≡ true) order.now }
+    requires placed { ShowsPlaced (Shows L.neighbors (L.table links.old) list.old) (O.values objects.now) }
+    ensures placed { ShowsPlaced (Shows L.neighbors (L.table links.new) list.new) (O.values objects.now) }
+    ensures extent { (L.table links.new).extent ≡ (L.table links.old).extent }
     ensures members { OnTrue result (All (HasMember (Shows L.neighbors (L.table links.new) list.new)) order.now) }
 {
     for index in 0..order.len() {
@@ -193,7 +190,7 @@ fn fill<L: LinkedListOps>(
 }
 
 // What the members are and in which order they stand, as one number.
-fn hash<L: LinkedListOps>(
+pub(crate) fn hash<L: LinkedListOps>(
     list: &LinkedList<u64>,
     links: &L,
     objects: &Objects<u64>,
@@ -238,6 +235,43 @@ fn work<L: LinkedListOps>(
     0
 }
 
+// The work on a list and its links that are lent together.
+#[inline(always)]
+fn work_on_lent<L: LinkedListOps>(
+    name: &str,
+    lent: &mut LentList<'_, DoublyLinked, u64, L>,
+    objects: &Objects<u64>,
+    order: &[Place],
+    size: Size,
+) -> u64
+    requires placed { ShowsPlaced (Shows L.neighbors (L.table lent.old.links.now) lent.old.list) objects.now }
+    requires members { All (HasMember (Shows L.neighbors (L.table lent.old.links.now) lent.old.list)) order.now }
+    ensures shown { ShowsSome L.neighbors (L.table lent.new.links.now) lent.new.list }
+    ensures extent { (L.table lent.new.links.now).extent ≡ (L.table lent.old.links.now).extent }
+    ensures same { SameLoans lent.old lent.new }
+{
+    work(name, &mut lent.list, lent.links, objects, order, size)
+}
+
+// Lends the list together with its links, and does the work.
+#[inline(always)]
+fn lend_and_work<L: LinkedListOps>(
+    name: &str,
+    list: &mut LinkedList<u64>,
+    links: &mut L,
+    objects: &Objects<u64>,
+    order: &[Place],
+    size: Size,
+) -> u64
+    requires placed { ShowsPlaced (Shows L.neighbors (L.table links.old) list.old) objects.now }
+    requires members { All (HasMember (Shows L.neighbors (L.table links.old) list.old)) order.now }
+    ensures shown { ShowsSome L.neighbors (L.table links.new) list.new }
+    ensures extent { (L.table links.new).extent ≡ (L.table links.old).extent }
+{
+    let mut lent = list.lend(links);
+    work_on_lent(name, &mut lent, objects, order, size)
+}
+
 // The work over links that are lent.
 #[inline(never)]
 fn timed_links(
@@ -254,7 +288,7 @@ fn timed_links(
     ensures shown { ShowsSome neighbors_of (table_of links.new) list.new }
 {
     let mut links = LentTable::new(links);
-    work(name, list, &mut links, objects, order, size)
+    lend_and_work(name, list, &mut links, objects, order, size)
 }
 
 // The work over a lent table.

@@ -14,6 +14,8 @@
 mod beside;
 mod by_world;
 mod ends;
+mod fresh;
+mod hash;
 mod keyed;
 mod lines;
 mod lists;
@@ -21,6 +23,7 @@ mod parts;
 mod random;
 mod room;
 mod singly;
+mod sort;
 mod workloads;
 mod xor;
 
@@ -29,7 +32,7 @@ use room::{Size, Watch};
 use std::{env, io};
 use workloads::checksum;
 
-const WORKLOADS: [&str; 38] = [
+const WORKLOADS: [&str; 43] = [
     "pair",
     "pair-lent",
     "touch",
@@ -43,6 +46,10 @@ const WORKLOADS: [&str; 38] = [
     "singly",
     "singly-lent",
     "xor",
+    "xor-lent",
+    "sort",
+    "sort-counted",
+    "hash_find",
     "find",
     "find-flat",
     "find-keyed",
@@ -52,6 +59,7 @@ const WORKLOADS: [&str; 38] = [
     "insert",
     "insert-flat",
     "insert-keyed",
+    "fresh",
     "remove",
     "turn",
     "turn-flat",

@@ -12,11 +12,13 @@ ghost use Rattle.ic_link_ops.specs.PlainTables as plain;
 ghost use Rattle.ic_link_ops.specs.Readings.{successor_of};
 ghost use Rattle.ic_link_ops.specs.SinglyLinkedList.{ShowsSome};
 ghost use Rattle.ic_link_ops.specs.Tables.{IsCovered};
+ghost use Rattle.ic_chain.specs.LentLists.{SameLoans};
 
 use crate::room::{Size, Watch, value_at};
+use ic_chain::LentList;
 use ic_link_ops::LentTable;
 use ic_link_ops::singly_linked_list::{Link, LinkOps, SinglyLinkedListOps};
-use ic_singly_linked_list::SinglyLinkedList;
+use ic_singly_linked_list::{SinglyLinked, SinglyLinkedList};
 use ic_unsafe_ref::{Objects, Place, UnsafeRef};
 
 // Puts the object at the front of the list, unless its link is refused.
@@ -84,7 +86,40 @@ fn turn<L: SinglyLinkedListOps>(
     }
 }
 
-// The work over links that are lent, on a list that is the loop's own meanwhile.
+// The work on a list and its links that are lent together.
+#[inline(always)]
+fn turn_lent<L: SinglyLinkedListOps>(
+    lent: &mut LentList<'_, SinglyLinked, u64, L>,
+    order: &[Place],
+    rounds: u64,
+)
+    requires covered { All (λ place. index_of place < (L.table lent.old.links.now).extent.places) order.now }
+    requires shown { ShowsSome L.successor (L.table lent.old.links.now) lent.old.list }
+    ensures shown { ShowsSome L.successor (L.table lent.new.links.now) lent.new.list }
+    ensures extent { (L.table lent.new.links.now).extent ≡ (L.table lent.old.links.now).extent }
+    ensures same { SameLoans lent.old lent.new }
+{
+    turn(&mut lent.list, lent.links, order, rounds);
+}
+
+// Lends the list together with its links, and does the work.
+#[inline(always)]
+fn lend_and_turn<L: SinglyLinkedListOps>(
+    list: &mut SinglyLinkedList<u64>,
+    links: &mut L,
+    order: &[Place],
+    rounds: u64,
+)
+    requires covered { All (λ place. index_of place < (L.table links.old).extent.places) order.now }
+    requires shown { ShowsSome L.successor (L.table links.old) list.old }
+    ensures shown { ShowsSome L.successor (L.table links.new) list.new }
+    ensures extent { (L.table links.new).extent ≡ (L.table links.old).extent }
+{
+    let mut lent = list.lend(links);
+    turn_lent(&mut lent, order, rounds);
+}
+
+// The work over links that are lent.
 #[inline(never)]
 fn timed_singly_links(
     list: &mut SinglyLinkedList<u64>,
@@ -98,9 +133,7 @@ fn timed_singly_links(
     ensures shown { ShowsSome (successor_of next_word_of has_word) (plain.table_of (link_of no_word) links.new) list.new }
 {
     let mut links = LentTable::new(links);
-    let mut own = list.take();
-    turn(&mut own, &mut links, order, rounds);
-    *list = own;
+    lend_and_turn(list, &mut links, order, rounds);
 }
 
 // The work over the table that is handed in.

@@ -7,11 +7,14 @@
 use crate::beside::{on_keyed, set_keys};
 use crate::by_world::on_world;
 use crate::ends::on_queue_with_ends;
+use crate::fresh::on_fresh;
+use crate::hash::on_hash;
 use crate::keyed::{on_queue, on_steps, on_tree, on_values};
 use crate::lists::on_list;
 use crate::random::Random;
 use crate::room::{Size, Watch, are_distinct, inverse, place_all, places_of, values_of};
 use crate::singly::on_singly;
+use crate::sort::on_sort;
 use crate::xor::on_xor;
 use ic_link_ops::{linked_list, rbtree, singly_linked_list, xor_linked_list};
 use ic_unsafe_ref::Objects;
@@ -72,13 +75,42 @@ fn singly(is_lent: bool, watch: &mut Watch<'_>, room: &Room, size: Size) -> Opti
     Some(on_singly(is_lent, watch, &mut links, &room.objects, &order, size))
 }
 
-// An XOR list of them.
-fn xor(watch: &mut Watch<'_>, room: &Room, size: Size) -> Option<u64> {
+// An XOR list of them, over the table that is handed in or over a lent one.
+fn xor(is_lent: bool, watch: &mut Watch<'_>, room: &Room, size: Size) -> Option<u64> {
     let alloc = watch.rt.alloc();
     let mut links = xor_linked_list::LinkOps::new(alloc);
     links.cover(size.members as usize).ok()?;
     let order = places_of(alloc, &room.objects, &room.order, links.covers()).ok()?;
-    Some(on_xor(watch, &mut links, &room.objects, &order, size))
+    Some(on_xor(is_lent, watch, &mut links, &room.objects, &order, size))
+}
+
+// A doubly linked list of them, which is sorted by their values in an array. Either the time is taken, or comparisons are counted.
+fn sort(counts: bool, watch: &mut Watch<'_>, room: &Room, size: Size) -> Option<u64> {
+    let alloc = watch.rt.alloc();
+    let mut links = linked_list::LinkOps::new(alloc);
+    links.cover(size.members as usize).ok()?;
+    let values = values_of(alloc, &room.objects, size.members).ok()?;
+    let covered = links.covers().min(values.len());
+    let order = places_of(alloc, &room.objects, &room.order, covered).ok()?;
+    Some(on_sort(
+        counts,
+        watch,
+        &mut links,
+        &room.objects,
+        &values,
+        &order,
+        size,
+    ))
+}
+
+// A hash table of their values, which stand beside the links.
+fn hash_find(watch: &mut Watch<'_>, room: &Room, size: Size) -> Option<u64> {
+    let alloc = watch.rt.alloc();
+    let mut links = singly_linked_list::LinkOpsWith::new(alloc);
+    links.cover(size.members as usize).ok()?;
+    let order = places_of(alloc, &room.objects, &room.order, links.covers()).ok()?;
+    set_keys(&mut links, &room.objects, &order);
+    on_hash(watch, &mut links, &order, size)
 }
 
 // A tree of them, or in its other form one of their values in an array, and for the queue one that keeps its ends. Removals are those of the
@@ -129,19 +161,22 @@ fn tree(
     Some(checksum)
 }
 
-// A tree of their values, which stand beside the links.
+// A tree of their values, which stand beside the links. For `fresh` it counts its members.
 fn keyed(name: &str, watch: &mut Watch<'_>, room: &Room, size: Size) -> Option<u64> {
     let alloc = watch.rt.alloc();
     let mut links = rbtree::LinkOpsWith::new(alloc);
     links.cover(size.members as usize).ok()?;
     let order = places_of(alloc, &room.objects, &room.order, links.covers()).ok()?;
     set_keys(&mut links, &room.objects, &order);
+    if name == "fresh" {
+        return on_fresh(watch, links, &order, size);
+    }
     Some(on_keyed(name, watch, &mut links, &order, size))
 }
 
-/// Does the workload, and returns its checksum. Behind the workload of a doubly or singly linked list `-lent` stands for a lent table, and
+/// Does the workload, and returns its checksum. Behind the workload of a list `-lent` stands for a lent table, and
 /// behind one of a tree by its keys `-flat` for keys in an array, and `-keyed` for keys beside the links. `queue-ends` is the queue on
-/// a tree that keeps its ends. Without memory there is no checksum.
+/// a tree that keeps its ends. `sort-counted` counts comparisons in place of nanoseconds. Without memory there is no checksum.
 pub fn checksum(name: &str, watch: &mut Watch<'_>, size: Size) -> Option<u64> {
     let mut room = make_room(watch.rt.alloc(), size.members)?;
     let (work, is_other) = match name.split_once('-') {
@@ -151,7 +186,10 @@ pub fn checksum(name: &str, watch: &mut Watch<'_>, size: Size) -> Option<u64> {
     match work {
         "pair" | "touch" | "splice" | "step" | "iter" => doubly(work, is_other, watch, &room, size),
         "singly" => singly(is_other, watch, &room, size),
-        "xor" => xor(watch, &room, size),
+        "xor" => xor(is_other, watch, &room, size),
+        "sort" => sort(is_other, watch, &room, size),
+        "hash_find" => hash_find(watch, &room, size),
+        "fresh" => keyed(work, watch, &room, size),
         "world" => Some(on_world(watch, &room.objects, &room.order, size)),
         _ if name.ends_with("-keyed") => keyed(work, watch, &room, size),
         _ => tree(work, is_other, watch, &mut room, size),

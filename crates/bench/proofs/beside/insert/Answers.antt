@@ -1,5 +1,4 @@
 use Rattle.std.proofs.Common.{sym, subst}
-use Rattle.ic_unsafe_ref.specs.Objects.{Objects}
 use Rattle.ic_link_ops.specs.RedBlackTree.{Shows}
 use Rattle.ic_rbtree.specs.SortedObjects.{ShowsSorted}
 use Rattle.ic_rbtree.proofs.SortedKeys.{sorted_inserted}

@@ -8,6 +8,6 @@ use Rattle.bench.proofs.lists.fill.Given as goal
 abbrev pub invariant-loop-index : goal.invariant-loop-index
 invariant-loop-index g l = record {
   extent : (g.L.LinkOps.table l.links).extent ≡ (g.L.LinkOps.table l.fn.links).extent;
-  placed : ShowsPlaced (Shows g.L.LinkedListOps.neighbors (g.L.LinkOps.table l.links) l.list) l.objects;
+  placed : ShowsPlaced (Shows g.L.LinkedListOps.neighbors (g.L.LinkOps.table l.links) l.list) (g.O.Values.values l.objects);
   members : AllWithin (HasMember (Shows g.L.LinkedListOps.neighbors (g.L.LinkOps.table l.links) l.list)) l.order 0 l.index;
 }

@@ -11,7 +11,7 @@ returns g c =
     let s = q.members in
     record {
       placed = either _ c.push_back.result (e.inserted s q.shown) e.refused e.unchanged
-          (λ shown. record { members = s ++ c.args.object ∷ []; shown = rw c.new.ensures at shown; placed = placed_last c.args.objects.now s c.args.object c.requires.object q.placed })
+          (λ shown. record { members = s ++ c.args.object ∷ []; shown = rw c.new.ensures at shown; placed = placed_last (g.O.Values.values c.args.objects.now) s c.args.object c.requires.object q.placed })
           (λ refused same. record { members = s; shown = rw (g.met.L.LinkOps.refused_keeps _ _ _ refused, same) q.shown; placed = q.placed });
       member = on_ok _ c.push_back.result c.is_ok.ensures.value (ok_then c.push_back.result (e.inserted s q.shown)
           (λ shown. record { front = s; back = []; shown = rw c.new.ensures at shown }));

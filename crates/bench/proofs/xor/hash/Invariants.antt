@@ -1,4 +1,3 @@
-use Rattle.std.proofs.Common.{◌≡◌}
 use Rattle.ic_link_ops.specs.XorLinkedList.{Shows}
 use Rattle.ic_cursors.specs.Cursor.{IsStanding}
 use Rattle.ic_chain.specs.Standing.{StandsAt}

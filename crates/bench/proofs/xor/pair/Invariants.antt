@@ -1,6 +1,6 @@
 use Rattle.std.proofs.Common.{◌≡◌}
 use Rattle.ic_link_ops.specs.XorLinkedList.{ShowsSome}
-use Rattle.bench.proofs.xor.timed_xor.Given as goal
+use Rattle.bench.proofs.xor.pair.Given as goal
 
 abbrev pub invariant-loop-operation : goal.invariant-loop-operation
 invariant-loop-operation g l = record {

@@ -1,0 +1,58 @@
+/* Finds in a hash table of uthash (Debian: uthash-dev).
+ *
+ * The table begins with as many buckets as members, rounded up to a power of two, and hashes a key as all programs do: the macros of
+ * uthash say so. It has links from each member to the next one in the order of insertion, too.
+ *
+ * `peer WORKLOAD MEMBERS OPERATIONS` prints the nanoseconds of all operations and a checksum. bench/README.md says what each workload
+ * does. */
+
+#include "../peer.h"
+
+static unsigned bucket_bits;
+
+static unsigned hash_of(uint64_t key) {
+    uint64_t product = key * 11400714819323198485u;
+    return (unsigned)(product ^ product >> 29);
+}
+
+#define HASH_INITIAL_NUM_BUCKETS_LOG2 bucket_bits
+#define HASH_INITIAL_NUM_BUCKETS (1u << bucket_bits)
+#define HASH_FUNCTION(key, length, hash) (hash) = hash_of(*(const uint64_t *)(key))
+#define HASH_KEYCMP(a, b, length) (*(const uint64_t *)(a) != *(const uint64_t *)(b))
+#include <uthash.h>
+
+struct object {
+    uint64_t value;
+    UT_hash_handle links;
+};
+
+TIMED timed_hash_find(struct object *table, uint64_t members, uint64_t operations) {
+    uint64_t random = 1, sum = 0;
+    while (operations--) {
+        uint64_t key = 2 * below(&random, members);
+        struct object *found;
+        HASH_FIND(links, table, &key, sizeof key, found);
+        if (found)
+            sum += found->value;
+    }
+    return sum;
+}
+
+int main(int count, char **words) {
+    if (count != 4)
+        return 2;
+    uint64_t random = 1, members = strtoull(words[2], NULL, 10);
+    uint64_t *values = shuffled(&random, members), *order = shuffled(&random, members);
+    struct object *objects = room_for(members, sizeof *objects), *table = NULL;
+    while (1u << bucket_bits < members)
+        bucket_bits++;
+    for (uint64_t index = 0; index < members; index++)
+        objects[index].value = 2 * values[index];
+    for (uint64_t index = 0; index < members; index++) {
+        struct object *object = &objects[order[index]];
+        HASH_ADD(links, table, value, sizeof object->value, object);
+    }
+    uint64_t start = now(), sum = timed_hash_find(table, members, strtoull(words[3], NULL, 10)), time = now() - start;
+    printf("%" PRIu64 " %" PRIu64 "\n", time, sum);
+    return 0;
+}
