@@ -15,7 +15,7 @@ ghost use Rattle.ic_link_ops.specs.Sequences.{IsDistinct, IsDisjoint};
 ghost use Rattle.ic_rbtree.specs.Tree.{root_of, adapter_of};
 ghost use Rattle.ic_tree_merges.specs.Merges.{compared_at};
 ghost use Rattle.ic_tree_merges.specs.TwoTrees.{TwoShown, PartsTo, UnitesTo};
-ghost use Rattle.ic_tree_merges.specs.Vines.{ends_of, standing, looks_between, IsRun, PartsRun};
+ghost use Rattle.ic_tree_merges.specs.Vines.{ends_of, standing, IsRun, PartsRun};
 
 use crate::compares::Compares;
 use crate::merging::merge;
