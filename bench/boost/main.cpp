@@ -206,6 +206,9 @@ static outcome sorted(const std::string &workload, uint64_t members, uint64_t op
     generator random;
     auto objects = make_objects<doubly_object>(random, members);
     auto order = refer(random, objects);
+    std::vector<uint64_t> values;
+    for (auto &object : objects)
+        values.push_back(object.value);
     doubly_list list;
     outcome outcome;
     for (uint64_t rounds = operations / members; rounds--;) {
@@ -216,8 +219,12 @@ static outcome sorted(const std::string &workload, uint64_t members, uint64_t op
             outcome.time = std::chrono::nanoseconds(count_comparisons(list));
         else
             outcome.time += timed([&] { return timed_sort(list); }).time;
+        // Another value for each object, so that the next sort has another order to make.
+        for (auto &object : objects)
+            object.value *= 6364136223846793005u;
     }
-    outcome.checksum = hash(list);
+    for (auto &object : list)
+        outcome.checksum = outcome.checksum * 31 + values[&object - objects.data()];
     return outcome;
 }
 

@@ -130,7 +130,8 @@ static uint64_t sorted(const struct room *room, uint64_t *time) {
     uint32_t members = room->members;
     struct ic_link2 *links = room_for(members, sizeof *links);
     struct ic_list list = {0, 0};
-    uint64_t failed = 0, hash = 0;
+    uint64_t failed = 0, hash = 0, *values = room_for(members, sizeof *values);
+    memcpy(values, room->values, members * sizeof *values);
     *time = 0;
     for (uint64_t rounds = room->operations / members; rounds--;) {
         memset(links, 0, members * sizeof *links);
@@ -138,8 +139,10 @@ static uint64_t sorted(const struct room *room, uint64_t *time) {
         for (uint32_t index = 0; index < members; index++)
             must(ic_list_push_back(links, members, &list, room->order[index]));
         uint64_t start = now();
-        failed += timed_sort(links, members, room->values, &list);
+        failed += timed_sort(links, members, values, &list);
         *time += now() - start;
+        for (uint32_t index = 0; index < members; index++)
+            values[index] *= 6364136223846793005u;
     }
     IC_LIST_FOREACH(at, links, members, &list)
         hash = hash * 31 + room->values[at];

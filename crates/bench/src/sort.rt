@@ -71,23 +71,34 @@ fn sorted<L: LinkedListOps, O: Values<u64>>(
     list
 }
 
-/// Lists of these places, which are sorted one after the other by the values of an array. Returns a checksum of the last one.
+// Gives each place another value, so that the next sort has another order to make.
+fn scatter(values: &mut Vec<u64>)
+    ensures { length values.new.items ≡ length values.old.items }
+{
+    for index in 0..values.len() {
+        values[index] = values[index].wrapping_mul(6_364_136_223_846_793_005);
+    }
+}
+
+/// Lists of these places, which are sorted one after the other by the values of an array. These are others for each list. Returns a checksum
+/// of the last list.
 pub fn on_sort<L: LinkedListOps>(
     counts: bool,
     watch: &mut Watch<'_>,
     links: &mut L,
     objects: &Objects<u64>,
-    values: &Vec<u64>,
+    values: &mut Vec<u64>,
     order: &[Place],
     size: Size,
 ) -> u64
     requires covered { All (λ place. index_of place < (L.table links.old).extent.places) order.now }
-    requires in_range { All (λ place. index_of place < length values.now.items) order.now }
+    requires in_range { All (λ place. index_of place < length values.old.items) order.now }
 {
     let mut list = LinkedList::new();
     for _round in 0..size.rounds() {
         list.clear(links);
-        list = sorted(counts, watch, links, values, order);
+        list = sorted(counts, watch, links, &*values, order);
+        scatter(values);
     }
     hash(&list, &*links, objects, size.members)
 }

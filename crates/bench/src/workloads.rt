@@ -89,7 +89,7 @@ fn sort(counts: bool, watch: &mut Watch<'_>, room: &Room, size: Size) -> Option<
     let alloc = watch.rt.alloc();
     let mut links = linked_list::LinkOps::new(alloc);
     links.cover(size.members as usize).ok()?;
-    let values = values_of(alloc, &room.objects, size.members).ok()?;
+    let mut values = values_of(alloc, &room.objects, size.members).ok()?;
     let covered = links.covers().min(values.len());
     let order = places_of(alloc, &room.objects, &room.order, covered).ok()?;
     Some(on_sort(
@@ -97,7 +97,7 @@ fn sort(counts: bool, watch: &mut Watch<'_>, room: &Room, size: Size) -> Option<
         watch,
         &mut links,
         &room.objects,
-        &values,
+        &mut values,
         &order,
         size,
     ))
