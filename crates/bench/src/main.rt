@@ -32,7 +32,7 @@ use room::{Size, Watch};
 use std::{env, io};
 use workloads::checksum;
 
-const WORKLOADS: [&str; 43] = [
+const WORKLOADS: [&str; 44] = [
     "pair",
     "pair-lent",
     "touch",
@@ -60,6 +60,7 @@ const WORKLOADS: [&str; 43] = [
     "insert-flat",
     "insert-keyed",
     "fresh",
+    "fresh-ends",
     "remove",
     "turn",
     "turn-flat",

@@ -161,17 +161,18 @@ fn tree(
     Some(checksum)
 }
 
-// A tree of their values, which stand beside the links. For `fresh` it counts its members.
+// A tree of their values, which stand beside the links. For `fresh` it counts its members, and for `fresh-ends` it has an interval beside each.
 fn keyed(name: &str, watch: &mut Watch<'_>, room: &Room, size: Size) -> Option<u64> {
     let alloc = watch.rt.alloc();
     let mut links = rbtree::LinkOpsWith::new(alloc);
     links.cover(size.members as usize).ok()?;
     let order = places_of(alloc, &room.objects, &room.order, links.covers()).ok()?;
     set_keys(&mut links, &room.objects, &order);
-    if name == "fresh" {
-        return on_fresh(watch, links, &order, size);
+    match name {
+        "fresh" => on_fresh::<()>(watch, links, &order, size),
+        "fresh-ends" => on_fresh::<u64>(watch, links, &order, size),
+        _ => Some(on_keyed(name, watch, &mut links, &order, size)),
     }
-    Some(on_keyed(name, watch, &mut links, &order, size))
 }
 
 /// Does the workload, and returns its checksum. Behind the workload of a list `-lent` stands for a lent table, and
@@ -189,7 +190,7 @@ pub fn checksum(name: &str, watch: &mut Watch<'_>, size: Size) -> Option<u64> {
         "xor" => xor(is_other, watch, &room, size),
         "sort" => sort(is_other, watch, &room, size),
         "hash_find" => hash_find(watch, &room, size),
-        "fresh" => keyed(work, watch, &room, size),
+        "fresh" => keyed(name, watch, &room, size),
         "world" => Some(on_world(watch, &room.objects, &room.order, size)),
         _ if name.ends_with("-keyed") => keyed(work, watch, &room, size),
         _ => tree(work, is_other, watch, &mut room, size),
