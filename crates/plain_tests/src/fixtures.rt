@@ -1,0 +1,48 @@
+//! What the tests share: tables of a few places, and references to what is not linked.
+
+ghost use Rattle.std.specs.Prelude.{◌≡◌};
+ghost use Rattle.ic_link_ops.specs.PlainTables.{table, linked_by};
+ghost use Rattle.ic_link_ops.specs.Tables.{IsCovered, IsUnlinked};
+
+use ic_link_ops::{PlainTable, Words};
+use ic_unsafe_ref::{Place, UnsafeRef};
+use std::alloc::Global;
+use std::process::Abort;
+
+/// A table that covers four places.
+pub(crate) fn covering<W: Words>(rt: &impl Abort, alloc: Global) -> PlainTable<W> {
+    let mut links = PlainTable::new(alloc);
+    links.cover(4).expect(rt, "memory for links");
+    links
+}
+
+/// The reference to whatever stands at the place of this index, which is covered and not linked.
+pub(crate) fn unlinked<W: Words, T>(
+    rt: &impl Abort,
+    links: &PlainTable<W>,
+    index: usize,
+) -> UnsafeRef<T>
+    ensures covered { IsCovered (table W.unlinked links.now) result }
+    ensures unlinked { IsUnlinked (linked_by W.is_linked) (table W.unlinked links.now) result }
+{
+    let place = Place::new(index).expect(rt, "the index of a place");
+    assert!(rt; place.index() < links.covers());
+    assert!(rt; !links.is_linked(place));
+    UnsafeRef::new(place)
+}
+
+/// The index of a place, 9 of none.
+pub(crate) fn index(place: Option<Place>) -> usize {
+    match place {
+        Some(place) => place.index(),
+        None => 9,
+    }
+}
+
+/// The index of the place where an object stands, 9 of none.
+pub(crate) fn index_of<T>(object: Option<UnsafeRef<T>>) -> usize {
+    match object {
+        Some(object) => object.place().index(),
+        None => 9,
+    }
+}

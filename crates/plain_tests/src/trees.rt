@@ -1,0 +1,94 @@
+//! The tree: each plain call once.
+
+ghost use Rattle.std.specs.Ordering.{nat_cmp};
+ghost use Rattle.ic_link_ops.specs.Tables.{IsCovered};
+ghost use Rattle.ic_rbtree.specs.PlainTrees.{plain_table, PlainShowsSome};
+ghost use Rattle.ic_rbtree.specs.Tree.{root_of};
+ghost use Rattle.ic_plain.specs.SortedTrees.{IsInOrder};
+
+use crate::fixtures::{covering, index, index_of, unlinked};
+use ic_plain::example::{ByDeadline, Timer, first_from};
+use ic_plain::rbtree;
+use ic_rbtree::{KeyAdapter, LinkOps, RBTree};
+use ic_unsafe_ref::{Objects, Place, UnsafeRef};
+use std::alloc::Global;
+use std::process::Abort;
+
+// Timers with these deadlines, at the places from 0 on.
+fn timers_at(rt: &impl Abort, alloc: Global, deadlines: &[u64]) -> Objects<Timer> {
+    let mut objects = Objects::new(alloc);
+    for deadline in deadlines {
+        let timer = Timer {
+            number: 7,
+            deadline: *deadline,
+        };
+        let _next = objects.next_place().expect(rt, "a vacant place");
+        let placed = UnsafeRef::from_box(&mut objects, timer);
+        assert!(rt; placed.is_ok());
+    }
+    objects
+}
+
+// Puts the timer at the place of this index into the tree.
+fn add(
+    rt: &impl Abort,
+    tree: &mut RBTree<ByDeadline>,
+    links: &mut LinkOps,
+    objects: &Objects<Timer>,
+    index: usize,
+)
+    requires sorted { IsInOrder nat_cmp ⟦<ByDeadline as KeyAdapter>⟧.key_of (plain_table links.old) tree.old objects.now }
+    requires shown { PlainShowsSome links.old (root_of tree.old) }
+    ensures sorted { IsInOrder nat_cmp ⟦<ByDeadline as KeyAdapter>⟧.key_of (plain_table links.new) tree.new objects.now }
+    ensures shown { PlainShowsSome links.new (root_of tree.new) }
+{
+    let timer = unlinked(rt, &*links, index);
+    assert!(rt; objects.is_placed(timer.place()));
+    rbtree::insert(tree, links, objects, timer);
+}
+
+// The indices of the places in front of a member's and behind it.
+fn beside(rt: &impl Abort, tree: &RBTree<ByDeadline>, links: &LinkOps, place: Place) -> [usize; 2]
+    requires covered { IsCovered (plain_table links.now) place }
+    requires shown { PlainShowsSome links.now (root_of tree.now) }
+{
+    assert!(rt; tree.contains(links, place));
+    [
+        index(rbtree::prev(tree, links, place)),
+        index(rbtree::next(tree, links, place)),
+    ]
+}
+
+#[test]
+fn tree_in_order(rt: HostRuntime) {
+    let objects = timers_at(&rt, rt.alloc(), &[30, 10, 20, 10]);
+    let mut links: LinkOps = covering(&rt, rt.alloc());
+    let mut tree = rbtree::new(ByDeadline);
+    assert!(rt; rbtree::is_empty(&tree, &links));
+    // they stand as 1, 3, 2, 0
+    add(&rt, &mut tree, &mut links, &objects, 0);
+    add(&rt, &mut tree, &mut links, &objects, 1);
+    add(&rt, &mut tree, &mut links, &objects, 2);
+    add(&rt, &mut tree, &mut links, &objects, 3);
+    let ends = [
+        index(rbtree::first(&tree, &links)),
+        index(rbtree::last(&tree, &links)),
+    ];
+    let found = [
+        index(rbtree::find(&tree, &links, &objects, &10)),
+        index(rbtree::find(&tree, &links, &objects, &15)),
+        index(rbtree::lower_bound(&tree, &links, &objects, &15)),
+        index(rbtree::lower_bound(&tree, &links, &objects, &31)),
+    ];
+    let third = Place::new(3).expect(&rt, "the index of a place");
+    assert!(rt; third.index() < links.covers());
+    let sides = beside(&rt, &tree, &links, third);
+    let left = [
+        index_of(rbtree::remove_key(&mut tree, &mut links, &objects, &10)),
+        index_of(rbtree::pop_back(&mut tree, &mut links)),
+        index_of(rbtree::pop_front(&mut tree, &mut links)),
+    ];
+    assert!(rt; ends == [1, 0] && found == [1, 9, 2, 9]);
+    assert!(rt; sides == [1, 2] && left == [1, 0, 3]);
+    assert!(rt; first_from(&tree, &links, &objects, 20) == Some(7));
+}
