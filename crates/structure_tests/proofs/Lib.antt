@@ -7,3 +7,4 @@ pub mod Positions
 pub mod Ready
 pub mod Rings
 mod Trees
+pub mod TwoTrees

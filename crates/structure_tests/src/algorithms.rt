@@ -10,10 +10,11 @@ ghost use Rattle.ic_link_ops.specs.PlainTables.{table};
 ghost use Rattle.ic_list_algorithms.specs.Runs.{FewLooks, TwoShown};
 ghost use Rattle.ic_list_algorithms.specs.TwoLists.{TwoLists};
 
+use crate::objects::reference;
 use ic_chain::{Chain, DoubleEnded, ForwardLinks, ListKind, SingleEnded};
-use ic_link_ops::linked_list::TwoWords;
+use ic_link_ops::linked_list::{LinkOpsWith, TwoWords};
 use ic_link_ops::singly_linked_list::Singly;
-use ic_link_ops::{LinkOps, OneWord, PlainTable, Words};
+use ic_link_ops::{LinkOps, LinkValues, OneWord, PlainTable, Words};
 use ic_linked_list::DoublyLinked;
 use ic_list_algorithms as algorithms;
 use ic_list_algorithms::{By, Counted, Following, Natural};
@@ -49,14 +50,11 @@ fn eight_objects<W: Words>(rt: &impl Abort, alloc: Global) -> (Objects<u64>, Pla
 }
 
 // Puts the objects at the first places into a new list, as many as that and in their order.
-fn filled<K: ForwardLinks<PlainTable<W>>, W: Words>(
-    links: &mut PlainTable<W>,
-    members: usize,
-) -> Chain<K, u64>
-    requires covered { (table W.unlinked links.old).extent.places ≡ 8 }
+fn filled<K: ForwardLinks<L>, L: LinkOps>(links: &mut L, members: usize) -> Chain<K, u64>
+    requires covered { (L.table links.old).extent.places ≡ 8 }
     requires few { members ≤ 8 }
-    ensures covers { (table W.unlinked links.new).extent.places ≡ 8 }
-    ensures shown { ShowsSomeChain K.Between K.kept (table W.unlinked links.new) result }
+    ensures covers { (L.table links.new).extent.places ≡ 8 }
+    ensures shown { ShowsSomeChain K.Between K.kept (L.table links.new) result }
 {
     let mut list = Chain::new();
     for given in 0..members {
@@ -105,6 +103,34 @@ fn sort_and_count<K: Following<L>, L: LinkOps>(
     let mut order = Counted::new(Natural);
     algorithms::sort_by(list, links, objects, &mut order);
     order.looks()
+}
+
+// Sorts a list by the numbers that stand beside its links, the largest first, and answers the member that is first then.
+fn sorted_down_keyed<K: Following<L>, L: LinkValues<u64>>(
+    list: &mut Chain<K, u64>,
+    links: &mut L,
+) -> Option<usize>
+    requires shown { ShowsSomeChain K.Between K.kept (L.table links.old) list.old }
+    ensures shown { ShowsSomeChain K.Between K.kept (L.table links.new) list.new }
+    ensures values { L.values links.new ≡ L.values links.old }
+{
+    let mut largest_first = By::new(|a: &u64, b: &u64| b.cmp(a));
+    algorithms::sort_keyed(list, links, &mut largest_first);
+    index_of_first(list)
+}
+
+// Sorts a list by the numbers that stand beside its links, the smallest first, merges an empty list into it, and answers its first member.
+fn merged_keyed<K: Following<L>, L: LinkValues<u64>>(
+    list: &mut Chain<K, u64>,
+    links: &mut L,
+) -> Option<usize>
+    requires shown { ShowsSomeChain K.Between K.kept (L.table links.old) list.old }
+    ensures shown { ShowsSomeChain K.Between K.kept (L.table links.new) list.new }
+    ensures values { L.values links.new ≡ L.values links.old }
+{
+    algorithms::sort_keyed(list, links, &mut Natural);
+    algorithms::merge_keyed(list, links, &mut Natural, Chain::new());
+    index_of_first(list)
 }
 
 // Whether a list is in order, and how many members it has, which is the fourth, and which is the first above 40.
@@ -254,4 +280,19 @@ fn algorithms_over_singly_lists(rt: HostRuntime) {
     assert!(rt; merged(&mut other.list, &mut other.links, &other.objects) == Some(2));
     let mut other: Fixture<SinglyLinked, OneWord<Singly>> = eight(&rt, alloc);
     assert!(rt; appended_walking(&mut other.list, &mut other.links));
+}
+
+// The numbers 30, 10 and 20 stand beside the links.
+#[test]
+fn sorts_by_what_stands_beside_links(rt: HostRuntime) {
+    let mut links: LinkOpsWith<u64> = LinkOpsWith::new(rt.alloc());
+    let _ = links.cover(8);
+    assert!(rt; links.covers() == 8);
+    links.set_value(reference(0).place(), 30);
+    links.set_value(reference(1).place(), 10);
+    links.set_value(reference(2).place(), 20);
+    let mut list: Chain<DoublyLinked, u64> = filled(&mut links, 3);
+    assert!(rt; sorted_down_keyed(&mut list, &mut links) == Some(0));
+    assert!(rt; merged_keyed(&mut list, &mut links) == Some(1));
+    assert!(rt; turned(&mut list, &mut links) == Some(0));
 }

@@ -6,12 +6,13 @@ ghost use Rattle.ic_unsafe_ref.specs.declared.place.Place.{Place};
 ghost use Rattle.ic_unsafe_ref.specs.Objects.{is_placed};
 ghost use Rattle.ic_unsafe_ref.specs.Places.{index_of};
 ghost use Rattle.ic_link_ops.specs.Tables.{IsCovered};
-ghost use Rattle.ic_hash_table.specs.HashTable.{adapter_of, number, HoldsSome, IsNew};
+ghost use Rattle.ic_hash_table.specs.HashTable.{adapter_of, slots_of, number, HoldsSome, IsNew};
 
 mod equals;
 mod keyed;
+mod words;
 
-use crate::hash_table::equals::{put_all, take_beside};
+use crate::hash_table::equals::{grow_beside, put_all, shrink_beside, take_beside};
 use crate::hash_table::keyed::{put_keyed, take_by_keyed, take_keyed};
 use crate::objects::{eight_objects, reference, same, write_places};
 use ic_hash_table::{Buckets, Entry, HashAdapter, HashTable, KeyOf, KeyProbe, StdHash};
@@ -26,7 +27,7 @@ use std::process::Abort;
 
 /// Says that a number is its own key, and its own hash.
 #[derive(Clone, Copy)]
-struct OwnKey;
+pub(crate) struct OwnKey;
 
 impl HashAdapter for OwnKey {
     ghost use Rattle.std.proofs.Common.{eqb-true};
@@ -66,8 +67,8 @@ impl KeyOf for ByNumber {
     }
 }
 
-// So many empty buckets.
-fn empty_buckets(alloc: Global, count: usize) -> Result<Vec<PlaceWord>, AllocError>
+/// So many empty buckets.
+pub(crate) fn empty_buckets(alloc: Global, count: usize) -> Result<Vec<PlaceWord>, AllocError>
     ensures none { IfOk result (λ buckets. AllByRecursion (λ front. front ≡ None) buckets.items) }
     ensures count { IfOk result (λ buckets. length buckets.items ≡ count) }
 {
@@ -92,6 +93,7 @@ fn put<A: HashAdapter<Value = u64>, L: SinglyLinkedListOps, B: Buckets>(
     ensures covers { (L.table links.new).extent.places ≡ 8 }
     ensures held { HoldsSome L.successor (number A.key_of A.hash_of) B.fronts (L.table links.new) table.new objects.now }
     ensures adapter { adapter_of table.new ≡ adapter_of table.old }
+    ensures slots { slots_of table.new ≡ slots_of table.old }
 {
     let _ = table.insert(links, objects, reference(index));
 }
@@ -397,8 +399,8 @@ fn printed<A: HashAdapter<Value = u64, Key = u64>, L: SinglyLinkedListOps, B: Bu
     format!(in alloc; "{listing:?}")
 }
 
-// Notes what a new table is after each edit, with the key of the objects at 0 and 2.
-fn write_edits<A: HashAdapter<Value = u64>, L: SinglyLinkedListOps, B: Buckets>(
+/// Notes what a new table is after each edit, with the key of the objects at 0 and 2.
+pub(crate) fn write_edits<A: HashAdapter<Value = u64>, L: SinglyLinkedListOps, B: Buckets>(
     notes: &mut Text,
     table: &mut HashTable<A, B>,
     links: &mut L,
@@ -428,10 +430,11 @@ fn write_edits<A: HashAdapter<Value = u64>, L: SinglyLinkedListOps, B: Buckets>(
     write_counts(notes, &*table);
 }
 
-const EDITS: &str = "20 30 10 10  2 0  1 none  yes no  2  40 20 10  1 0 0  2 4 no  0 4 yes";
+pub(crate) const EDITS: &str =
+    "20 30 10 10  2 0  1 none  yes no  2  40 20 10  1 0 0  2 4 no  0 4 yes";
 
-// The numbers of these tests, of which 10 and 20 stand there twice.
-const NUMBERS: [u64; 8] = [10, 20, 10, 30, 20, 40, 50, 60];
+/// The numbers of these tests, of which 10 and 20 stand there twice.
+pub(crate) const NUMBERS: [u64; 8] = [10, 20, 10, 30, 20, 40, 50, 60];
 
 #[test]
 fn a_table_over_a_vector(rt: HostRuntime) {
@@ -654,10 +657,15 @@ fn write_equal_keys<A: HashAdapter<Value = u64>, L: SinglyLinkedListOps, B: Buck
     requires count { length (B.fronts buckets) ≡ 4 }
     requires none { AllByRecursion (λ front. front ≡ None) (B.fronts buckets) }
 {
-    let mut table = HashTable::new(adapter, buckets);
+    let mut table = HashTable::with_used(adapter, buckets, 1);
     put_all(&mut table, links, objects, &[0, 6, 2, 1, 4]);
     write_members(notes, &table, &*links, objects);
     take_beside(&mut table, links, objects, 2);
+    write_members(notes, &table, &*links, objects);
+    grow_beside(&mut table, links, objects);
+    grow_beside(&mut table, links, objects);
+    write_members(notes, &table, &*links, objects);
+    shrink_beside(&mut table, links, objects);
     write_members(notes, &table, &*links, objects);
 }
 
@@ -668,7 +676,12 @@ fn equal_keys_stand_side_by_side(rt: HostRuntime) {
     let (objects, mut links): (_, LinkOps) = eight_objects(&rt, alloc, NUMBERS);
     let buckets = empty_buckets(alloc, 4).expect(&rt, "memory for buckets");
     write_equal_keys(&mut notes, OwnKey, buckets, &mut links, &objects);
-    same(&rt, alloc, &notes, "20 20 10 10 50  20 20 10 50");
+    same(
+        &rt,
+        alloc,
+        &notes,
+        "10 10 50 20 20  10 50 20 20  20 20 10 50  10 50 20 20",
+    );
 }
 
 // Notes what a new table is whose keys stand beside the links.

@@ -10,6 +10,8 @@ mod augmented;
 mod builder;
 #[cfg(test)]
 mod check;
+#[cfg(test)]
+mod claimed;
 pub mod containers;
 #[cfg(test)]
 mod hash_table;
@@ -19,3 +21,5 @@ mod keyed;
 mod objects;
 #[cfg(test)]
 mod ring;
+#[cfg(test)]
+mod tree_merges;

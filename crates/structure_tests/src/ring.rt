@@ -214,8 +214,8 @@ fn printed<L: LinkedListOps>(
     format!(in alloc; "{listing:?}")
 }
 
-// Notes what one ring is after each edit.
-fn write_edits<L: LinkedListOps>(
+/// Notes what one ring is after each edit.
+pub(crate) fn write_edits<L: LinkedListOps>(
     rt: &impl Abort,
     notes: &mut Text,
     links: &mut L,
@@ -263,7 +263,8 @@ fn write_edits_by_view(
     write_edits(rt, notes, &mut links, objects);
 }
 
-const EDITS: &str = "yes none none 7 7  20 10 10,  20 10 30 30,  30 20 20,  50 60 40 20 20,
+pub(crate) const EDITS: &str =
+    "yes none none 7 7  20 10 10,  20 10 30 30,  30 20 20,  50 60 40 20 20,
     no 1 3 3 1  1 3  50 60 60,  yes none none 7 7  1 0";
 
 #[test]

@@ -47,6 +47,31 @@ pub(super) fn take_beside<A: HashAdapter<Value = u64>, L: SinglyLinkedListOps, B
     table.remove(links, objects, &reference(index));
 }
 
+/// Takes one bucket more into use, if there is one. Objects with equal keys stand side by side still.
+pub(super) fn grow_beside<A: HashAdapter<Value = u64>, L: SinglyLinkedListOps, B: Buckets>(
+    table: &mut HashTable<A, B>,
+    links: &mut L,
+    objects: &Objects<u64>,
+)
+    requires beside { HoldsSideBySide L.successor (number A.key_of A.hash_of) B.fronts A.Key.eq A.key_of (L.table links.old) table.old objects.now }
+    ensures beside { HoldsSideBySide L.successor (number A.key_of A.hash_of) B.fronts A.Key.eq A.key_of (L.table links.new) table.new objects.now }
+{
+    table.grow_one(links, objects);
+}
+
+/// Takes the last bucket out of use, unless it is the only one. Objects with equal keys stand side by side still.
+pub(super) fn shrink_beside<A: HashAdapter<Value = u64>, L: SinglyLinkedListOps, B: Buckets>(
+    table: &mut HashTable<A, B>,
+    links: &mut L,
+    objects: &Objects<u64>,
+)
+    requires beside { HoldsSideBySide L.successor (number A.key_of A.hash_of) B.fronts A.Key.eq A.key_of (L.table links.old) table.old objects.now }
+    ensures beside { HoldsSideBySide L.successor (number A.key_of A.hash_of) B.fronts A.Key.eq A.key_of (L.table links.new) table.new objects.now }
+{
+    let _ = objects;
+    table.shrink_one(links);
+}
+
 /// Puts these objects in, one after the other: those with equal keys stand side by side, however many there are.
 pub(super) fn put_all<A: HashAdapter<Value = u64>, L: SinglyLinkedListOps, B: Buckets>(
     table: &mut HashTable<A, B>,

@@ -2,7 +2,7 @@ use Rattle.ic_unsafe_ref.specs.Places.{index_of}
 use Rattle.ic_link_ops.specs.EntryLaws.{linked_in_range}
 use Rattle.ic_link_ops.specs.Links.{link_of}
 use Rattle.ic_link_ops.specs.PlainTables.{entries, table, linked_by}
-use Rattle.structure_tests.proofs.PlacedChains.{chain_placed}
+use Rattle.ic_list_algorithms.proofs.WholeLists.{members_placed}
 use Rattle.structure_tests.proofs.algorithms.eight.Goals as goal
 
 pub returns : goal.returns
@@ -13,8 +13,8 @@ returns g c =
       shown = record {
         members = i.shown.0;
         shown = i.shown.1;
-        placed = chain_placed g.K.ForwardLinks.Between (table g.W.Words.unlinked c.filled-list.new.links).entry c.eight_objects-objects.result.0
-            (λ q a b k. c.eight_objects-objects.ensures.placed q (rw (← i.covers) (covered (index_of q) (g.met.K.ForwardLinks.between_linked _ a b k)))) _ i.shown.0 i.shown.1.chain;
+        placed = members_placed g.K.ForwardLinks.Between c.eight_objects-objects.result.0 (table g.W.Words.unlinked c.filled-list.new.links)
+            (λ q b a k. c.eight_objects-objects.ensures.placed q (rw (← i.covers) (covered (index_of q) (g.met.K.ForwardLinks.between_linked _ b a k)))) i.shown.0 i.shown.1;
       };
       some = i.shown;
     }
