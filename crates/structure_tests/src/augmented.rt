@@ -23,7 +23,7 @@ mod intervals;
 use crate::keyed::{OwnKey, keyed_links, place_at, reference};
 use ic_augmented::{
     Counts, Greatest, Joins, RenewSums, SumTable, Summed, first_greater, first_overlap, index_of,
-    insert_keyed, len, nth, refresh, remove, set_value,
+    insert_keyed, len, nth, propagate, refresh, remove, set_value,
 };
 use ic_link_ops::LinkValues;
 use ic_link_ops::rbtree::{LinkOpsWith, RBTreeOps};
@@ -63,6 +63,24 @@ fn put<A: KeyAdapter, L: RBTreeOps + LinkValues<A::Value>, M: RenewSums>(
 {
     let _ = insert_keyed(tree, summed, object);
     refresh(tree, summed);
+}
+
+// Does the same, and renews the summaries above the place alone.
+fn put_and_propagate<A: KeyAdapter, L: RBTreeOps + LinkValues<A::Value>, M: RenewSums>(
+    rt: &impl Abort,
+    tree: &mut RBTree<A>,
+    summed: &mut Summed<L, M>,
+    object: UnsafeRef<A::Value>,
+)
+    requires covered { IsCovered (L.table (links_of summed.old)) object }
+    requires ready { IsReady L.node L.table M.sums M.Covers tree.old summed.old }
+    ensures ready { IsReady L.node L.table M.sums M.Covers tree.new summed.new }
+    ensures extent { (L.table (links_of summed.new)).extent ≡ (L.table (links_of summed.old)).extent }
+{
+    let place = object.place();
+    let inserted = insert_keyed(tree, summed, object);
+    assert!(rt; inserted.is_ok());
+    propagate(summed, place);
 }
 
 // The position that the member at a position tells, and the length where no member stands there.
@@ -139,9 +157,10 @@ fn first_overlapping(
 fn members_by_position(rt: HostRuntime) {
     let alloc = rt.alloc();
     let (mut tree, mut summed) = empty_tree::<()>(&rt, alloc, &[40, 10, 30, 20]);
-    for index in 0..4 {
+    for index in 0..3 {
         put(&mut tree, &mut summed, reference(index));
     }
+    put_and_propagate(&rt, &mut tree, &mut summed, reference(3));
     assert!(rt; position_of_nth(&tree, &summed, 2) == 2);
     assert!(rt; position_of_nth(&tree, &summed, 9) == 4);
     assert!(rt; take_nth(&mut tree, &mut summed, 1) == Some(place_at(3)));
