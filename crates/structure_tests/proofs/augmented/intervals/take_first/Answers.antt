@@ -1,5 +1,4 @@
-use Rattle.std.proofs.Common.{◌<◌, ◌∙◌, ◌++◌, ◌∷◌, ap, sym, subst, List}
-use Rattle.ic_unsafe_ref.specs.declared.place.Place.{Place}
+use Rattle.std.proofs.Common.{◌<◌, ◌∙◌, ◌++◌, ◌∷◌, sym, subst}
 use Rattle.ic_unsafe_ref.specs.Objects.{Objects}
 use Rattle.ic_unsafe_ref.specs.Places.{index_of}
 use Rattle.ic_link_ops.specs.Positions.{HasMember}
