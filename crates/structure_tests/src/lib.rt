@@ -18,6 +18,8 @@ mod hash_table;
 #[cfg(test)]
 mod keyed;
 #[cfg(test)]
+mod listed;
+#[cfg(test)]
 mod objects;
 #[cfg(test)]
 mod ring;

@@ -14,7 +14,7 @@ mod pairs;
 use crate::objects::{eight_objects, reference, same, write_places};
 use crate::ring::connections::{close, close_oldest, touch};
 use crate::ring::cursors::{
-    close_first, keep_first, put_last_but_one, put_second, renew_last, second,
+    close_first, close_last, keep_first, put_last_but_one, put_second, renew_last, second,
     take_over_before_last, take_over_behind_first,
 };
 use crate::ring::pairs::{exchange_heads, move_over, move_over_to_front, splice, split, two_rings};
@@ -361,6 +361,10 @@ fn write_cursors<L: LinkedListOps>(
     notes.add(object(closed), " ");
     write_places(notes, &[first, second(&*links, &ring)]);
     write_members(notes, &*links, objects, &ring);
+    let (was_last, behind, is_none) = close_last(links, &ring);
+    notes.add(Answer::Truth(was_last), " ");
+    write_places(notes, &[behind]);
+    notes.add(Answer::Truth(is_none), " ");
 }
 
 #[test]
@@ -370,7 +374,12 @@ fn a_ring_by_cursors(rt: HostRuntime) {
     let numbers = [10, 20, 30, 40, 50, 60, 70, 80];
     let (objects, mut links): (_, LinkOps) = eight_objects(&rt, alloc, numbers);
     write_cursors(&rt, &mut notes, &mut links, &objects);
-    same(&rt, alloc, &notes, "10 30 40 20 20,  0 2 3 30 40 50 50,");
+    same(
+        &rt,
+        alloc,
+        &notes,
+        "10 30 40 20 20,  0 2 3 30 40 50 50,  yes none yes",
+    );
 }
 
 // Notes what a queue is that keeps its first member alone.

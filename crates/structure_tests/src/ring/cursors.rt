@@ -1,8 +1,8 @@
 //! Queues that are edited in the middle, by a cursor.
 
-ghost use Rattle.std.specs.Prelude.{◌≡◌, ◌≢◌, ◌<◌, ◌∷◌, ◌++◌, List, [], OnOk, Some, None};
+ghost use Rattle.std.specs.Prelude.{◌≡◌, ◌≢◌, ◌<◌, ◌∷◌, ◌++◌, List, [], OnOk, Some, None, true};
 ghost use Rattle.ic_unsafe_ref.specs.declared.place.Place.{Place};
-ghost use Rattle.ic_link_ops.specs.Sequences.{IsAbsent, first, last, but_last};
+ghost use Rattle.ic_link_ops.specs.Sequences.{IsAbsent, IsMember, first, last, but_last};
 ghost use Rattle.ic_link_ops.specs.Tables.{IsCovered};
 ghost use Rattle.ic_ring.specs.Rings.{Shows, InRing};
 
@@ -142,4 +142,48 @@ pub(crate) fn take_over_before_last<L: LinkedListOps>(
     let mut cursor = queue.cursor_mut(links);
     cursor.move_prev();
     cursor.splice_before(given);
+}
+
+/// Whether the connection is the last one in the queue: whether the head stands behind it.
+pub(crate) fn is_last<L: LinkedListOps>(
+    links: &L,
+    queue: &Ring<u64>,
+    connection: &UnsafeRef<u64>,
+) -> bool
+    requires here { (r : List Place) × Shows L.neighbors (L.table links.now) queue.now r × IsMember connection.now (queue.now ∷ r) }
+    ensures last { (s : List Place) → Shows L.neighbors (L.table links.now) queue.now (s ++ connection.now ∷ []) → result ≡ true }
+{
+    let mut cursor = queue.cursor_at(links, connection.place());
+    cursor.move_next();
+    cursor.is_null()
+}
+
+/// Closes the connection, and says which stood behind it, and whether none did.
+pub(crate) fn close_here<L: LinkedListOps>(
+    links: &mut L,
+    queue: &Ring<u64>,
+    connection: &UnsafeRef<u64>,
+) -> (Option<Place>, bool)
+    requires here { (r : List Place) × Shows L.neighbors (L.table links.old) queue.now r × IsMember connection.now (queue.now ∷ r) }
+    ensures queue { InRing L.neighbors (L.table links.new) queue.now }
+{
+    let mut cursor = queue.cursor_mut_at(links, connection.place());
+    let _ = cursor.remove();
+    (cursor.as_cursor().get_ptr(), cursor.is_null())
+}
+
+/// Closes the last connection of the queue, if there is one: whether it was the last, what stood behind it, and whether that was none.
+pub(crate) fn close_last<L: LinkedListOps>(
+    links: &mut L,
+    queue: &Ring<u64>,
+) -> (bool, Option<Place>, bool)
+    requires queue { InRing L.neighbors (L.table links.old) queue.now }
+{
+    let Some(last) = queue.last(&*links) else {
+        return (false, None, true);
+    };
+    let connection = UnsafeRef::new(last);
+    let was_last = is_last(&*links, queue, &connection);
+    let (behind, is_none) = close_here(links, queue, &connection);
+    (was_last, behind, is_none)
 }

@@ -1,0 +1,40 @@
+//! Objects that are all in one list, by a caller that keeps the numbers that it has met, the newest in front.
+
+ghost use Rattle.std.specs.Prelude.{◌≡◌, IfSome, Some};
+ghost use Rattle.ic_unsafe_ref.specs.Objects.{object_at};
+
+use ic_container::Listed;
+use ic_unsafe_ref::UnsafeRef;
+
+// Puts a number that was met before in front again, and another one in its place. It returns the old one, if the number is there still.
+fn renew(numbers: &mut Listed<u64>, met: &UnsafeRef<u64>, number: u64) -> Option<u64>
+    ensures there { IfSome result (λ old. object_at numbers.old.values met.now ≡ Some old) }
+    ensures renewed { IfSome result (λ old. object_at numbers.new.values met.now ≡ Some number) }
+{
+    if !numbers.is_placed(met) {
+        return None;
+    }
+    numbers.move_to_front(met.place());
+    Some(numbers.replace(met.place(), number))
+}
+
+// Takes the oldest number out, if there is one.
+fn forget_oldest(numbers: &mut Listed<u64>) -> Option<u64> {
+    let oldest = numbers.last()?;
+    Some(numbers.remove(oldest))
+}
+
+#[test]
+fn numbers_are_met(rt: HostRuntime) {
+    let mut numbers: Listed<u64> = Listed::new(rt.alloc());
+    assert!(rt; forget_oldest(&mut numbers).is_none());
+    let first = numbers.place_front(10).expect(&rt, "memory");
+    let second = numbers.place_front(20).expect(&rt, "memory");
+    assert!(rt; numbers.first() == Some(second.place()));
+    assert!(rt; renew(&mut numbers, &first, 11) == Some(10));
+    assert!(rt; numbers.first() == Some(first.place()));
+    assert!(rt; forget_oldest(&mut numbers) == Some(20));
+    assert!(rt; numbers.get(&second).is_none());
+    assert!(rt; renew(&mut numbers, &second, 21).is_none());
+    assert!(rt; forget_oldest(&mut numbers) == Some(11));
+}
