@@ -1443,10 +1443,10 @@ ic_ffi.sort_calls.refusal:
 .Lfunc_end15:
 	.size	ic_ffi.sort_calls.refusal, .Lfunc_end15-ic_ffi.sort_calls.refusal
 	.cfi_endproc
-	.section	.text.ic_list_algorithms.merge.merge_runs.6b876bd148a62f4b,"ax",@progbits
+	.section	.text.ic_list_algorithms.merge.merge_runs.26152562f016feb9,"ax",@progbits
 	.p2align	2
-	.type	ic_list_algorithms.merge.merge_runs.6b876bd148a62f4b,@function
-ic_list_algorithms.merge.merge_runs.6b876bd148a62f4b:
+	.type	ic_list_algorithms.merge.merge_runs.26152562f016feb9,@function
+ic_list_algorithms.merge.merge_runs.26152562f016feb9:
 	.cfi_startproc
 	ldr	x9, [x1]
 	ldr	x8, [x0]
@@ -1521,12 +1521,12 @@ ic_list_algorithms.merge.merge_runs.6b876bd148a62f4b:
 	stur	x9, [x8, #-16]
 	ret
 .Lfunc_end16:
-	.size	ic_list_algorithms.merge.merge_runs.6b876bd148a62f4b, .Lfunc_end16-ic_list_algorithms.merge.merge_runs.6b876bd148a62f4b
+	.size	ic_list_algorithms.merge.merge_runs.26152562f016feb9, .Lfunc_end16-ic_list_algorithms.merge.merge_runs.26152562f016feb9
 	.cfi_endproc
-	.section	.text.ic_list_algorithms.sort.sort_front.6b876bd148a62f4b,"ax",@progbits
+	.section	.text.ic_list_algorithms.sort.sort_front.26152562f016feb9,"ax",@progbits
 	.p2align	2
-	.type	ic_list_algorithms.sort.sort_front.6b876bd148a62f4b,@function
-ic_list_algorithms.sort.sort_front.6b876bd148a62f4b:
+	.type	ic_list_algorithms.sort.sort_front.26152562f016feb9,@function
+ic_list_algorithms.sort.sort_front.26152562f016feb9:
 	.cfi_startproc
 	sub	sp, sp, #112
 	.cfi_def_cfa_offset 112
@@ -1567,7 +1567,7 @@ ic_list_algorithms.sort.sort_front.6b876bd148a62f4b:
 	mov	w10, #1
 	cset	w21, ne
 	stur	x10, [x9, #-16]
-	bl	ic_list_algorithms.merge.merge_runs.6b876bd148a62f4b
+	bl	ic_list_algorithms.merge.merge_runs.26152562f016feb9
 	stp	x0, x21, [x19]
 	str	x20, [x19, #16]
 	.cfi_def_cfa wsp, 112
@@ -1621,7 +1621,7 @@ ic_list_algorithms.sort.sort_front.6b876bd148a62f4b:
 	mov	x4, x20
 	mov	x22, x1
 	mov	x23, x2
-	bl	ic_list_algorithms.sort.sort_front.6b876bd148a62f4b
+	bl	ic_list_algorithms.sort.sort_front.26152562f016feb9
 	ldrb	w8, [sp, #32]
 	ldr	x21, [sp, #24]
 	cmp	w8, #1
@@ -1631,14 +1631,14 @@ ic_list_algorithms.sort.sort_front.6b876bd148a62f4b:
 	mov	x1, x22
 	mov	x2, x23
 	mov	x4, x20
-	bl	ic_list_algorithms.sort.sort_front.6b876bd148a62f4b
+	bl	ic_list_algorithms.sort.sort_front.26152562f016feb9
 	ldr	x3, [sp]
 	ldrb	w20, [sp, #8]
 	mov	x0, x22
 	ldr	x24, [sp, #16]
 	mov	x1, x23
 	mov	x2, x21
-	bl	ic_list_algorithms.merge.merge_runs.6b876bd148a62f4b
+	bl	ic_list_algorithms.merge.merge_runs.26152562f016feb9
 	stp	x0, x20, [x19]
 	str	x24, [x19, #16]
 	.cfi_def_cfa wsp, 112
@@ -1682,7 +1682,7 @@ ic_list_algorithms.sort.sort_front.6b876bd148a62f4b:
 	.cfi_restore w29
 	ret
 .Lfunc_end17:
-	.size	ic_list_algorithms.sort.sort_front.6b876bd148a62f4b, .Lfunc_end17-ic_list_algorithms.sort.sort_front.6b876bd148a62f4b
+	.size	ic_list_algorithms.sort.sort_front.26152562f016feb9, .Lfunc_end17-ic_list_algorithms.sort.sort_front.26152562f016feb9
 	.cfi_endproc
 	.section	.text.unlikely.ic_ffi.move_calls.move_any,"ax",@progbits
 	.p2align	2
@@ -5424,7 +5424,7 @@ ic_list_merge:
 	mov	x3, x8
 	mov	x20, x4
 	mov	x21, x5
-	bl	ic_list_algorithms.merge.merge_runs.6b876bd148a62f4b
+	bl	ic_list_algorithms.merge.merge_runs.26152562f016feb9
 	add	x9, x19, x0, lsl #1
 	mov	x2, x0
 	mov	x5, x21
@@ -5651,14 +5651,14 @@ ic_list_sort:
 	add	x2, sp, #24
 	mov	x3, x20
 	mov	x4, x21
-	bl	ic_list_algorithms.sort.sort_front.6b876bd148a62f4b
+	bl	ic_list_algorithms.sort.sort_front.26152562f016feb9
 	ldur	x3, [x29, #-24]
 	ldurb	w23, [x29, #-16]
 	add	x0, sp, #8
 	ldur	x20, [x29, #-8]
 	add	x1, sp, #24
 	mov	x2, x19
-	bl	ic_list_algorithms.merge.merge_runs.6b876bd148a62f4b
+	bl	ic_list_algorithms.merge.merge_runs.26152562f016feb9
 	mov	x19, x0
 	cmp	w23, #1
 	add	x21, x21, #1

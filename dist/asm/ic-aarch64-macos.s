@@ -1370,7 +1370,7 @@ _ic_ffi.sort_calls.refusal:
 	ret
 	.cfi_endproc
 	.p2align	2
-_ic_list_algorithms.merge.merge_runs.6b876bd148a62f4b:
+_ic_list_algorithms.merge.merge_runs.26152562f016feb9:
 	.cfi_startproc
 	ldr	x9, [x1]
 	ldr	x8, [x0]
@@ -1446,7 +1446,7 @@ LBB16_11:
 	ret
 	.cfi_endproc
 	.p2align	2
-_ic_list_algorithms.sort.sort_front.6b876bd148a62f4b:
+_ic_list_algorithms.sort.sort_front.26152562f016feb9:
 	.cfi_startproc
 	sub	sp, sp, #112
 	.cfi_def_cfa_offset 112
@@ -1487,7 +1487,7 @@ _ic_list_algorithms.sort.sort_front.6b876bd148a62f4b:
 	mov	w10, #1
 	cset	w21, ne
 	stur	x10, [x9, #-16]
-	bl	_ic_list_algorithms.merge.merge_runs.6b876bd148a62f4b
+	bl	_ic_list_algorithms.merge.merge_runs.26152562f016feb9
 	stp	x0, x21, [x19]
 	str	x20, [x19, #16]
 	b	LBB17_7
@@ -1507,7 +1507,7 @@ LBB17_5:
 	mov	x4, x20
 	mov	x22, x1
 	mov	x23, x2
-	bl	_ic_list_algorithms.sort.sort_front.6b876bd148a62f4b
+	bl	_ic_list_algorithms.sort.sort_front.26152562f016feb9
 	ldrb	w8, [sp, #32]
 	ldr	x21, [sp, #24]
 	cmp	w8, #1
@@ -1517,14 +1517,14 @@ LBB17_5:
 	mov	x1, x22
 	mov	x2, x23
 	mov	x4, x20
-	bl	_ic_list_algorithms.sort.sort_front.6b876bd148a62f4b
+	bl	_ic_list_algorithms.sort.sort_front.26152562f016feb9
 	ldr	x3, [sp]
 	ldrb	w20, [sp, #8]
 	mov	x0, x22
 	ldr	x24, [sp, #16]
 	mov	x1, x23
 	mov	x2, x21
-	bl	_ic_list_algorithms.merge.merge_runs.6b876bd148a62f4b
+	bl	_ic_list_algorithms.merge.merge_runs.26152562f016feb9
 	stp	x0, x20, [x19]
 	str	x24, [x19, #16]
 LBB17_7:
@@ -5050,7 +5050,7 @@ LBB62_12:
 	mov	x3, x8
 	mov	x20, x4
 	mov	x21, x5
-	bl	_ic_list_algorithms.merge.merge_runs.6b876bd148a62f4b
+	bl	_ic_list_algorithms.merge.merge_runs.26152562f016feb9
 	add	x9, x19, x0, lsl #1
 	mov	x2, x0
 	mov	x5, x21
@@ -5270,14 +5270,14 @@ LBB64_11:
 	add	x2, sp, #24
 	mov	x3, x20
 	mov	x4, x21
-	bl	_ic_list_algorithms.sort.sort_front.6b876bd148a62f4b
+	bl	_ic_list_algorithms.sort.sort_front.26152562f016feb9
 	ldr	x3, [sp, #40]
 	ldrb	w23, [sp, #48]
 	add	x0, sp, #8
 	ldr	x20, [sp, #56]
 	add	x1, sp, #24
 	mov	x2, x19
-	bl	_ic_list_algorithms.merge.merge_runs.6b876bd148a62f4b
+	bl	_ic_list_algorithms.merge.merge_runs.26152562f016feb9
 	mov	x19, x0
 	cmp	w23, #1
 	add	x21, x21, #1

@@ -1478,10 +1478,10 @@ ic_ffi.sort_calls.refusal:
 .Lfunc_end15:
 	.size	ic_ffi.sort_calls.refusal, .Lfunc_end15-ic_ffi.sort_calls.refusal
 	.cfi_endproc
-	.section	.text.ic_list_algorithms.merge.merge_runs.6b876bd148a62f4b,"ax",@progbits
+	.section	.text.ic_list_algorithms.merge.merge_runs.26152562f016feb9,"ax",@progbits
 	.p2align	4
-	.type	ic_list_algorithms.merge.merge_runs.6b876bd148a62f4b,@function
-ic_list_algorithms.merge.merge_runs.6b876bd148a62f4b:
+	.type	ic_list_algorithms.merge.merge_runs.26152562f016feb9,@function
+ic_list_algorithms.merge.merge_runs.26152562f016feb9:
 	.cfi_startproc
 	pushq	%rbx
 	.cfi_def_cfa_offset 16
@@ -1561,12 +1561,12 @@ ic_list_algorithms.merge.merge_runs.6b876bd148a62f4b:
 	.cfi_def_cfa_offset 8
 	retq
 .Lfunc_end16:
-	.size	ic_list_algorithms.merge.merge_runs.6b876bd148a62f4b, .Lfunc_end16-ic_list_algorithms.merge.merge_runs.6b876bd148a62f4b
+	.size	ic_list_algorithms.merge.merge_runs.26152562f016feb9, .Lfunc_end16-ic_list_algorithms.merge.merge_runs.26152562f016feb9
 	.cfi_endproc
-	.section	.text.ic_list_algorithms.sort.sort_front.6b876bd148a62f4b,"ax",@progbits
+	.section	.text.ic_list_algorithms.sort.sort_front.26152562f016feb9,"ax",@progbits
 	.p2align	4
-	.type	ic_list_algorithms.sort.sort_front.6b876bd148a62f4b,@function
-ic_list_algorithms.sort.sort_front.6b876bd148a62f4b:
+	.type	ic_list_algorithms.sort.sort_front.26152562f016feb9,@function
+ic_list_algorithms.sort.sort_front.26152562f016feb9:
 	.cfi_startproc
 	pushq	%rbp
 	.cfi_def_cfa_offset 16
@@ -1608,7 +1608,7 @@ ic_list_algorithms.sort.sort_front.6b876bd148a62f4b:
 	movq	%rdx, %rsi
 	movq	%rcx, %rdx
 	movq	%rax, %rcx
-	callq	ic_list_algorithms.merge.merge_runs.6b876bd148a62f4b
+	callq	ic_list_algorithms.merge.merge_runs.26152562f016feb9
 	movq	%rax, (%rbx)
 	movq	%r15, 8(%rbx)
 	movq	%r14, 16(%rbx)
@@ -1630,7 +1630,7 @@ ic_list_algorithms.sort.sort_front.6b876bd148a62f4b:
 	movq	%rsi, %r12
 	movq	%rdx, %r13
 	movq	%r8, %r15
-	callq	ic_list_algorithms.sort.sort_front.6b876bd148a62f4b
+	callq	ic_list_algorithms.sort.sort_front.26152562f016feb9
 	movq	32(%rsp), %r14
 	cmpb	$1, 40(%rsp)
 	jne	.LBB17_9
@@ -1639,14 +1639,14 @@ ic_list_algorithms.sort.sort_front.6b876bd148a62f4b:
 	movq	%r12, %rsi
 	movq	%r13, %rdx
 	movq	%r15, %r8
-	callq	ic_list_algorithms.sort.sort_front.6b876bd148a62f4b
+	callq	ic_list_algorithms.sort.sort_front.26152562f016feb9
 	movzbl	16(%rsp), %r15d
 	movq	8(%rsp), %rcx
 	movq	24(%rsp), %rbp
 	movq	%r12, %rdi
 	movq	%r13, %rsi
 	movq	%r14, %rdx
-	callq	ic_list_algorithms.merge.merge_runs.6b876bd148a62f4b
+	callq	ic_list_algorithms.merge.merge_runs.26152562f016feb9
 	movq	%rax, (%rbx)
 	movq	%r15, 8(%rbx)
 	movq	%rbp, 16(%rbx)
@@ -1676,7 +1676,7 @@ ic_list_algorithms.sort.sort_front.6b876bd148a62f4b:
 	.cfi_def_cfa_offset 8
 	retq
 .Lfunc_end17:
-	.size	ic_list_algorithms.sort.sort_front.6b876bd148a62f4b, .Lfunc_end17-ic_list_algorithms.sort.sort_front.6b876bd148a62f4b
+	.size	ic_list_algorithms.sort.sort_front.26152562f016feb9, .Lfunc_end17-ic_list_algorithms.sort.sort_front.26152562f016feb9
 	.cfi_endproc
 	.section	.text.unlikely.ic_ffi.move_calls.move_any,"ax",@progbits
 	.p2align	4
@@ -6502,7 +6502,7 @@ ic_list_merge:
 	leaq	24(%rsp), %rsi
 	movq	%rax, %rdx
 	movq	%r10, %rcx
-	callq	ic_list_algorithms.merge.merge_runs.6b876bd148a62f4b
+	callq	ic_list_algorithms.merge.merge_runs.26152562f016feb9
 	movq	$0, -8(%rbx,%rax,2)
 	movq	-16(%rbx,%rax,2), %rcx
 	movq	%rax, %rdx
@@ -6799,14 +6799,14 @@ ic_list_sort:
 	movq	%r13, %rdx
 	movq	%r14, %rcx
 	movq	%r15, %r8
-	callq	ic_list_algorithms.sort.sort_front.6b876bd148a62f4b
+	callq	ic_list_algorithms.sort.sort_front.26152562f016feb9
 	movq	48(%rsp), %rcx
 	movzbl	56(%rsp), %ebp
 	movq	64(%rsp), %r14
 	movq	%r12, %rdi
 	movq	%r13, %rsi
 	movq	%rbx, %rdx
-	callq	ic_list_algorithms.merge.merge_runs.6b876bd148a62f4b
+	callq	ic_list_algorithms.merge.merge_runs.26152562f016feb9
 	movq	%rax, %rbx
 	incq	%r15
 	cmpb	$1, %bpl

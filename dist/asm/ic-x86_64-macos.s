@@ -1374,7 +1374,7 @@ _ic_ffi.sort_calls.refusal:
 	retq
 	.cfi_endproc
 	.p2align	4
-_ic_list_algorithms.merge.merge_runs.6b876bd148a62f4b:
+_ic_list_algorithms.merge.merge_runs.26152562f016feb9:
 	.cfi_startproc
 	pushq	%rbx
 	.cfi_def_cfa_offset 16
@@ -1452,7 +1452,7 @@ LBB16_10:
 	retq
 	.cfi_endproc
 	.p2align	4
-_ic_list_algorithms.sort.sort_front.6b876bd148a62f4b:
+_ic_list_algorithms.sort.sort_front.26152562f016feb9:
 	.cfi_startproc
 	pushq	%rbp
 	.cfi_def_cfa_offset 16
@@ -1494,7 +1494,7 @@ _ic_list_algorithms.sort.sort_front.6b876bd148a62f4b:
 	movq	%rdx, %rsi
 	movq	%rcx, %rdx
 	movq	%rax, %rcx
-	callq	_ic_list_algorithms.merge.merge_runs.6b876bd148a62f4b
+	callq	_ic_list_algorithms.merge.merge_runs.26152562f016feb9
 	movq	%rax, (%rbx)
 	movq	%r15, 8(%rbx)
 	movq	%r14, 16(%rbx)
@@ -1516,7 +1516,7 @@ LBB17_7:
 	movq	%rsi, %r12
 	movq	%rdx, %r13
 	movq	%r8, %r15
-	callq	_ic_list_algorithms.sort.sort_front.6b876bd148a62f4b
+	callq	_ic_list_algorithms.sort.sort_front.26152562f016feb9
 	movq	32(%rsp), %r14
 	cmpb	$1, 40(%rsp)
 	jne	LBB17_9
@@ -1525,14 +1525,14 @@ LBB17_7:
 	movq	%r12, %rsi
 	movq	%r13, %rdx
 	movq	%r15, %r8
-	callq	_ic_list_algorithms.sort.sort_front.6b876bd148a62f4b
+	callq	_ic_list_algorithms.sort.sort_front.26152562f016feb9
 	movzbl	16(%rsp), %r15d
 	movq	8(%rsp), %rcx
 	movq	24(%rsp), %rbp
 	movq	%r12, %rdi
 	movq	%r13, %rsi
 	movq	%r14, %rdx
-	callq	_ic_list_algorithms.merge.merge_runs.6b876bd148a62f4b
+	callq	_ic_list_algorithms.merge.merge_runs.26152562f016feb9
 	movq	%rax, (%rbx)
 	movq	%r15, 8(%rbx)
 	movq	%rbp, 16(%rbx)
@@ -5942,7 +5942,7 @@ LBB62_13:
 	leaq	24(%rsp), %rsi
 	movq	%rax, %rdx
 	movq	%r10, %rcx
-	callq	_ic_list_algorithms.merge.merge_runs.6b876bd148a62f4b
+	callq	_ic_list_algorithms.merge.merge_runs.26152562f016feb9
 	movq	$0, -8(%rbx,%rax,2)
 	movq	-16(%rbx,%rax,2), %rcx
 	movq	%rax, %rdx
@@ -6203,14 +6203,14 @@ LBB64_15:
 	movq	%r13, %rdx
 	movq	%r14, %rcx
 	movq	%r15, %r8
-	callq	_ic_list_algorithms.sort.sort_front.6b876bd148a62f4b
+	callq	_ic_list_algorithms.sort.sort_front.26152562f016feb9
 	movq	48(%rsp), %rcx
 	movzbl	56(%rsp), %ebp
 	movq	64(%rsp), %r14
 	movq	%r12, %rdi
 	movq	%r13, %rsi
 	movq	%rbx, %rdx
-	callq	_ic_list_algorithms.merge.merge_runs.6b876bd148a62f4b
+	callq	_ic_list_algorithms.merge.merge_runs.26152562f016feb9
 	movq	%rax, %rbx
 	incq	%r15
 	cmpb	$1, %bpl

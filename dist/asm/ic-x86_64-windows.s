@@ -1376,12 +1376,12 @@ ic_ffi.sort_calls.refusal:
 	setae	%al
 	leal	1(,%rax,4), %eax
 	retq
-	.def	ic_list_algorithms.merge.merge_runs.6b876bd148a62f4b;
+	.def	ic_list_algorithms.merge.merge_runs.26152562f016feb9;
 	.scl	3;
 	.type	32;
 	.endef
 	.p2align	4
-ic_list_algorithms.merge.merge_runs.6b876bd148a62f4b:
+ic_list_algorithms.merge.merge_runs.26152562f016feb9:
 	pushq	%rsi
 	pushq	%rdi
 	pushq	%rbx
@@ -1460,12 +1460,12 @@ ic_list_algorithms.merge.merge_runs.6b876bd148a62f4b:
 	popq	%rdi
 	popq	%rsi
 	retq
-	.def	ic_list_algorithms.sort.sort_front.6b876bd148a62f4b;
+	.def	ic_list_algorithms.sort.sort_front.26152562f016feb9;
 	.scl	3;
 	.type	32;
 	.endef
 	.p2align	4
-ic_list_algorithms.sort.sort_front.6b876bd148a62f4b:
+ic_list_algorithms.sort.sort_front.26152562f016feb9:
 	pushq	%r15
 	pushq	%r14
 	pushq	%r12
@@ -1494,7 +1494,7 @@ ic_list_algorithms.sort.sort_front.6b876bd148a62f4b:
 	movq	%r8, %rdx
 	movq	%r9, %r8
 	movq	%rax, %r9
-	callq	ic_list_algorithms.merge.merge_runs.6b876bd148a62f4b
+	callq	ic_list_algorithms.merge.merge_runs.26152562f016feb9
 	movq	%rax, (%rsi)
 	movq	%rbx, 8(%rsi)
 	movq	%rdi, 16(%rsi)
@@ -1516,7 +1516,7 @@ ic_list_algorithms.sort.sort_front.6b876bd148a62f4b:
 	leaq	64(%rsp), %rcx
 	movq	%rdx, %r15
 	movq	%r8, %r14
-	callq	ic_list_algorithms.sort.sort_front.6b876bd148a62f4b
+	callq	ic_list_algorithms.sort.sort_front.26152562f016feb9
 	movq	64(%rsp), %rdi
 	cmpb	$1, 72(%rsp)
 	jne	.LBB17_9
@@ -1526,14 +1526,14 @@ ic_list_algorithms.sort.sort_front.6b876bd148a62f4b:
 	movq	%r15, %rbx
 	movq	%r15, %rdx
 	movq	%r14, %r8
-	callq	ic_list_algorithms.sort.sort_front.6b876bd148a62f4b
+	callq	ic_list_algorithms.sort.sort_front.26152562f016feb9
 	movzbl	48(%rsp), %r15d
 	movq	40(%rsp), %r9
 	movq	56(%rsp), %r12
 	movq	%rbx, %rcx
 	movq	%r14, %rdx
 	movq	%rdi, %r8
-	callq	ic_list_algorithms.merge.merge_runs.6b876bd148a62f4b
+	callq	ic_list_algorithms.merge.merge_runs.26152562f016feb9
 	movq	%rax, (%rsi)
 	movq	%r15, 8(%rsi)
 	movq	%r12, 16(%rsi)
@@ -5967,7 +5967,7 @@ ic_list_merge:
 	leaq	56(%rsp), %rdx
 	movq	%rax, %r8
 	movq	%r10, %r9
-	callq	ic_list_algorithms.merge.merge_runs.6b876bd148a62f4b
+	callq	ic_list_algorithms.merge.merge_runs.26152562f016feb9
 	movq	$0, -8(%rbx,%rax,2)
 	movq	-16(%rbx,%rax,2), %rdx
 	movq	%rax, %rcx
@@ -6220,14 +6220,14 @@ ic_list_sort:
 	movq	%rbx, %rdx
 	movq	%r14, %r8
 	movq	%rdi, %r9
-	callq	ic_list_algorithms.sort.sort_front.6b876bd148a62f4b
+	callq	ic_list_algorithms.sort.sort_front.26152562f016feb9
 	movq	80(%rsp), %r9
 	movzbl	88(%rsp), %ebp
 	movq	96(%rsp), %rdi
 	movq	%rbx, %rcx
 	movq	%r14, %rdx
 	movq	%rsi, %r8
-	callq	ic_list_algorithms.merge.merge_runs.6b876bd148a62f4b
+	callq	ic_list_algorithms.merge.merge_runs.26152562f016feb9
 	movq	%rax, %rsi
 	incq	%r13
 	cmpb	$1, %bpl
