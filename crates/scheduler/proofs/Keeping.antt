@@ -1,8 +1,8 @@
 -- What a scheduler keeps over each of its calls, and what that says of its schedule.
-use Rattle.std.proofs.Common.{◌≡◌, ◌≢◌, ℕ, ◌≤◌, ◌<◌, ◌^◌, true, false, leb, Option, Some, None, is_some, Result, Ok, Err, OnOk, OnErr, ◌↔◌, List, [], ◌∷◌, ◌++◌, length, map, drop, filter, inl, inr, refl, sym, ap, ◌∙◌, subst, arith, append-nil, slice_index_or, true≢false}
+use Rattle.std.proofs.Common.{◌≡◌, ◌≢◌, ℕ, ◌≤◌, ◌<◌, ◌^◌, true, false, leb, Option, Some, None, is_some, Result, Ok, Err, OnOk, OnErr, ◌↔◌, List, [], ◌∷◌, ◌++◌, length, map, drop, filter, refl, sym, ap, ◌∙◌, subst, arith, append-nil, slice_index_or, true≢false}
 use Rattle.std.proofs.Math.ListN.{get_or-map}
 use Rattle.std.proofs.lemmas.Bool.{lt-leb}
-use Rattle.std.proofs.lemmas.Bool.Decides.{eqb_tells, leb_tells}
+use Rattle.std.proofs.lemmas.Bool.Decides.{nat_tests}
 use Rattle.std.proofs.lemmas.Cmp.{nat_cmp_total}
 use Rattle.std.specs.List.{AllByRecursion}
 use Rattle.std.specs.Ordering.{nat_cmp}
@@ -10,49 +10,51 @@ use Rattle.ic_unsafe_ref.specs.declared.place.Place.{Place}
 use Rattle.ic_unsafe_ref.specs.Objects.{Objects, Places, Frees, object_at, is_placed}
 use Rattle.ic_unsafe_ref.proofs.Placing.{others_placed, gone_there, others_left}
 use Rattle.ic_link_ops.specs.Chains.{Ends, no_members}
-use Rattle.ic_link_ops.specs.DoublyEntries as lists
 use Rattle.ic_link_ops.specs.NumberedCollections.{with_at}
 use Rattle.ic_link_ops.specs.PlacedObjects.{values_at}
-use Rattle.ic_link_ops.specs.Sequences.{at_front, first}
+use Rattle.ic_link_ops.specs.Sequences.{at_front, first, IsAbsent, IsMember, IsDisjoint}
 use Rattle.ic_link_ops.specs.Edits.{Removes}
 use Rattle.ic_link_ops.specs.Tables.{IsLinked, IsUnlinked, KeepsBeside, LinksAlso, Unlinks}
 use Rattle.ic_link_ops.proofs.Calling.{accepted}
 use Rattle.ic_link_ops.proofs.CollectionLaws.{new_shows_nothing, kept_shown}
 use Rattle.ic_link_ops.proofs.Covering.{still_covered}
-use Rattle.ic_link_ops.proofs.DoublyLists as doubly
 use Rattle.ic_link_ops.proofs.LinkedSets.{everywhere}
-use Rattle.ic_link_ops.proofs.NumberedCollections.{at_number, at_others, numbered_none, numbered_covered, numbered_beside, numbered_pushed, numbered_first, numbered_own, numbered_taken}
+use Rattle.ic_link_ops.proofs.NumberedCollections.{at_number, at_others, numbered_none, numbered_covered, numbered_beside, numbered_pushed, numbered_first, numbered_own, numbered_taken, numbered_apart, numbered_free}
 use Rattle.ic_link_ops.proofs.PlacedValues.{few_values}
 use Rattle.ic_link_ops.proofs.SequenceLemmas.{nothing_first}
-use Rattle.ic_link_ops.proofs.TwoFields.{once_covered, once_placed, once_moved, once_taken, unlinked_first, unlinked_vacant}
-use Rattle.ic_link_ops.proofs.Each.{all_map}
+use Rattle.ic_link_ops.proofs.TwoFields.{once_covered, once_placed, once_moved, once_taken, unlinked_first, unlinked_vacant, unlinked_second}
 use Rattle.ic_pool.specs.Pooled.{Grows}
 use Rattle.ic_container.proofs.HoldsLemmas.{list_off}
 use Rattle.ic_container.proofs.TreeLemmas.{tree_off}
 use Rattle.ic_rbtree.specs.Borders.{IsSorted, if_passes}
 use Rattle.ic_rbtree.specs.Ordered.{InsertsInOrder}
-use Rattle.ic_rbtree.specs.PlainTrees as trees
 use Rattle.ic_rbtree.specs.SortedObjects.{against, key_at, ShowsSorted}
 use Rattle.ic_rbtree.specs.SortedValues.{HasSorted}
 use Rattle.ic_rbtree.proofs.Passing.{passed}
 use Rattle.ic_rbtree.proofs.PlainTrees.{plain_members, plain_trees}
+use Rattle.ic_rbtree.proofs.SortedKeys.{keys_are}
 use Rattle.ic_rbtree.proofs.SortedValues.{has_none, has_covered, has_beside, has_inserted, has_first, has_first_taken}
 use Rattle.scheduler.specs.declared.task.Task.{Task}
-use Rattle.scheduler.specs.Timers as timers
-use Rattle.scheduler.proofs.KeptValues.{in_order, values_wait}
+use Rattle.scheduler.proofs.TimersDue.{values_wait}
 use Rattle.scheduler.specs.Kept.{deadline_of, list_at, schedule_of, HasRoom, IsKept}
-use Rattle.scheduler.specs.Schedule.{queue_at, places_at, IsByDeadline, is_due, is_for, task_of, IsEmpty, IsUnchanged, Adds, TakesFront, MovesFirst}
-use Rattle.scheduler.proofs.ByDeadline.{by_deadline_with}
+use Rattle.scheduler.specs.Schedule.{queue_at, places_at, IsByDeadline, is_due, is_for, task_of, IsEmpty, IsUnchanged, Adds, TakesFront, MovesFirst, IsOnceEach}
+use Rattle.scheduler.proofs.Ticking.{by_deadline_with}
+use Rattle.ic_container.proofs.ValueLemmas.{as_many}
+use Rattle.ic_link_ops.specs.DoublyEntries as lists
+use Rattle.ic_link_ops.proofs.DoublyLists as doubly
+use Rattle.ic_rbtree.specs.PlainTrees as trees
+use Rattle.scheduler.specs.Timers as timers
 
 -- where a task was placed, there was a place left
 pub some_left : {X E : Type 0} {x : X} {e : E} (next : ℕ) → ((let r : Result X E = Ok x in r ≡ Err e) ↔ (2 ^ 32 ≤ next)) → next < 2 ^ 32
-some_left {X} {E} {x} {e} next full = elim (leb_tells (2 ^ 32) next) [ inl h ↦ let never : (let r : Result X E = Ok x in r ≡ Err e) = full.1 h.1 in absurd (cc) | inr h ↦ omega (arith, h.1) ]
+some_left next full = grind (arith, full.1)
 
 -- TASKS IN ORDER are as a call of the tree asks
-sorted_values : {V A : Type 0} {objects : Objects (Task V)} (w : trees.TreeLinkOps A) {root : Option Place} {tasks : List (Task V)}
+pub sorted_values : {V A : Type 0} {objects : Objects (Task V)} (w : trees.TreeLinkOps A) {root : Option Place} {tasks : List (Task V)}
     → HasSorted nat_cmp deadline_of trees.ShowsTree trees.is_linked (trees.plain_table w) root objects tasks → ShowsSorted deadline_of (trees.PlainShows w root) objects
 sorted_values {objects = objects} w has =
-    in_order deadline_of objects has.members has.shown has.stand.placed (subst (λ (l : List (Task _)). IsSorted nat_cmp (map deadline_of l)) (sym has.stand.are) has.sorted)
+    let sorted = keys_are deadline_of objects has.members has.stand.placed ∙ ap (map deadline_of) has.stand.are in
+    record { placed = record { members = has.members; shown = has.shown; placed = has.stand.placed }; sorted = subst (IsSorted nat_cmp) (sym sorted) has.sorted }
 
 module _ {V A B : Type 0} where
   module _ {objects : Objects (Task V)} {w : trees.TreeLinkOps A} {root : Option Place} {q : lists.DoublyLinkOps B} {ends : List Ends} (k : IsKept objects w root q ends) where
@@ -60,63 +62,25 @@ module _ {V A B : Type 0} where
     pub waiting_is : (schedule_of objects w root q ends).waiting ≡ k.waiting
     waiting_is = ap (values_at objects) (plain_members w k.sorted.shown) ∙ k.sorted.stand.are
 
+    listed_is : {X : Type 0} (of : List Place → List X) → of [] ≡ [] → (i : ℕ) → slice_index_or (map (λ list. of (lists.members_of q list)) ends) i [] ≡ of (k.numbered.members i)
+    listed_is of none i =
+        let nothing = ap of (doubly.plain_members q (new_shows_nothing doubly.plain_lists (lists.plain_table q))) ∙ none in
+        ap (λ d. slice_index_or (map (λ list. of (lists.members_of q list)) ends) i d) (sym nothing) ∙ get_or-map (λ list. of (lists.members_of q list)) ends i no_members
+        ∙ ap of (doubly.plain_members q (k.numbered.each i).shown)
+
     pub queue_is : (i : ℕ) → queue_at (schedule_of objects w root q ends) i ≡ k.queued i
-    queue_is i =
-        let f : Ends → List (Task V) = λ list. values_at objects (lists.members_of q list) in
-        let nothing : f no_members ≡ [] = ap (values_at objects) (doubly.plain_members q (new_shows_nothing doubly.plain_lists (lists.plain_table q))) in
-        ap (λ d. slice_index_or (map f ends) i d) (sym nothing) ∙ get_or-map f ends i no_members
-        ∙ ap (values_at objects) (doubly.plain_members q (k.numbered.each i).shown) ∙ (k.numbered.each i).stand.are
+    queue_is i = listed_is (values_at objects) refl i ∙ (k.numbered.each i).stand.are
 
     -- and so are the places
     pub waiting_at_is : (schedule_of objects w root q ends).waiting_at ≡ k.sorted.members
     waiting_at_is = plain_members w k.sorted.shown
 
     pub places_are : (i : ℕ) → places_at (schedule_of objects w root q ends) i ≡ k.numbered.members i
-    places_are i =
-        let f : Ends → List Place = λ list. lists.members_of q list in
-        let nothing : f no_members ≡ [] = doubly.plain_members q (new_shows_nothing doubly.plain_lists (lists.plain_table q)) in
-        ap (λ d. slice_index_or (map f ends) i d) (sym nothing) ∙ get_or-map f ends i no_members ∙ doubly.plain_members q (k.numbered.each i).shown
+    places_are = listed_is (λ s. s) refl
 
     -- FEWER WAIT than there are numbers of them
     pub few_wait : length (schedule_of objects w root q ends).waiting ≤ 8589934591
     few_wait = omega (arith, ap length waiting_is, few_values k.sorted.stand (plain_trees.distinct (trees.plain_table w) root k.sorted.members k.sorted.shown))
-
-  -- NOTHING CHANGES where the same is kept
-  unchanged : {objects : Objects (Task V)} {w v : trees.TreeLinkOps A} {root top : Option Place} {q r : lists.DoublyLinkOps B} {ends ends' : List Ends} (k : IsKept objects w root q ends) (l : IsKept objects v top r ends')
-      → l.waiting ≡ k.waiting → ((i : ℕ) → l.queued i ≡ k.queued i) → l.sorted.members ≡ k.sorted.members → ((i : ℕ) → l.numbered.members i ≡ k.numbered.members i)
-      → IsUnchanged (schedule_of objects w root q ends) (schedule_of objects v top r ends')
-  unchanged k l waiting queued members listed = record {
-    waiting = waiting_is l ∙ waiting ∙ sym (waiting_is k);
-    queues = λ i. queue_is l i ∙ queued i ∙ sym (queue_is k i);
-    is_full = refl;
-    waiting_at = waiting_at_is l ∙ members ∙ sym (waiting_at_is k);
-    queued_at = λ i. places_are l i ∙ listed i ∙ sym (places_are k i);
-  }
-
-  module _ {objects : Objects (Task V)} {w : trees.TreeLinkOps A} {root : Option Place} {q : lists.DoublyLinkOps B} {ends : List Ends} (k : IsKept objects w root q ends) where
-    pub same_kept : IsUnchanged (schedule_of objects w root q ends) (schedule_of objects w root q ends)
-    same_kept = unchanged k k refl (λ i. refl) refl (λ i. refl)
-
-    -- those that wait stand for themselves
-    pub own_order : IsByDeadline (schedule_of objects w root q ends).waiting (schedule_of objects w root q ends).waiting
-    own_order = record { rises = subst (λ (l : List (Task V)). IsSorted nat_cmp (map deadline_of l)) (sym (waiting_is k)) k.sorted.sorted; alike = λ d. refl }
-
-    pub queue_empty : (i : ℕ) → None ≡ first (k.numbered.members i) → queue_at (schedule_of objects w root q ends) i ≡ []
-    queue_empty i none = queue_is k i ∙ sym (k.numbered.each i).stand.are ∙ ap (values_at objects) (nothing_first (k.numbered.members i) none)
-
-    -- the first of the tree, where it is due
-    pub first_due : (now : ℕ) {p : Place} → ((s : List Place) → trees.PlainShows w root s → Some p ≡ if_passes (timers.is_due deadline_of objects now) (first s)) → (Some p ≡ first k.sorted.members) × (timers.is_due deadline_of objects now p ≡ true)
-    first_due now {p} due = passed (timers.is_due deadline_of objects now) (first k.sorted.members) p (due k.sorted.members k.sorted.shown)
-
-    -- where it is not, none is
-    pub nothing_due : (now : ℕ) → AllByRecursion (λ p. now < key_at deadline_of objects p) k.sorted.members → AllByRecursion (λ (x : Task V). is_due now x ≡ false) (schedule_of objects w root q ends).waiting
-    nothing_due now wait =
-        subst (AllByRecursion (λ (x : Task V). is_due now x ≡ false)) (k.sorted.stand.are ∙ sym (waiting_is k))
-        (all_map (λ (x : Task V) later. lt-leb x.deadline now later) _ (values_wait deadline_of objects now k.sorted.members wait))
-
-    -- the tree is in order, as its calls ask
-    pub sorted : ShowsSorted deadline_of (trees.PlainShows w root) objects
-    sorted = sorted_values w k.sorted
 
   -- AT FIRST
   module _ (objects : Objects (Task V)) (w : trees.TreeLinkOps A) (root : Option Place) (q : lists.DoublyLinkOps B) (ends : List Ends) (vacant : (p : Place) → object_at objects p ≡ None) (next : objects.next ≡ 0)
@@ -136,11 +100,21 @@ module _ {V A B : Type 0} where
     none_wait = record { waiting = waiting_is kept_none; queues = queue_is kept_none; is_full = ap (leb (2 ^ 32)) next }
 
   module _ {objects : Objects (Task V)} {w : trees.TreeLinkOps A} {root : Option Place} {q : lists.DoublyLinkOps B} {ends : List Ends} (k : IsKept objects w root q ends) where
+    pub queue_empty : (i : ℕ) → None ≡ first (k.numbered.members i) → queue_at (schedule_of objects w root q ends) i ≡ []
+    queue_empty i none = queue_is k i ∙ sym (k.numbered.each i).stand.are ∙ ap (values_at objects) (nothing_first (k.numbered.members i) none)
+
+    -- the first of the tree, where it is due
+    pub first_due : (now : ℕ) {p : Place} → ((s : List Place) → trees.PlainShows w root s → Some p ≡ if_passes (timers.is_due deadline_of objects now) (first s)) → (Some p ≡ first k.sorted.members) × (timers.is_due deadline_of objects now p ≡ true)
+    first_due now {p} due = passed (timers.is_due deadline_of objects now) (first k.sorted.members) p (due k.sorted.members k.sorted.shown)
+
+    -- where it is not, none is
+    pub nothing_due : (now : ℕ) → ((s : List Place) → trees.PlainShows w root s → AllByRecursion (λ p. now < key_at deadline_of objects p) s)
+        → AllByRecursion (λ (x : Task V). is_due now x ≡ false) (schedule_of objects w root q ends).waiting
+    nothing_due now wait =
+        subst (AllByRecursion (λ (x : Task V). is_due now x ≡ false)) (k.sorted.stand.are ∙ sym (waiting_is k)) (values_wait deadline_of objects now k.sorted.members (wait _ k.sorted.shown))
+
     -- AFTER `place`, whatever it answered
     module _ (v : trees.TreeLinkOps A) (r : lists.DoublyLinkOps B) (grows_w : Grows (trees.plain_table w) (trees.plain_table v)) (grows_q : Grows (lists.plain_table q) (lists.plain_table r)) where
-      more_room : (p : Place) → HasRoom q p → HasRoom r p
-      more_room p room = (grows_q.covered p room.0, room.1)
-
       pub kept_grown : IsKept objects v root r ends
       kept_grown = record {
         waiting = k.waiting;
@@ -148,15 +122,19 @@ module _ {V A B : Type 0} where
         sorted = has_covered plain_trees nat_cmp_total k.sorted grows_w.entries;
         numbered = numbered_covered doubly.plain_lists k.numbered grows_q.entries;
         once = once_covered k.once grows_w.entries grows_q.entries;
-        room = λ p placed. more_room p (k.room p placed);
+        room = λ p placed. let old = k.room p placed in (grows_q.covered p old.0, old.1);
       }
 
       pub same_grown : IsUnchanged (schedule_of objects w root q ends) (schedule_of objects v root r ends)
       unfolding kept_grown
-      same_grown =
-          unchanged k kept_grown refl (λ i. refl)
-          (sym (plain_members v kept_grown.sorted.shown) ∙ plain_members v (kept_shown plain_trees grows_w.entries k.sorted.shown))
-          (λ i. sym (doubly.plain_members r (kept_grown.numbered.each i).shown) ∙ doubly.plain_members r (kept_shown doubly.plain_lists grows_q.entries (k.numbered.each i).shown))
+      same_grown = record {
+        waiting = waiting_is kept_grown ∙ sym (waiting_is k);
+        queues = λ i. queue_is kept_grown i ∙ sym (queue_is k i);
+        is_full = refl;
+        waiting_at = plain_members v (kept_shown plain_trees grows_w.entries k.sorted.shown) ∙ sym (waiting_at_is k);
+        queued_at = λ i. places_are kept_grown i ∙ sym (doubly.plain_members r (kept_grown.numbered.each i).shown)
+            ∙ doubly.plain_members r (kept_shown doubly.plain_lists grows_q.entries (k.numbered.each i).shown) ∙ sym (places_are k i);
+      }
 
       -- AND OF A NEW TASK
       module _ {new : Objects (Task V)} {p : Place} {task : Task V} (places : Places objects new p task) where
@@ -185,7 +163,7 @@ module _ {V A B : Type 0} where
             sorted = x.2;
             numbered = numbered_beside doubly.plain_lists kept_grown.numbered {new = new} (unlinked_vacant kept_grown.once p places.vacant).1 (others_placed places);
             once = once_placed kept_grown.once places also;
-            room = λ z. everywhere (λ z. is_placed new z ≡ true → HasRoom r z) p z (λ placed. room) (λ n placed. more_room z (k.room z (sym (ap is_some (others_placed places z n)) ∙ placed)));
+            room = λ z. everywhere (λ z. is_placed new z ≡ true → HasRoom r z) p z (λ placed. room) (λ n placed. kept_grown.room z (sym (ap is_some (others_placed places z n)) ∙ placed));
           }
 
           pub adds : Adds task (schedule_of objects w root q ends) (schedule_of new u top r ends)
@@ -221,10 +199,7 @@ module _ {V A B : Type 0} where
         is_full = refl;
       } where
         one_more : (i : ℕ) → with_at k.queued task.queue (k.queued task.queue ++ task ∷ []) i ≡ k.queued i ++ filter (is_for i) (task ∷ [])
-        one_more i = elim (eqb_tells task.queue i) [
-          | inl e ↦ rw e.0 (ap (λ j. k.queued j ++ task ∷ []) e.1)
-          | inr n ↦ rw n.0 (sym (append-nil _))
-        ]
+        one_more i = grind (arith, nat_tests, append-nil)
 
     -- THE FRONT OF A QUEUE is taken out
     module _ {i : ℕ} {p : Place} {found : Task V} (is : Some p ≡ first (k.numbered.members i)) (there : object_at objects p ≡ Some found) (new : Objects (Task V)) (r : lists.DoublyLinkOps B) (after : List Ends)
@@ -251,3 +226,24 @@ module _ {V A B : Type 0} where
         waiting = waiting_is kept_taken ∙ sym (waiting_is k);
         is_full = lt-leb (2 ^ 32) new.next (omega (arith, frees.next, (k.room p (ap is_some there)).1));
       }
+
+all_out : (s t : List Place) → ((p : Place) → IsMember p s → IsAbsent p t) → IsDisjoint s t
+all_out [] t h = tt
+all_out (x ∷ s) t h = (h x (λ out. out.0 refl), all_out s t (λ p there. h p (λ out. there out.1)))
+
+module _ {V A B : Type 0} {objects : Objects (Task V)} {w : trees.TreeLinkOps A} {root : Option Place} {q : lists.DoublyLinkOps B} {ends : List Ends} (k : IsKept objects w root q ends) where
+  -- a member of the tree is linked there, so it is in no list
+  in_no_queue : (i : ℕ) (p : Place) → IsMember p k.sorted.members → IsAbsent p (k.numbered.members i)
+  in_no_queue i p there =
+      let free = λ (f : trees.is_linked ((trees.plain_table w).entry p) ≡ false). there (plain_trees.free (trees.plain_table w) root k.sorted.members p k.sorted.shown f) in
+      let linked : trees.is_linked ((trees.plain_table w).entry p) ≡ true = grind (arith, nat_tests, free) in
+      numbered_free doubly.plain_lists k.numbered (unlinked_second k.once p linked) i
+
+  pub once_each : IsOnceEach (schedule_of objects w root q ends)
+  once_each = record {
+    waiting = rw (waiting_at_is k) (sym (as_many objects k.sorted.members k.sorted.stand.placed), plain_trees.distinct (trees.plain_table w) root k.sorted.members k.sorted.shown);
+    queued = λ i. let e = k.numbered.each i in
+        rw (places_are k i, queue_is k i, ← e.stand.are) (sym (as_many objects (k.numbered.members i) e.stand.placed), doubly.plain_lists.distinct (lists.plain_table q) _ _ e.shown);
+    never_both = λ i. rw (waiting_at_is k, places_are k i) (all_out k.sorted.members (k.numbered.members i) (in_no_queue i));
+    never_two = λ i j apart. rw (places_are k i, places_are k j) (numbered_apart doubly.plain_lists k.numbered i j apart);
+  }

@@ -1,9 +1,4 @@
-pub mod AllDue
-pub mod ByDeadline
-pub mod FrontCursor
 pub mod Keeping
-pub mod KeptValues
-pub mod Moving
-pub mod Once
 pub mod Outcomes
-pub mod TakingDue
+pub mod Ticking
+pub mod TimersDue

@@ -41,6 +41,7 @@ impl<V, A: Allocator> Scheduler<V, A> {
     ghost use Rattle.scheduler.specs.Refusals.{number_of, refusal_number, value_of};
 
     /// A scheduler with no task. It takes no memory.
+    #[tactic(auto, using(crate::proofs::Keeping::kept_none))]
     pub fn new(alloc: A) -> Scheduler<V, A>
     where
         A: Copy,

@@ -5,7 +5,7 @@ use Rattle.ic_rbtree.specs.CursorMut.{tree_of, links_of, position, SameBorrows}
 use Rattle.ic_rbtree.specs.PlainTrees.{PlainShows}
 use Rattle.ic_rbtree.specs.Tree.{root_of}
 use Rattle.scheduler.specs.Kept.{schedule_of, IsKept}
-use Rattle.scheduler.proofs.Moving.{Moved}
+use Rattle.scheduler.proofs.Ticking.{Moved}
 use Rattle.scheduler.proofs.due.move_due.Given as goal
 
 abbrev pub invariant-loop-moved : goal.invariant-loop-moved

@@ -1,39 +1,21 @@
-use Rattle.std.proofs.Common.{Bor, Option, None, Some, IsSome, refl, sym, ap, ◌∙◌, arith}
+use Rattle.std.proofs.Common.{sym, ap, ◌∙◌, arith}
 use Rattle.std.specs.Option.{option_copied}
 use Rattle.ic_unsafe_ref.specs.Objects.{object_at}
 use Rattle.ic_link_ops.proofs.PlacedValues.{placed_first}
 use Rattle.ic_link_ops.proofs.TwoFields.{unlinked_second}
 use Rattle.scheduler.specs.Timers.{due}
 use Rattle.scheduler.specs.Kept.{deadline_of}
-use Rattle.scheduler.proofs.Keeping.{few_wait, same_kept, nothing_due, first_due, kept_moved, moves, sorted}
+use Rattle.scheduler.proofs.Keeping.{few_wait, nothing_due, first_due, kept_moved, moves, sorted_values}
 use Rattle.scheduler.proofs.due.move_first.Goals as goal
 
-some_lent : {T : Type 0} (o : Option (Bor T)) → IsSome (option_copied o) → IsSome o
-some_lent None some = some
-some_lent (Some lent) some = refl
-
 pub take_due_at-requires : goal.take_due_at-requires
-take_due_at-requires g c = record { front = record { queue = sorted c.requires.kept; first_is = c.requires.front } }
-
-pub returns-in_default-clause-kept : goal.returns-in_default-clause-kept
-returns-in_default-clause-kept g c = let e = c.in_default.ensures in rw (e.unchanged.0, e.unchanged.1) c.requires.kept
+take_due_at-requires g c = record { front = record { queue = sorted_values c.args.cursor.now.links.now c.requires.kept.sorted; first_is = c.requires.front } }
 
 pub returns-in_default-clause-few : goal.returns-in_default-clause-few
 returns-in_default-clause-few g c = few_wait c.requires.kept
 
-pub returns-in_default-clause-unchanged : goal.returns-in_default-clause-unchanged
-returns-in_default-clause-unchanged g c = let e = c.in_default.ensures in rw (e.unchanged.0, e.unchanged.1) (same_kept c.requires.kept)
-
 pub returns-in_default-clause-none_due : goal.returns-in_default-clause-none_due
-returns-in_default-clause-none_due g c =
-    let k = c.requires.kept in
-    nothing_due k c.args.now (c.in_default.ensures.none_due k.sorted.members k.sorted.shown)
-
-pub unwrap-requires : goal.unwrap-requires
-unwrap-requires g c =
-    let k = c.requires.kept.sorted in
-    let placed = placed_first c.args.objects.now c.in-Some.object k.members (first_due c.requires.kept c.args.now c.in-Some.ensures.due).0 k.stand.placed in
-    some_lent c.get.result (rw (c.get.ensures, c.place.ensures) placed)
+returns-in_default-clause-none_due g c = nothing_due c.requires.kept c.args.now c.in_default.ensures.none_due
 
 pub enqueue-requires : goal.enqueue-requires
 enqueue-requires g c =
@@ -62,9 +44,3 @@ returns-clause-moved g c =
     let first = first_due k c.args.now e.due in
     moves k first.0 there c.take_due_at.new.cursor.links.now _ c.enqueue.new.links c.enqueue.new.queues (e.taken k.sorted.members k.sorted.shown) e.released n.pushed n.others n.linked n.frame
     c.args.now (ap (due deadline_of c.args.now) (sym there) ∙ first.1)
-
-pub returns-in_default-clause-front : goal.returns-in_default-clause-front
-returns-in_default-clause-front g c = c.take_due_at.ensures.front.first_is
-
-pub returns-clause-front : goal.returns-clause-front
-returns-clause-front g c = c.take_due_at.ensures.front.first_is

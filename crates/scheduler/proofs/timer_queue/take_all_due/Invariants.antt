@@ -5,15 +5,15 @@ use Rattle.ic_rbtree.specs.Members.{members}
 use Rattle.ic_rbtree.specs.Tree.{root_of}
 use Rattle.ic_rbtree.specs.CursorMut.{tree_of, links_of, site_of, SameBorrows}
 use Rattle.scheduler.specs.Timers.{IsAtFront}
-use Rattle.scheduler.proofs.AllDue.{Takes}
+use Rattle.scheduler.proofs.TimersDue.{Takes}
 use Rattle.scheduler.proofs.timer_queue.take_all_due.Given as goal
 
 abbrev pub invariant-loop-timer : goal.invariant-loop-timer
 invariant-loop-timer g l = record {
   borrows : SameBorrows l.initial.cursor l.cursor;
   front : IsAtFront g.T.HasDeadline.deadline g.L.RBTreeOps.node g.L.LinkOps.table l.objects (site_of l.cursor);
-  shown : (s : List Place) × Shows g.L.RBTreeOps.node (g.L.LinkOps.table l.fn.links) (root_of l.fn.timers) s;
-  takes : Takes g.T.HasDeadline.deadline g.L.RBTreeOps.node g.L.LinkOps.table g.L.LinkOps.Does l.objects l.now l.fn.links shown.0 l.fn.due.items (links_of l.cursor) (root_of (tree_of l.cursor)) l.due.items;
+  takes : (s : List Place) → Shows g.L.RBTreeOps.node (g.L.LinkOps.table l.fn.links) (root_of l.fn.timers) s
+      → Takes g.T.HasDeadline.deadline g.L.RBTreeOps.node g.L.LinkOps.table g.L.LinkOps.Does l.objects l.now l.fn.links s l.fn.due.items (links_of l.cursor) (root_of (tree_of l.cursor)) l.due.items;
   room : vec_capacity l.fn.due ≤ vec_capacity l.due;
 }
 

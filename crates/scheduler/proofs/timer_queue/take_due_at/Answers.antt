@@ -1,12 +1,7 @@
-use Rattle.std.proofs.Common.{refl, ◌∙◌}
-use Rattle.ic_link_ops.specs.Sequences.{first, at_front}
 use Rattle.ic_link_ops.proofs.Positions.{stands_first}
 use Rattle.ic_link_ops.proofs.ShownTrees.{one_sequence}
-use Rattle.ic_rbtree.proofs.Passing.{passes_there}
 use Rattle.ic_rbtree.proofs.SortedKeys.{sorted_taken}
-use Rattle.scheduler.specs.Timers.{due}
-use Rattle.scheduler.proofs.FrontCursor.{first_again}
-use Rattle.scheduler.proofs.TakingDue.{all_wait, none_waits}
+use Rattle.scheduler.proofs.TimersDue.{first_again, all_wait}
 use Rattle.scheduler.proofs.timer_queue.take_due_at.Goals as goal
 
 pub remove-requires : goal.remove-requires
@@ -14,11 +9,6 @@ remove-requires g c =
     let f = c.requires.front in
     let s = f.queue.placed in
     record { stands = stands_first s.members s.shown (f.first_is s.members s.shown) }
-
-pub returns-then-not-is_due-clause-due : goal.returns-then-not-is_due-clause-due
-returns-then-not-is_due-clause-due g c s shown =
-    let there = rw (c.requires.front.first_is s shown) at c.get.ensures in
-    passes_there c.args.objects.now (due g.T.HasDeadline.deadline c.args.now) (first s) c.is_due.ensures there c.if-not-is_due.true refl
 
 pub returns-then-not-is_due-clause-none_due : goal.returns-then-not-is_due-clause-none_due
 returns-then-not-is_due-clause-none_due g c s shown =
@@ -36,16 +26,3 @@ returns-clause-front g c =
       queue = sorted_taken g.T.HasDeadline.deadline c.args.objects.now (λ s u shown other. one_sequence shown other) (stands_first s.members s.shown is) c.remove.result c.remove.ensures.removed f.queue;
       first_is = first_again s.shown is c.remove.result c.remove.ensures.removed;
     }
-
-pub returns-clause-due : goal.returns-clause-due
-returns-clause-due g c s shown =
-    let position = c.requires.front.first_is s shown in
-    passes_there c.args.objects.now (due g.T.HasDeadline.deadline c.args.now) (first s) c.is_due.ensures (rw position at c.get.ensures) c.if-not-is_due.false (c.remove.ensures.removed.answer ∙ position)
-
-pub returns-clause-none_due : goal.returns-clause-none_due
-returns-clause-none_due g c s shown =
-    let position = c.requires.front.first_is s shown in
-    none_waits g.T.HasDeadline.deadline c.args.objects.now c.args.now s c.remove.result c.is_due.ensures (rw position at c.get.ensures) c.if-not-is_due.false (c.remove.ensures.removed.answer ∙ position)
-
-pub returns-clause-taken : goal.returns-clause-taken
-returns-clause-taken g c s shown = c.remove.ensures.removed.removed (at_front s) shown (c.requires.front.first_is s shown)

@@ -9,8 +9,7 @@ use Rattle.scheduler.proofs.scheduler.Scheduler.add.Goals as goal
 pub invariant_of-self : goal.invariant_of-self
 invariant_of-self g c =
     let e = c.in-Err-NoPlaceLeft.ensures in
-    let back = rw c.in-Err-NoPlaceLeft.field-0-is at e.refused in
-    rw back.1 (kept_grown c.self.invariant c.place.new.self.links.1 c.place.new.self.links.0 e.keeps.1 e.keeps.0)
+    rw ((rw c.in-Err-NoPlaceLeft.field-0-is at e.refused).1) (kept_grown c.self.invariant c.place.new.self.links.1 c.place.new.self.links.0 e.keeps.1 e.keeps.0)
 
 pub returns-in-Err-NoPlaceLeft-clause-refused : goal.returns-in-Err-NoPlaceLeft-clause-refused
 returns-in-Err-NoPlaceLeft-clause-refused g c =
@@ -22,8 +21,7 @@ returns-in-Err-NoPlaceLeft-clause-refused g c =
 pub invariant_of-self-in-Err-OutOfMemory : goal.invariant_of-self-in-Err-OutOfMemory
 invariant_of-self-in-Err-OutOfMemory g c =
     let e = c.in-Err-OutOfMemory.ensures in
-    let back = rw c.in-Err-OutOfMemory.field-0-is at e.refused in
-    rw back.1 (kept_grown c.self.invariant c.place.new.self.links.1 c.place.new.self.links.0 e.keeps.1 e.keeps.0)
+    rw ((rw c.in-Err-OutOfMemory.field-0-is at e.refused).1) (kept_grown c.self.invariant c.place.new.self.links.1 c.place.new.self.links.0 e.keeps.1 e.keeps.0)
 
 pub returns-in-Err-OutOfMemory-clause-refused : goal.returns-in-Err-OutOfMemory-clause-refused
 returns-in-Err-OutOfMemory-clause-refused g c =
@@ -42,14 +40,12 @@ schedule-requires-clause-object g c = ap is_some (placed_there c.in-Ok.ensures.p
 pub invariant_of-self-2 : goal.invariant_of-self-2
 invariant_of-self-2 g c =
     let e = c.in-Ok.ensures in
-    let left = some_left _ e.full in
     kept_added c.self.invariant c.place.new.self.links.1 c.place.new.self.links.0 e.keeps.1 e.keeps.0 e.placed c.schedule.new.links _
-    (e.covered.0, omega (arith, e.placed.next, left)) c.schedule.result c.schedule.ensures.scheduled c.schedule.ensures.acquired c.schedule.ensures.refused
+    (e.covered.0, omega (arith, e.placed.next, some_left _ e.full)) c.schedule.result c.schedule.ensures.scheduled c.schedule.ensures.acquired c.schedule.ensures.refused
 
 pub returns-clause-added : goal.returns-clause-added
 returns-clause-added g c =
     let e = c.in-Ok.ensures in
-    let left = some_left _ e.full in
     rw (← c.self.view_is)
     (adds c.self.invariant c.place.new.self.links.1 c.place.new.self.links.0 e.keeps.1 e.keeps.0 e.placed c.schedule.new.links _
-    (e.covered.0, omega (arith, e.placed.next, left)) c.schedule.result c.schedule.ensures.scheduled c.schedule.ensures.acquired c.schedule.ensures.refused)
+    (e.covered.0, omega (arith, e.placed.next, some_left _ e.full)) c.schedule.result c.schedule.ensures.scheduled c.schedule.ensures.acquired c.schedule.ensures.refused)

@@ -1,14 +1,39 @@
--- A tick, task by task.
-use Rattle.std.proofs.Common.{◌≡◌, ℕ, zero, suc, ◌+◌, ◌<◌, ◌≤◌, true, false, not, List, [], ◌∷◌, ◌++◌, length, filter, refl, sym, ap, ◌∙◌, subst, arith, append_assoc, append-nil, length-append}
+-- Tasks by their deadlines, and a tick, task by task.
+use Rattle.std.proofs.Common.{◌≡◌, ℕ, ◌<◌, Bool, true, false, List, [], ◌∷◌, ◌++◌, filter, refl, sym, ap, ◌∙◌, arith, append-nil, ◌+◌, ◌≤◌, not, length, subst, append_assoc, length-append}
 use Rattle.std.proofs.lemmas.List.Elements.{filter-append}
+use Rattle.std.proofs.lemmas.Bool.Decides.{nat_tests}
 use Rattle.std.specs.List.{AllByRecursion}
+use Rattle.std.specs.Ordering.{nat_cmp}
+use Rattle.ic_rbtree.specs.SortedValues.{InsertsValue}
 use Rattle.ic_rbtree.proofs.KeyLaws.{filter_front, filter_fail, filter_pass}
+use Rattle.ic_rbtree.proofs.SortedKeys.{sorted_filter}
 use Rattle.scheduler.specs.declared.task.Task.{Task}
-use Rattle.scheduler.specs.Schedule.{Schedule, queue_at, is_due, is_for, IsByDeadline, IsUnchanged, Ticks, MovesFirst}
-use Rattle.scheduler.proofs.ByDeadline.{by_deadline_among}
+use Rattle.scheduler.specs.Kept.{deadline_of}
+use Rattle.scheduler.specs.Schedule.{has_deadline, IsByDeadline, Schedule, queue_at, is_due, is_for, IsUnchanged, Ticks, MovesFirst}
 use Rattle.ic_link_ops.proofs.Each.{all_both, all_map}
 
+-- two tests, in either order
+filter_swap : {X : Type 0} (test other : X → Bool) (s : List X) → filter test (filter other s) ≡ filter other (filter test s)
+filter_swap test other [] = refl
+filter_swap test other (x ∷ s) = let rest = filter_swap test other s in grind (arith, nat_tests)
+
 module _ {V : Type 0} where
+  -- ONE MORE, in front of exactly those that are later
+  pub by_deadline_with : {old new w : List (Task V)} {task : Task V} → InsertsValue nat_cmp deadline_of old task new → IsByDeadline old w → IsByDeadline new (w ++ task ∷ [])
+  by_deadline_with {old} {new} {w} {task} put stands = record { rises = put.sorted; alike = alike } where
+    alike : (d : ℕ) → filter (has_deadline d) new ≡ filter (has_deadline d) (w ++ task ∷ [])
+    alike d =
+        let none = λ (is : has_deadline d task ≡ true). filter_front (has_deadline d) [] put.back tt (all_map (λ (x : Task V) later. grind (arith, nat_tests)) put.back put.greater) in
+        let was = simp filter-append at (ap (filter (has_deadline d)) put.was) in
+        rw put.is (simp filter-append (grind (arith, nat_tests, append-nil, none, was, stands.alike d)))
+
+  -- THOSE ALONE THAT PASS A TEST
+  pub by_deadline_among : (test : Task V → Bool) {tasks w : List (Task V)} → IsByDeadline tasks w → IsByDeadline (filter test tasks) (filter test w)
+  by_deadline_among test {tasks} {w} stands = record {
+    rises = sorted_filter deadline_of test tasks stands.rises;
+    alike = λ d. filter_swap (has_deadline d) test tasks ∙ ap (filter test) (stands.alike d) ∙ filter_swap test (has_deadline d) w;
+  }
+
   -- A TICK SO FAR: these were first, are due, and went to their queues
   pub record Moved (now : ℕ) (start schedule : Schedule V) (moved : ℕ) : Type 0 where
     pub taken : List (Task V)
@@ -18,34 +43,20 @@ module _ {V : Type 0} where
     pub count : moved ≡ length taken
     pub is_full : schedule.is_full ≡ start.is_full
 
-  pub moved_none : {now : ℕ} {start : Schedule V} → Moved now start start 0
-  moved_none = record { taken = []; first = refl; due = tt; queues = λ q. sym (append-nil _); count = refl; is_full = refl }
-
   module _ {now : ℕ} {start schedule : Schedule V} {moved : ℕ} (k : Moved now start schedule moved) where
     pub moved_one : {new : Schedule V} → MovesFirst now schedule new → Moved now start new (moved + 1)
     moved_one {new} m = record {
       taken = k.taken ++ m.task ∷ [];
-      first = k.first ∙ ap (λ (t : List (Task V)). k.taken ++ t) m.first ∙ sym (append_assoc k.taken (m.task ∷ []) new.waiting);
+      first = simp (k.first, m.first, append_assoc);
       due = all_both (λ x. is_due now x ≡ true) k.taken (m.task ∷ []) k.due (m.due, tt);
-      queues = λ q. m.queues q ∙ ap (λ (t : List (Task V)). t ++ filter (is_for q) (m.task ∷ [])) (k.queues q)
-          ∙ append_assoc (queue_at start q) (filter (is_for q) k.taken) (filter (is_for q) (m.task ∷ []))
-          ∙ ap (λ (t : List (Task V)). queue_at start q ++ t) (sym (filter-append (is_for q) k.taken (m.task ∷ [])));
+      queues = λ q. simp (m.queues q, k.queues q, append_assoc, filter-append);
       count = omega (arith, k.count, length-append k.taken (m.task ∷ []));
       is_full = m.is_full ∙ k.is_full;
     }
 
-    pub moved_fewer : {new : Schedule V} → MovesFirst now schedule new → length new.waiting < length schedule.waiting
-    moved_fewer {new} m = omega (arith, ap length m.first)
-
-    pub moved_within : moved + length schedule.waiting ≡ length start.waiting
-    moved_within = omega (arith, k.count, ap length k.first, length-append k.taken schedule.waiting)
-
     -- those that waited at first are as few as those that wait before the first move
     pub moved_few : (most : ℕ) → (0 < moved → length start.waiting ≤ most) → length schedule.waiting ≤ most → length start.waiting ≤ most
-    moved_few most few wait = by moved refl where
-      by : (m : ℕ) → moved ≡ m → length start.waiting ≤ most
-      by zero e = omega (arith, e, moved_within, wait)
-      by (suc m) e = few (omega (arith, e))
+    moved_few most few wait = grind (arith, k.count, ap length k.first, length-append k.taken schedule.waiting)
 
     -- THE TICK, where no more are due
     module _ {new : Schedule V} (same : IsUnchanged schedule new) (left : AllByRecursion (λ (x : Task V). is_due now x ≡ false) schedule.waiting) where
