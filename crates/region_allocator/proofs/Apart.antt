@@ -1,15 +1,19 @@
 -- Regions that stand apart: with one more, with one less, with another one, and which addresses are free then.
-use Rattle.std.proofs.Common.{◌≡◌, ℕ, ◌+◌, ◌<◌, ◌≤◌, ◌⊎◌, ◌↔◌, inl, inr, List, [], ◌∷◌, ◌++◌, map, refl, arith}
+use Rattle.std.proofs.Common.{◌≡◌, ℕ, ◌<◌, ◌≤◌, ◌⊎◌, ◌↔◌, inl, inr, List, [], ◌∷◌, ◌++◌, map, refl, arith}
 use Rattle.std.specs.List.{AllByRecursion}
 use Rattle.std.specs.Ordering.{nat_cmp}
-use Rattle.ic_link_ops.proofs.Each.{all_both, all_map, all_front, all_back, all_without}
+use Rattle.ic_link_ops.proofs.Each.{all_map, all_front, all_back, all_with, all_without}
 use Rattle.ic_rbtree.specs.Borders.{IsSorted}
 use Rattle.ic_rbtree.proofs.SortedKeys.{is_up}
 use Rattle.region_allocator.specs.declared.region.Region.{Region}
-use Rattle.region_allocator.specs.Changes.{Adds, Changes, FitsFor}
+use Rattle.region_allocator.specs.Changes.{FitsFor}
 use Rattle.region_allocator.specs.Kept.{start_of}
 use Rattle.region_allocator.specs.Regions.{end_of, Has, IsFree, IsRegion, AreApart, StandApart, AreShorter, FitsAt}
-use Rattle.region_allocator.proofs.Lists.{all_and}
+
+-- of three facts of each follows another one
+pub all_three : {P Q R S : Region → Type 0} → ((x : Region) → P x → Q x → R x → S x) → (s : List Region) → AllByRecursion P s → AllByRecursion Q s → AllByRecursion R s → AllByRecursion S s
+all_three f [] p q r = tt
+all_three f (x ∷ s) p q r = (f x p.0 q.0 r.0, all_three f s p.1 q.1 r.1)
 
 -- each of them is a region
 pub all_regions : (s : List Region) → StandApart s → AllByRecursion IsRegion s
@@ -22,6 +26,12 @@ starts_rise [] h = tt
 starts_rise (r ∷ []) h = tt
 starts_rise (r ∷ x ∷ s) h = (is_up r.start x.start (omega (arith, h.1.0)), starts_rise (x ∷ s) h.2)
 
+-- CUT IN TWO
+pub parts_apart : (front back : List Region) → StandApart (front ++ back) → StandApart front × StandApart back
+parts_apart [] back h = (tt, h)
+parts_apart (x ∷ front) back h =
+    let rest = parts_apart front back h.2 in ((h.0, all_front (λ later. end_of x < later.start) front back h.1, rest.0), rest.1)
+
 -- CUT AT A REGION: those in front end before it, and those behind start behind it
 pub cut_apart : (front : List Region) (r : Region) (back : List Region) → StandApart (front ++ r ∷ back)
     → AllByRecursion (λ x. end_of x < r.start) front × IsRegion r × AllByRecursion (λ x. end_of r < x.start) back × StandApart (front ++ back)
@@ -30,109 +40,70 @@ cut_apart (x ∷ front) r back h =
     let rest = cut_apart front r back h.2 in
     (((all_back (λ later. end_of x < later.start) front (r ∷ back) h.1).0, rest.0), rest.1, rest.2, (h.0, all_without (λ later. end_of x < later.start) front r back h.1, rest.3))
 
--- CUT IN TWO
-pub parts_apart : (front back : List Region) → StandApart (front ++ back) → StandApart front × StandApart back
-parts_apart [] back h = (tt, h)
-parts_apart (x ∷ front) back h = let rest = parts_apart front back h.2 in ((h.0, all_front (λ later. end_of x < later.start) front back h.1, rest.0), rest.1)
+-- the others are apart from it
+pub others_away : (front : List Region) (r : Region) (back : List Region) → StandApart (front ++ r ∷ back) → AllByRecursion (AreApart r) (front ++ back)
+others_away [] r back h = all_map (λ x high. inl high) back h.1
+others_away (x ∷ front) r back h = (inr (all_back (λ later. end_of x < later.start) front (r ∷ back) h.1).0, others_away front r back h.2)
 
-apart_with : (front back : List Region) (r : Region) → IsRegion r → StandApart (front ++ back) → AllByRecursion (λ x. end_of x < r.start) front → AllByRecursion (λ x. end_of r < x.start) back
-    → StandApart (front ++ r ∷ back)
-apart_with [] back r is h below above = (is, above, h)
-apart_with (x ∷ front) back r is h below above = (
-  h.0,
-  all_both (λ later. end_of x < later.start) front (r ∷ back) (all_front (λ later. end_of x < later.start) front back h.1) (below.0, all_back (λ later. end_of x < later.start) front back h.1),
-  apart_with front back r is h.2 below.1 above,
-)
-
--- a region is this one, or apart from it
+-- so each is this one, or apart from it
 abbrev pub IsOrApart : Region → Region → Type 0
 IsOrApart out x = (x ≡ out) ⊎ AreApart out x
 
--- and so is each of those that stand apart with it
 pub apart_from : (front : List Region) (r : Region) (back : List Region) → StandApart (front ++ r ∷ back) → AllByRecursion (IsOrApart r) (front ++ r ∷ back)
-apart_from front r back h =
-    let cut = cut_apart front r back h in
-    all_both (IsOrApart r) front (r ∷ back) (all_map (λ x low. inr (inr low)) front cut.0) (inl refl, all_map (λ x high. inr (inl high)) back cut.2)
+apart_from front r back h = all_with (IsOrApart r) front r back (inl refl) (all_map (λ x away. inr away) (front ++ back) (others_away front r back h))
 
--- WITH ONE MORE that is apart from each, in the order of the starts
+-- WITH ONE MORE that is apart from each, in the order of the addresses
 pub added_apart : (front back : List Region) (r : Region) → IsRegion r → StandApart (front ++ back) → AllByRecursion (AreApart r) (front ++ back)
-    → AllByRecursion (λ x. x.start ≤ r.start) front → AllByRecursion (λ x. r.start < x.start) back → StandApart (front ++ r ∷ back)
-added_apart front back r is h apart below above =
-    apart_with front back r is h (all_map in_front front (all_and _ _ front (all_front (AreApart r) front back apart) below)) (all_map behind back (all_and _ _ back (all_back (AreApart r) front back apart) above)) where
-      in_front : (x : Region) → AreApart r x × (x.start ≤ r.start) → end_of x < r.start
-      in_front x both = grind arith
-
-      behind : (x : Region) → AreApart r x × (r.start < x.start) → end_of r < x.start
-      behind x both = grind arith
+    → AllByRecursion (λ x. x.start < end_of r) front → AllByRecursion (λ x. r.start < end_of x) back → StandApart (front ++ r ∷ back)
+added_apart [] back r is h apart below above =
+    let behind : AllByRecursion (λ x. end_of r < x.start) back = all_three (λ x away high again. grind arith) back apart above above in (is, behind, h)
+added_apart (x ∷ front) back r is h apart below above =
+    (h.0, all_with (λ later. end_of x < later.start) front r back (grind arith) h.1, added_apart front back r is h.2 apart.1 below.1 above)
 
 -- WITH ANOTHER ONE in the place of one that it fits for
 pub changed_apart : (front : List Region) (out : Region) (back : List Region) {r : Region} → StandApart (front ++ out ∷ back) → FitsFor out r (front ++ out ∷ back) → StandApart (front ++ r ∷ back)
 changed_apart front out back {r} h fits =
-    let each = all_without (λ x. (x ≡ out) ⊎ AreApart r x) front out back fits.apart in
     let cut = cut_apart front out back h in
-    apart_with front back r fits.is_region cut.3 (all_map in_front front (all_and _ _ front cut.0 (all_front (λ x. (x ≡ out) ⊎ AreApart r x) front back each)))
-    (all_map behind back (all_and _ _ back cut.2 (all_back (λ x. (x ≡ out) ⊎ AreApart r x) front back each)))
-  where
-    in_front : (x : Region) → (end_of x < out.start) × ((x ≡ out) ⊎ AreApart r x) → end_of x < r.start
-    in_front x both = grind (arith, fits.low, fits.high)
+    let each = all_without (λ x. (x ≡ out) ⊎ AreApart r x) front out back fits.apart in
+    let apart : AllByRecursion (AreApart r) (front ++ back) = all_three (λ x away either again. grind arith) (front ++ back) (others_away front out back h) each each in
+    added_apart front back r fits.is_region cut.3 apart (all_map (λ x low. omega (arith, low, fits.high)) front cut.0) (all_map (λ x high. omega (arith, high, fits.low)) back cut.2)
 
-    behind : (x : Region) → (end_of out < x.start) × ((x ≡ out) ⊎ AreApart r x) → end_of r < x.start
-    behind x both = grind (arith, fits.low, fits.high)
+-- FREE ADDRESSES, of two parts,
+pub free_parts : (front back : List Region) (a : ℕ) → IsFree (front ++ back) a ↔ (IsFree front a ⊎ IsFree back a)
+free_parts [] back a = (λ free. grind arith, λ either. grind arith)
+free_parts (x ∷ front) back a = let rest = free_parts front back a in (λ free. grind (arith, rest), λ either. grind (arith, rest))
 
--- FREE ADDRESSES of what is cut at a region: those of the others, and its own
-free_with : (front : List Region) (r : Region) (back : List Region) (a : ℕ) → IsFree (front ++ r ∷ back) a ↔ (IsFree (front ++ back) a ⊎ Has r a)
-free_with [] r back a = (λ free. grind arith, λ either. grind arith)
-free_with (x ∷ front) r back a = let rest = free_with front r back a in (λ free. grind (arith, rest), λ either. grind (arith, rest))
+-- of what is cut at a region: those of the others, and its own
+pub free_with : (front : List Region) (r : Region) (back : List Region) (a : ℕ) → IsFree (front ++ r ∷ back) a ↔ (IsFree (front ++ back) a ⊎ Has r a)
+free_with front r back a =
+    let with = free_parts front (r ∷ back) a in let less = free_parts front back a in (λ free. grind (arith, with, less), λ either. grind (arith, with, less))
 
-pub free_here : (front : List Region) (r : Region) (back : List Region) (a : ℕ) → Has r a → IsFree (front ++ r ∷ back) a
-free_here front r back a own = (free_with front r back a).1 (inr own)
+-- what is free lies behind an address where all start behind it,
+pub free_above : (s : List Region) (n a : ℕ) → AllByRecursion (λ x. n < x.start) s → IsFree s a → n < a
+free_above [] n a above free = absurd free
+free_above (x ∷ s) n a above (inl has) = omega (arith, above.0, has.0)
+free_above (x ∷ s) n a above (inr free) = free_above s n a above.1 free
 
--- with one more,
-pub adds_free : {r : Region} {old new : List Region} → Adds r old new → (a : ℕ) → IsFree new a ↔ (IsFree old a ⊎ Has r a)
-adds_free {r} adds a = rw (adds.is, adds.was) (free_with adds.front r adds.back a)
-
--- or another one in the place of one
-module _ {out r : Region} {old new : List Region} (changes : Changes out r old new) where
-  abbrev pub others_of : List Region
-  others_of = changes.front ++ changes.back
-
-  pub was_free : (a : ℕ) → IsFree old a ↔ (IsFree others_of a ⊎ Has out a)
-  was_free a = rw changes.was (free_with changes.front out changes.back a)
-
-  pub is_free : (a : ℕ) → IsFree new a ↔ (IsFree others_of a ⊎ Has r a)
-  is_free a = rw changes.is (free_with changes.front r changes.back a)
-
-pub none_free : (s : List Region) (a : ℕ) → AllByRecursion (λ x. Has x a → ⊥) s → IsFree s a → ⊥
-none_free [] a none h = h
-none_free (x ∷ s) a none (inl h) = none.0 h
-none_free (x ∷ s) a none (inr h) = none_free s a none.1 h
+-- and in front of one where all end there
+pub free_below : (s : List Region) (n a : ℕ) → AllByRecursion (λ x. end_of x ≤ n) s → IsFree s a → a < n
+free_below [] n a below free = absurd free
+free_below (x ∷ s) n a below (inl has) = omega (arith, below.0, has.1)
+free_below (x ∷ s) n a below (inr free) = free_below s n a below.1 free
 
 -- an address of one is none of the others'
 pub others_not : (front : List Region) (r : Region) (back : List Region) → StandApart (front ++ r ∷ back) → (a : ℕ) → IsFree (front ++ back) a → Has r a → ⊥
 others_not front r back h a free own =
     let cut = cut_apart front r back h in
-    none_free (front ++ back) a (all_both (λ x. Has x a → ⊥) front back (all_map (λ x low has. omega (arith, low, has.1, own.0)) front cut.0) (all_map (λ x high has. omega (arith, high, has.0, own.1)) back cut.2)) free
-
--- what is free is not in front of all
-free_from : (s : List Region) (from a : ℕ) → AllByRecursion (λ x. from ≤ x.start) s → IsFree s a → from ≤ a
-free_from [] from a above free = elim free [ ]
-free_from (x ∷ s) from a above (inl has) = omega (arith, above.0, has.0)
-free_from (x ∷ s) from a above (inr free) = free_from s from a above.1 free
+    let left : IsFree front a → a < r.start = free_below front r.start a (all_map (λ x low. omega (arith, low)) front cut.0) in
+    grind (arith, (free_parts front back a).0 free, left, free_above back (end_of r) a cut.2)
 
 -- NOTHING FITS IN FRONT of the first region that is long enough: what is free from an address on is in one region
 pub lowest_fits : (length start : ℕ) (front : List Region) (whole : Region) (back : List Region) → StandApart (front ++ whole ∷ back) → AreShorter front length → 0 < length
     → FitsAt (front ++ whole ∷ back) length start → whole.start ≤ start
 lowest_fits length start [] whole back apart short some fits =
-    free_from (whole ∷ back) whole.start start (omega arith, all_map (λ x later. omega (arith, later)) back apart.1) (fits start (omega arith, omega (arith, some)))
-lowest_fits length start (x ∷ front) whole back apart short some fits = elim (fits start (omega arith, omega (arith, some))) [
-  | inl has ↦ elim (fits (end_of x) (omega (arith, has.1), omega (arith, has.0, short.0))) [
-    | inl own ↦ absurd (omega (arith, own.1))
-    | inr later ↦ absurd (none_free (front ++ whole ∷ back) (end_of x) (all_map (λ y above here. omega (arith, above, here.0)) (front ++ whole ∷ back) apart.1) later)
-  ]
-  | inr later ↦ lowest_fits length start front whole back apart.2 short.1 some (λ a in_it. elim (fits a in_it) [
-    | inl has ↦
-        let above : end_of x + 1 ≤ start = free_from (front ++ whole ∷ back) (end_of x + 1) start (all_map (λ y high. omega (arith, high)) (front ++ whole ∷ back) apart.1) later in
-        absurd (omega (arith, has.1, in_it.0, above))
-    | inr rest ↦ rest
-  ])
-]
+    grind (arith, fits start (omega arith, omega (arith, some)), free_above back (end_of whole) start apart.1)
+lowest_fits length start (x ∷ front) whole back apart short some fits =
+    let above : (a : ℕ) → IsFree (front ++ whole ∷ back) a → end_of x < a = λ a free. free_above (front ++ whole ∷ back) (end_of x) a apart.1 free in
+    let never : Has x start → ⊥ = λ has. grind (arith, fits (end_of x) (omega (arith, has.1), omega (arith, has.0, short.0)), above (end_of x)) in
+    let behind : end_of x < start = grind (arith, fits start (omega arith, omega (arith, some)), never, above start) in
+    lowest_fits length start front whole back apart.2 short.1 some (λ a in_it. grind (arith, fits a in_it, in_it.0, behind))

@@ -1,150 +1,232 @@
--- A region that is freed joins those that it touches, and what is left of one that is cut.
-use Rattle.std.proofs.Common.{◌≡◌, ◌≢◌, ℕ, ◌+◌, ◌<◌, ◌⊎◌, ◌↔◌, inl, inr, List, refl, sym, subst, arith, add_assoc}
+-- Which regions touch one that is to be freed, what it is joined with, and what is left of one that is cut.
+use Rattle.std.proofs.Common.{◌≡◌, ◌≢◌, ℕ, ◌+◌, ◌-◌, ◌^◌, ◌<◌, ◌≤◌, ◌⊎◌, ◌↔◌, inl, inr, Bool, Option, Some, None, Ok, Err, List, [], ◌∷◌, ◌++◌, refl, sym, ap, ◌∙◌, subst, arith}
 use Rattle.std.specs.List.{AllByRecursion}
-use Rattle.ic_link_ops.proofs.Each.{all_both, all_map, all_without}
+use Rattle.ic_unsafe_ref.specs.declared.place.Place.{Place}
+use Rattle.ic_unsafe_ref.specs.Objects.{Objects, object_at}
+use Rattle.ic_link_ops.proofs.Each.{all_back, all_both, all_map, all_without}
+use Rattle.ic_rbtree.specs.PlainTrees.{TreeLinkOps}
+use Rattle.ic_augmented.specs.declared.sum_table.SumTable.{SumTable}
+use Rattle.region_allocator.specs.declared.free_error.FreeError.{FreeError}
+use Rattle.region_allocator.specs.declared.neighbors.Found.{Found}
 use Rattle.region_allocator.specs.declared.region.Region.{Region}
 use Rattle.region_allocator.specs.Changes.{Adds, Changes, FitsFor}
-use Rattle.region_allocator.specs.Regions.{region_of, end_of, Has, IsFree, IsRegion, AreApart, StandApart, FreesRegion, AllocatesRegion}
-use Rattle.region_allocator.proofs.Apart.{IsOrApart, adds_free, all_regions, cut_apart, is_free, none_free, others_not, was_free}
-use Rattle.region_allocator.proofs.Lists.{all_and}
+use Rattle.region_allocator.specs.Kept.{Keeps, shown_regions}
+use Rattle.region_allocator.specs.Neighbors.{IsFound, IsLast, IsFirst, AreNeighbors, IsEnding, IsStarting, Touches, EndsBy, StartsFrom}
+use Rattle.region_allocator.specs.Refusals.{IsRefused}
+use Rattle.region_allocator.specs.Regions.{space_of, region_of, end_of, Has, IsFree, IsRegion, AreApart, StandApart, FreesRegion, AllocatesRegion}
+use Rattle.region_allocator.proofs.Apart.{IsOrApart, all_three, cut_apart, free_above, free_below, free_parts, free_with, others_away, others_not, parts_apart}
+use Rattle.region_allocator.proofs.Keeping.{shown_apart, others_apart, at_region}
 
 -- a region shares no address with this one, and may touch it
 abbrev pub IsBeside : Region → Region → Type 0
 IsBeside region x = AreApart region x ⊎ ((end_of x ≡ region.start) ⊎ (x.start ≡ end_of region))
 
--- ADDRESSES, those of two parts: `Was` and `Is` are in addition to the same others, and differ by `More`
-frees_more : {Old New Others Was Is More : Type 0} → Old ↔ (Others ⊎ Was) → New ↔ (Others ⊎ Is) → Is ↔ (Was ⊎ More) → New ↔ (Old ⊎ More)
-frees_more old new parts = (λ free. grind (arith, old, new, parts), λ either. grind (arith, old, new, parts))
-
-leaves_less : {Old New Others Was Is Less : Type 0} → Old ↔ (Others ⊎ Was) → New ↔ (Others ⊎ Is) → Was ↔ (Less ⊎ Is) → (Others → Less → ⊥) → (Is → Less → ⊥) → New ↔ (Old × ¬ Less)
-leaves_less old new parts off out = (λ free. grind (arith, old, new, parts, off, out), λ both. grind (arith, old, new, parts, off, out))
-
-swapped : {P Q R : Type 0} → P ↔ (Q ⊎ R) → P ↔ (R ⊎ Q)
-swapped both = (λ p. grind (arith, both), λ either. grind (arith, both))
-
--- two regions that touch have the addresses of one
-has_joined : (x y joined : Region) → joined.start ≡ x.start → end_of x ≡ y.start → end_of joined ≡ end_of y → (a : ℕ) → Has joined a ↔ (Has x a ⊎ Has y a)
-has_joined x y joined from at to a = (λ has. grind arith, λ either. grind arith)
-
--- one that touches a region is not apart from it
-pub touches_front : (region x : Region) → end_of x ≡ region.start → AreApart region x → ⊥
-touches_front region x at apart = grind arith
-
-pub touches_back : (region x : Region) → x.start ≡ end_of region → AreApart region x → ⊥
-touches_back region x at apart = grind arith
-
--- WHERE NONE TOUCHES IT, all are apart from it
-pub none_touches : (region : Region) (s : List Region) → AllByRecursion (IsBeside region) s → AllByRecursion (λ x. end_of x ≢ region.start) s → AllByRecursion (λ x. x.start ≢ end_of region) s → AllByRecursion (AreApart region) s
-none_touches region s beside front back = all_map apart s (all_and _ _ s beside (all_and _ _ s front back)) where
-  apart : (x : Region) → IsBeside region x × ((end_of x ≢ region.start) × (x.start ≢ end_of region)) → AreApart region x
-  apart x h = grind arith
-
 -- no address of a region is free where all are beside it
 beside_not : (region : Region) (s : List Region) → AllByRecursion (IsBeside region) s → (a : ℕ) → Has region a → IsFree s a → ⊥
-beside_not region s beside a own = none_free s a (all_map (λ x is has. not x is own has) s beside) where
-  not : (x : Region) → IsBeside region x → Has region a → Has x a → ⊥
-  not x is own has = grind arith
+beside_not region [] beside a own free = free
+beside_not region (x ∷ s) beside a own free = grind (arith, beside.0, beside_not region s beside.1 a own)
 
--- FREED, one region more
-pub adds_frees : {region : Region} {old new : List Region} → IsRegion region → AllByRecursion (AreApart region) old → Adds region old new → FreesRegion region old new
-adds_frees {region} {old} is apart adds = record { is_region = is; was_taken = beside_not region old (all_map (λ x is. inl is) old apart); free = adds_free adds }
+-- what is free with one more,
+adds_free : {r : Region} {old new : List Region} → Adds r old new → (a : ℕ) → IsFree new a ↔ (IsFree old a ⊎ Has r a)
+adds_free {r} adds a = rw (adds.is, adds.was) (free_with adds.front r adds.back a)
 
-module _ {region : Region} (is : IsRegion region) where
-  module _ (s : List Region) (beside : AllByRecursion (IsBeside region) s) (regions : AllByRecursion IsRegion s) where
-    -- JOINED with the one in front,
-    module _ {front : Region} (own : IsRegion front) (at : end_of front ≡ region.start) where
-      pub front_fits : AllByRecursion (IsOrApart front) s → AllByRecursion (λ x. x.start ≢ end_of region) s → FitsFor front (region_of front.start (front.length + region.length)) s
-      front_fits others none = record {
-        is_region = record { some = omega (arith, own.some); fits = omega (arith, is.fits, at) };
-        low = omega (arith, own.some);
-        high = omega (arith, own.some);
-        apart = all_map fit s (all_and _ _ s others (all_and _ _ s none (all_and _ _ s beside regions)));
-      } where
-        fit : (x : Region) → IsOrApart front x × ((x.start ≢ end_of region) × (IsBeside region x × IsRegion x)) → (x ≡ front) ⊎ AreApart (region_of front.start (front.length + region.length)) x
-        fit x h = let some : 0 < x.length = h.1.1.1.some in grind arith
+-- and with another one in the place of one
+changes_free : {out r : Region} {old new : List Region} (changes : Changes out r old new) (a : ℕ)
+    → (IsFree old a ↔ (IsFree (changes.front ++ changes.back) a ⊎ Has out a)) × (IsFree new a ↔ (IsFree (changes.front ++ changes.back) a ⊎ Has r a))
+changes_free {out} {r} changes a = (rw changes.was (free_with changes.front out changes.back a), rw changes.is (free_with changes.front r changes.back a))
 
-      pub front_frees : {new : List Region} → Changes front (region_of front.start (front.length + region.length)) s new → FreesRegion region s new
-      front_frees changes = record { is_region = is; was_taken = beside_not region s beside; free = λ a. frees_more (was_free changes a) (is_free changes a) (has_joined front region _ refl at (omega (arith, at)) a) }
+-- FREED, with what it is joined with
+frees : {region : Region} {old new : List Region} → IsRegion region → AllByRecursion (IsBeside region) old → ((a : ℕ) → IsFree new a ↔ (IsFree old a ⊎ Has region a)) → FreesRegion region old new
+frees {region} {old} is beside free = record { is_region = is; was_taken = beside_not region old beside; free = free }
 
-    -- with the one behind,
-    module _ {back : Region} (own : IsRegion back) (at : back.start ≡ end_of region) where
-      pub back_fits : AllByRecursion (IsOrApart back) s → AllByRecursion (λ x. end_of x ≢ region.start) s → FitsFor back (region_of region.start (region.length + back.length)) s
-      back_fits others none = record {
-        is_region = record { some = omega (arith, own.some); fits = omega (arith, own.fits, at) };
-        low = omega (arith, own.some, at);
-        high = omega (arith, own.some, at);
-        apart = all_map fit s (all_and _ _ s others (all_and _ _ s none (all_and _ _ s beside regions)));
-      } where
-        fit : (x : Region) → IsOrApart back x × ((end_of x ≢ region.start) × (IsBeside region x × IsRegion x)) → (x ≡ back) ⊎ AreApart (region_of region.start (region.length + back.length)) x
-        fit x h = let some : 0 < x.length = h.1.1.1.some in grind arith
+-- it fits where it has the addresses of the one in whose place it comes
+covers_fits : {out joined : Region} {s : List Region} → IsRegion out → joined.start ≤ out.start → end_of out ≤ end_of joined → end_of joined < 2 ^ 64
+    → AllByRecursion (λ x. (x ≡ out) ⊎ AreApart joined x) s → FitsFor out joined s
+covers_fits own from to fits apart = let some = own.some in
+    record { is_region = record { some = omega (arith, some, from, to); fits = fits }; low = omega (arith, some, from); high = omega (arith, some, to); apart = apart }
 
-      pub back_frees : {new : List Region} → Changes back (region_of region.start (region.length + back.length)) s new → FreesRegion region s new
-      back_frees changes = record { is_region = is; was_taken = beside_not region s beside; free = λ a. frees_more (was_free changes a) (is_free changes a) (swapped (has_joined region back _ refl (sym at) (omega (arith, at)) a)) }
+module _ {A B : Type 0} {objects : Objects Region} {w : TreeLinkOps A} {root : Option Place} {z : SumTable ℕ ℕ B} (k : Keeps objects w root z) {region : Region} (is : IsRegion region) where
+  abbrev shown : List Region
+  shown = shown_regions objects w root
 
--- JOINED WITH BOTH, where the one behind is taken out first: that one and the region are one, which joins the one in front
-module _ {region : Region} (is : IsRegion region) (s : List Region) (beside : AllByRecursion (IsBeside region) s) (apart : StandApart s) {front back : Region} (own : IsRegion front) (other : IsRegion back) (at : end_of front ≡ region.start)
-    (to : back.start ≡ end_of region) {mid : List Region} (less : Adds back mid s) where
-  abbrev both : Region
-  both = region_of region.start (region.length + back.length)
+  -- with no other: all are apart from it
+  pub none_touches : Touches objects shown region None None → AllByRecursion (AreApart region) shown
+  none_touches t = all_three (λ x near ends starts. grind arith) shown t.each t.front_is t.back_is
 
-  both_region : IsRegion both
-  both_region = record { some = omega (arith, is.some); fits = omega (arith, other.fits, to) }
+  pub touches_none : {front back : Option Found} → Touches objects shown region front back → AllByRecursion (AreApart region) shown → (front ≡ None) × (back ≡ None)
+  touches_none {front = None} {back = None} t new = (refl, refl)
+  touches_none {front = Some f} t new = let apart = at_region k f.object t.front_is.0.there (AreApart region) new in absurd (grind (arith, apart, t.front_is.1))
+  touches_none {front = None} {back = Some b} t new = let apart = at_region k b.object t.back_is.0.there (AreApart region) new in absurd (grind (arith, apart, t.back_is.1))
 
-  left : (P : Region → Type 0) → AllByRecursion P s → AllByRecursion P mid
-  left P all = subst (AllByRecursion P) (sym less.was) (all_without P less.front back less.back (subst (AllByRecursion P) less.is all))
+  pub adds_frees : {new : List Region} → Touches objects shown region None None → Adds region shown new → FreesRegion region shown new
+  adds_frees t adds = frees is t.each (adds_free adds)
 
-  away : AllByRecursion (AreApart back) mid
-  away =
-      let cut = cut_apart less.front back less.back (subst StandApart less.is apart) in
-      subst (AllByRecursion (AreApart back)) (sym less.was) (all_both (AreApart back) less.front less.back (all_map (λ x low. inr low) less.front cut.0) (all_map (λ x high. inl high) less.back cut.2))
+  -- with the one in front,
+  module _ {front : Found} (t : Touches objects shown region (Some front) None) where
+    pub front_fits : {out : Region} → object_at objects front.object ≡ Some out → FitsFor out (region_of front.region.start (front.region.length + region.length)) shown
+    front_fits {out} there =
+        let same : out ≡ front.region = cc (t.front_is.0.there) in
+        let at = t.front_is.1 in
+        rw same (covers_fits t.front_is.0.is_region (omega arith) (omega arith) (omega (arith, is.fits, at))
+        (all_three (λ x other ends near. grind (arith, at)) shown (others_apart k front.object t.front_is.0.there) t.back_is t.each))
 
-  both_beside : AllByRecursion (λ x. IsBeside both x × (x.start ≢ end_of both)) mid
-  both_beside = all_map lie mid (all_and _ _ mid away (all_and _ _ mid (left (IsBeside region) beside) (left IsRegion (all_regions s apart)))) where
-    lie : (x : Region) → AreApart back x × (IsBeside region x × IsRegion x) → IsBeside both x × (x.start ≢ end_of both)
-    lie x h = let some : 0 < x.length = h.1.1.some in let long : 0 < back.length = other.some in (grind arith, λ same. grind arith)
+    pub front_frees : {new : List Region} → ((out : Region) → object_at objects front.object ≡ Some out → Changes out (region_of front.region.start (front.region.length + region.length)) shown new)
+        → FreesRegion region shown new
+    front_frees resized = frees is t.each (λ a.
+        let c = changes_free (resized front.region t.front_is.0.there) a in (λ free. grind (arith, c, t.front_is.1), λ either. grind (arith, c, t.front_is.1)))
 
-  sum : front.length + region.length + back.length ≡ front.length + both.length
-  sum = add_assoc front.length region.length back.length
+  -- with the one behind,
+  module _ {back : Found} (t : Touches objects shown region None (Some back)) where
+    pub back_fits : {out : Region} → object_at objects back.object ≡ Some out → FitsFor out (region_of region.start (region.length + back.region.length)) shown
+    back_fits {out} there =
+        let same : out ≡ back.region = cc (t.back_is.0.there) in
+        let at = t.back_is.1 in
+        rw same (covers_fits t.back_is.0.is_region (omega (arith, at)) (omega (arith, at)) (omega (arith, t.back_is.0.is_region.fits, at))
+        (all_three (λ x other starts near. grind (arith, at, is.some)) shown (others_apart k back.object t.back_is.0.there) t.front_is t.each))
 
-  pub both_fit : AllByRecursion (IsOrApart front) s → FitsFor front (region_of front.start (front.length + region.length + back.length)) mid
-  both_fit others = subst (λ (n : ℕ). FitsFor front (region_of front.start n) mid) (sym sum)
-      (front_fits both_region mid (all_map (λ x h. h.0) mid both_beside) (left IsRegion (all_regions s apart)) own at (left (IsOrApart front) others) (all_map (λ x h. h.1) mid both_beside))
+    pub back_frees : {new : List Region} → ((out : Region) → object_at objects back.object ≡ Some out → Changes out (region_of region.start (region.length + back.region.length)) shown new)
+        → FreesRegion region shown new
+    back_frees resized = frees is t.each (λ a.
+        let c = changes_free (resized back.region t.back_is.0.there) a in (λ free. grind (arith, c, t.back_is.1), λ either. grind (arith, c, t.back_is.1)))
 
-  pub both_frees : {new : List Region} → Changes front (region_of front.start (front.length + region.length + back.length)) mid new → FreesRegion region s new
-  both_frees {new} changes =
-      let joined = front_frees both_region mid (all_map (λ x h. h.0) mid both_beside) (left IsRegion (all_regions s apart)) own at (subst (λ (n : ℕ). Changes front (region_of front.start n) mid new) sum changes) in
-      record { is_region = is; was_taken = beside_not region s beside; free = λ a. frees_more (adds_free less a) (joined.free a) (swapped (has_joined region back both refl (sym to) (omega (arith, to)) a)) }
+  -- and with both, where the one behind is taken out first
+  module _ {front back : Found} (t : Touches objects shown region (Some front) (Some back)) (less : Objects Region) {mid : List Region}
+      (taken : (out : Region) → object_at objects back.object ≡ Some out → Adds out mid shown) (others : (p : Place) → p ≢ back.object → object_at less p ≡ object_at objects p) where
+    front_there : object_at less front.object ≡ Some front.region
+    front_there = others front.object (λ at.
+        let one : front.region ≡ back.region = cc (t.front_is.0.there, t.back_is.0.there, ap (object_at objects) at) in
+        omega (arith, ap (λ (r : Region). r.start) one, t.front_is.1, t.back_is.1, t.front_is.0.is_region.some, is.some)) ∙ t.front_is.0.there
 
--- CUT: the start of a region is taken, and `rest` addresses of it are left
-module _ {out : Region} (length rest : ℕ) (sum : length + rest ≡ out.length) where
-  -- what is taken, and what is left
-  has_parts : (a : ℕ) → Has out a ↔ (Has (region_of out.start length) a ⊎ Has (region_of (out.start + length) rest) a)
-  has_parts a = has_joined (region_of out.start length) (region_of (out.start + length) rest) out refl refl (omega (arith, sum)) a
+    adds : Adds back.region mid shown
+    adds = taken back.region t.back_is.0.there
 
-  left_not : (a : ℕ) → Has (region_of (out.start + length) rest) a → Has (region_of out.start length) a → ⊥
-  left_not a has taken = omega (arith, has.0, taken.1)
+    left : (P : Region → Type 0) → AllByRecursion P shown → AllByRecursion P mid
+    left P all = subst (AllByRecursion P) (sym adds.was) (all_without P adds.front back.region adds.back (subst (AllByRecursion P) adds.is all))
 
-  module _ {s new : List Region} (apart : StandApart s) where
-    pub cut_whole : rest ≡ 0 → Adds out new s → AllocatesRegion (region_of out.start length) s new
-    cut_whole none less = record {
-      was_free = λ a has. (adds_free less a).1 (inr ((has_parts a).1 (inl has)));
-      free = λ a. leaves_less (adds_free less a) (λ free. inl free, λ either. grind (arith, none)) (has_parts a)
-          (λ other has. others_not less.front out less.back (subst StandApart less.is apart) a (subst (λ (l : List Region). IsFree l a) less.was other) ((has_parts a).1 (inl has))) (left_not a);
-    }
+    away : AllByRecursion (AreApart back.region) mid
+    away = subst (AllByRecursion (AreApart back.region)) (sym adds.was) (others_away adds.front back.region adds.back (subst StandApart adds.is (shown_apart k)))
 
-    pub cut_part : Changes out (region_of (out.start + length) rest) s new → AllocatesRegion (region_of out.start length) s new
-    cut_part changes = record {
-      was_free = λ a has. (was_free changes a).1 (inr ((has_parts a).1 (inl has)));
-      free = λ a. leaves_less (was_free changes a) (is_free changes a) (has_parts a)
-          (λ other has. others_not changes.front out changes.back (subst StandApart changes.was apart) a other ((has_parts a).1 (inl has))) (left_not a);
-    }
+    pub both_fit : {out : Region} → object_at less front.object ≡ Some out → FitsFor out (region_of front.region.start (front.region.length + region.length + back.region.length)) mid
+    both_fit {out} there =
+        let same : out ≡ front.region = cc (front_there) in
+        let at = t.front_is.1 in
+        let to = t.back_is.1 in
+        rw same (covers_fits t.front_is.0.is_region (omega arith) (omega arith) (omega (arith, t.back_is.0.is_region.fits, at, to))
+        (all_three (λ x other apart near. grind (arith, at, to)) mid (left (IsOrApart front.region) (others_apart k front.object t.front_is.0.there)) away (left (IsBeside region) t.each)))
 
-  pub cut_fits : 0 < rest → IsRegion out → (s : List Region) → AllByRecursion (IsOrApart out) s → FitsFor out (region_of (out.start + length) rest) s
-  cut_fits some is s others = record {
-    is_region = record { some = some; fits = omega (arith, is.fits, sum) };
-    low = omega (arith, some, sum);
-    high = omega (arith, some);
-    apart = all_map fit s others;
-  } where
-    fit : (x : Region) → IsOrApart out x → (x ≡ out) ⊎ AreApart (region_of (out.start + length) rest) x
-    fit x h = grind (arith, sum)
+    pub both_frees : {new : List Region} → ((out : Region) → object_at less front.object ≡ Some out → Changes out (region_of front.region.start (front.region.length + region.length + back.region.length)) mid new)
+        → FreesRegion region shown new
+    both_frees resized = frees is t.each (λ a.
+        let c = changes_free (resized front.region front_there) a in let d = adds_free adds a in
+        (λ free. grind (arith, c, d, t.front_is.1, t.back_is.1), λ either. grind (arith, c, d, t.front_is.1, t.back_is.1)))
+
+-- CUT: the start of a region is taken, and the rest of it is left
+module _ {A B : Type 0} {objects : Objects Region} {w : TreeLinkOps A} {root : Option Place} {z : SumTable ℕ ℕ B} (k : Keeps objects w root z) {found : Found} (is : IsFound objects found)
+    (length : ℕ) (enough : length ≤ found.region.length) where
+  abbrev rest : Region
+  rest = region_of (found.region.start + length) (found.region.length - length)
+
+  cut_frees : {new : List Region} (front back : List Region) → shown_regions objects w root ≡ front ++ found.region ∷ back → ((a : ℕ) → IsFree new a ↔ (IsFree (front ++ back) a ⊎ Has rest a))
+      → AllocatesRegion (region_of found.region.start length) (shown_regions objects w root) new
+  cut_frees front back was left = rw was (record {
+    was_free = λ a has. (free_with front found.region back a).1 (inr (has.0, omega (arith, has.1, enough)));
+    free = λ a. let with = free_with front found.region back a in let not = others_not front found.region back (subst StandApart was (shown_apart k)) a in
+        (λ free. grind (arith, with, left a, not, enough), λ both. grind (arith, with, left a, enough));
+  })
+
+  pub cut_whole : {new : List Region} → found.region.length - length ≡ 0 → ((out : Region) → object_at objects found.object ≡ Some out → Adds out new (shown_regions objects w root))
+      → AllocatesRegion (region_of found.region.start length) (shown_regions objects w root) new
+  cut_whole none taken = let less = taken found.region is.there in cut_frees less.front less.back less.is (λ a. rw less.was (λ free. inl free, λ either. grind (arith, none)))
+
+  pub cut_part : {new : List Region} → ((out : Region) → object_at objects found.object ≡ Some out → Changes out rest (shown_regions objects w root) new)
+      → AllocatesRegion (region_of found.region.start length) (shown_regions objects w root) new
+  cut_part resized = let changes = resized found.region is.there in cut_frees changes.front changes.back changes.was (λ a. (changes_free changes a).1)
+
+  pub cut_fits : found.region.length - length ≢ 0 → {out : Region} → object_at objects found.object ≡ Some out → FitsFor out rest (shown_regions objects w root)
+  cut_fits some {out} there =
+      let same : out ≡ found.region = cc (is.there) in
+      let apart : AllByRecursion (λ x. (x ≡ found.region) ⊎ AreApart rest x) (shown_regions objects w root) = all_map (λ x other. grind (arith, enough)) (shown_regions objects w root) (others_apart k found.object is.there) in
+      let left : IsRegion rest = record { some = omega (arith, some); fits = omega (arith, is.is_region.fits, enough) } in
+      rw same (record { is_region = left; low = omega (arith, some, enough); high = omega (arith, some); apart = apart })
+
+-- the last of regions ends behind all, and the first starts in front of all
+last_ends : (front rest : List Region) (r : Region) → front ≡ rest ++ r ∷ [] → StandApart front → AllByRecursion (λ x. end_of x ≤ end_of r) front
+last_ends front rest r is apart =
+    let cut = cut_apart rest r [] (subst StandApart is apart) in rw is (all_both (λ x. end_of x ≤ end_of r) rest (r ∷ []) (all_map (λ x low. omega (arith, low)) rest cut.0) (omega arith, tt))
+
+first_starts : (back rest : List Region) (r : Region) → back ≡ r ∷ rest → StandApart back → AllByRecursion (λ x. r.start ≤ x.start) back
+first_starts back rest r is apart = rw is (omega arith, all_map (λ x high. omega (arith, high)) rest (subst StandApart is apart).1)
+
+module _ {objects : Objects Region} {regions : List Region} where
+  module _ {region : Region} (is : IsRegion region) (apart : StandApart regions) {low high : Option Found} (beside : AreNeighbors objects regions region.start low high) where
+    stand : StandApart beside.front × StandApart beside.back
+    stand = parts_apart beside.front beside.back (subst StandApart beside.cut apart)
+
+    none_ends : AllByRecursion (λ x. end_of x ≢ region.start) beside.front → AllByRecursion (λ x. end_of x ≢ region.start) regions
+    none_ends front = rw beside.cut (all_both (λ x. end_of x ≢ region.start) beside.front beside.back front (all_map (λ x above same. omega (arith, above, same)) beside.back beside.starts_above))
+
+    none_starts : AllByRecursion (λ x. x.start ≢ end_of region) beside.back → AllByRecursion (λ x. x.start ≢ end_of region) regions
+    none_starts back = rw beside.cut (all_both (λ x. x.start ≢ end_of region) beside.front beside.back (all_map (λ x below same. omega (arith, below, same, is.some)) beside.front beside.starts_below) back)
+
+    -- NONE IN FRONT reaches beyond the address,
+    front_clear : (below result : Option Found) → IsLast objects beside.front below → EndsBy below region.start (Ok result)
+        → AllByRecursion (λ x. end_of x ≤ region.start) beside.front × IsEnding objects regions region.start result
+    front_clear None None last ends = (rw last tt, none_ends (rw last tt))
+    front_clear (Some found) None last ends =
+        let all = last_ends beside.front last.1.0 found.region last.1.1 stand.0 in
+        (all_map (λ x low. omega (arith, low, ends)) beside.front all, none_ends (all_map (λ x low same. omega (arith, low, ends, same)) beside.front all))
+    front_clear below (Some found) last ends =
+        let last = subst (IsLast objects beside.front) ends.0 last in
+        (all_map (λ x low. omega (arith, low, ends.1)) beside.front (last_ends beside.front last.1.0 found.region last.1.1 stand.0), (last.0, ends.1))
+
+    -- and none behind starts before it
+    back_clear : (above result : Option Found) → IsFirst objects beside.back above → StartsFrom above (end_of region) (Ok result)
+        → AllByRecursion (λ x. end_of region ≤ x.start) beside.back × IsStarting objects regions (end_of region) result
+    back_clear None None first starts = (rw first tt, none_starts (rw first tt))
+    back_clear (Some found) None first starts =
+        let all = first_starts beside.back first.1.0 found.region first.1.1 stand.1 in
+        (all_map (λ x high. omega (arith, high, starts)) beside.back all, none_starts (all_map (λ x high same. omega (arith, high, starts, same)) beside.back all))
+    back_clear above (Some found) first starts =
+        let first = subst (IsFirst objects beside.back) starts.0 first in
+        (all_map (λ x high. omega (arith, high, starts.1)) beside.back (first_starts beside.back first.1.0 found.region first.1.1 stand.1), (first.0, starts.1))
+
+    -- THE REGIONS THAT TOUCH IT
+    pub touches : {front back : Option Found} → EndsBy low region.start (Ok front) → StartsFrom high (end_of region) (Ok back) → Touches objects regions region front back
+    touches {front} {back} ends starts =
+        let f = front_clear low front beside.below_is ends in
+        let b = back_clear high back beside.above_is starts in
+        let each = all_both (IsBeside region) beside.front beside.back (all_map (λ x low. grind arith) beside.front f.0) (all_map (λ x high. grind arith) beside.back b.0) in
+        record { each = subst (AllByRecursion (IsBeside region)) (sym beside.cut) each; front_is = f.1; back_is = b.1 }
+
+  -- the neighbor below an address has it if it ends behind it
+  last_free : {a : ℕ} {found : Found} {above : Option Found} → AreNeighbors objects regions a (Some found) above → a < end_of found.region → IsFree regions a
+  last_free {a} {found} beside less =
+      let rest = beside.below_is.1 in
+      let low = (all_back (λ x. x.start ≤ a) rest.0 (found.region ∷ []) (subst (AllByRecursion (λ x. x.start ≤ a)) rest.1 beside.starts_below)).0 in
+      rw beside.cut ((free_parts beside.front beside.back a).1 (inl (rw rest.1 ((free_with rest.0 found.region [] a).1 (inr (low, less))))))
+
+  -- THE ONE IN FRONT has an address of it, or the one behind
+  pub overlaps_front : {region : Region} {below above : Option Found} → AreNeighbors objects regions region.start below above → IsRegion region → (full : Bool) (error : FreeError)
+      → EndsBy below region.start (Err error) → IsRefused region (space_of regions full) error
+  overlaps_front {below = None} beside is full error ends = absurd ends
+  overlaps_front {region} {below = Some found} beside is full error ends = rw ends.0 (is, (region.start, (omega arith, omega (arith, is.some)), last_free beside ends.1))
+
+  pub overlaps_back : {region : Region} {below above : Option Found} → AreNeighbors objects regions region.start below above → IsRegion region → (full : Bool) (error : FreeError)
+      → StartsFrom above (end_of region) (Err error) → IsRefused region (space_of regions full) error
+  overlaps_back {above = None} beside is full error starts = absurd starts
+  overlaps_back {region} {above = Some found} beside is full error starts =
+      let first = beside.above_is in
+      let high = (subst (AllByRecursion (λ x. region.start < x.start)) first.1.1 beside.starts_above).0 in
+      let free = (free_with beside.front found.region first.1.0 found.region.start).1 (inr (omega arith, omega (arith, first.0.is_region.some))) in
+      rw starts.0 (is, (found.region.start, (omega (arith, high), starts.1), rw (beside.cut, first.1.1) free))
+
+  -- WHETHER AN ADDRESS IS FREE, the neighbor below it tells
+  module _ (a : ℕ) {above : Option Found} where
+    pub free_there : StandApart regions → {found : Found} → AreNeighbors objects regions a (Some found) above → IsFree regions a ↔ (a < end_of found.region)
+    free_there apart {found} beside =
+        let rest = beside.below_is.1 in
+        let ends = last_ends beside.front rest.0 found.region rest.1 (parts_apart beside.front beside.back (subst StandApart beside.cut apart)).0 in
+        (λ free. grind (arith, (free_parts beside.front beside.back a).0 (rw beside.cut at free), free_below beside.front (end_of found.region) a ends, free_above beside.back a a beside.starts_above), last_free beside)
+
+    pub none_below : AreNeighbors objects regions a None above → IsFree regions a → ⊥
+    none_below beside free = omega (arith, free_above beside.back a a beside.starts_above (rw (beside.cut, beside.below_is) at free))

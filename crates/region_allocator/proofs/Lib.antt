@@ -1,6 +1,3 @@
-pub mod Lists
 pub mod Apart
 pub mod Keeping
-pub mod Searching
-pub mod Touching
 pub mod Joining

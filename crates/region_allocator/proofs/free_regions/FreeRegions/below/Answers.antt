@@ -1,7 +1,7 @@
 use Rattle.std.proofs.Common.{refl}
 use Rattle.region_allocator.specs.Neighbors.{found_at}
 use Rattle.ic_link_ops.specs.Sequences.{first}
-use Rattle.region_allocator.proofs.Searching.{neighbors_are}
+use Rattle.region_allocator.proofs.Keeping.{neighbors_are}
 use Rattle.region_allocator.proofs.free_regions.FreeRegions.below.Goals as goal
 
 pub returns : goal.returns

@@ -1,43 +1,28 @@
-use Rattle.region_allocator.proofs.Keeping.{kept_fresh, rooms, members_consistent}
-use Rattle.region_allocator.proofs.Searching.{first_found}
+use Rattle.std.proofs.Common.{rules}
+use Rattle.region_allocator.proofs.Keeping.{kept_fresh, rooms, members_consistent, first_found}
 use Rattle.region_allocator.proofs.free_regions.FreeRegions.first_fit.Goals as goal
 
-pub refresh-requires : goal.refresh-requires
-refresh-requires g c =
-    let k = c.requires.kept in
-    record { shown = (k.by_start.sorted.members, k.by_start.sorted.shown); covered = rooms k }
+pub refresh-requires-clause-covered : goal.refresh-requires-clause-covered
+refresh-requires-clause-covered g c = rooms c.requires.kept
 
 pub first_greater-requires : goal.first_greater-requires
 first_greater-requires g c =
     let k = c.requires.kept in
     (k.by_start.sorted.members, (c.refresh.ensures.summed k.by_start.sorted.members (members_consistent k)).shows)
 
-pub returns-in-Some-clause-kept : goal.returns-in-Some-clause-kept
-returns-in-Some-clause-kept g c =
+pub returns-in-Some : goal.returns-in-Some
+returns-in-Some g c =
     let e = c.refresh.ensures in
-    let after = c.refresh.new.summed in
-    kept_fresh c.requires.kept after.links e.links after.sums e.join e.consistent
-
-pub returns-in-Some-clause-first : goal.returns-in-Some-clause-first
-returns-in-Some-clause-first g c =
-    let e = c.refresh.ensures in
-    let after = c.refresh.new.summed in
-    let k = kept_fresh c.requires.kept after.links e.links after.sums e.join e.consistent in
+    let k = kept_fresh c.requires.kept c.refresh.new.summed.links e.links c.refresh.new.summed.sums e.join e.consistent in
     let s = c.requires.kept.by_start.sorted.members in
     let summed = e.summed s (members_consistent c.requires.kept) in
-    rw (c.look_up.ensures, c.new.ensures) (first_found k c.args.length c.saturating_sub.result c.saturating_sub.ensures {s = s} summed.shows (c.in-Some.ensures s summed))
+    let first = first_found k c.args.length c.saturating_sub.result c.saturating_sub.ensures {s = s} summed.shows (c.in-Some.ensures s summed) in
+    record { kept = k; same = search rules; first = rw (c.look_up.ensures, c.new.ensures) first }
 
-pub returns-in-None-clause-kept : goal.returns-in-None-clause-kept
-returns-in-None-clause-kept g c =
+pub returns-in-None : goal.returns-in-None
+returns-in-None g c =
     let e = c.refresh.ensures in
-    let after = c.refresh.new.summed in
-    kept_fresh c.requires.kept after.links e.links after.sums e.join e.consistent
-
-pub returns-in-None-clause-first : goal.returns-in-None-clause-first
-returns-in-None-clause-first g c =
-    let e = c.refresh.ensures in
-    let after = c.refresh.new.summed in
-    let k = kept_fresh c.requires.kept after.links e.links after.sums e.join e.consistent in
+    let k = kept_fresh c.requires.kept c.refresh.new.summed.links e.links c.refresh.new.summed.sums e.join e.consistent in
     let s = c.requires.kept.by_start.sorted.members in
     let summed = e.summed s (members_consistent c.requires.kept) in
-    first_found k c.args.length c.saturating_sub.result c.saturating_sub.ensures {s = s} summed.shows (c.in-None.ensures s summed)
+    record { kept = k; same = search rules; first = first_found k c.args.length c.saturating_sub.result c.saturating_sub.ensures {s = s} summed.shows (c.in-None.ensures s summed) }

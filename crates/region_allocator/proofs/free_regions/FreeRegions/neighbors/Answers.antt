@@ -1,6 +1,6 @@
 use Rattle.std.proofs.Common.{sym, subst}
 use Rattle.ic_rbtree.specs.PlainTrees.{PlainShows}
-use Rattle.region_allocator.proofs.Searching.{neighbors_are}
+use Rattle.region_allocator.proofs.Keeping.{neighbors_are}
 use Rattle.region_allocator.proofs.free_regions.FreeRegions.neighbors.Goals as goal
 
 pub returns : goal.returns
