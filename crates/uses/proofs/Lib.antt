@@ -1,5 +1,4 @@
 pub mod Dealing
-pub mod Outcomes
 pub mod Pool
 pub mod RaceLemmas
 pub mod Retaining

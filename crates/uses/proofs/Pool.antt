@@ -26,8 +26,7 @@ refused_more {old} were p is gained = record {
   tried = were.tried ++ p ∷ [];
   row = let c = were.count_is in row_more 0 were.tried p were.row (omega (arith, is, c));
   count_is = let n = length_push were.tried p in let c = were.count_is in omega (arith, n, c);
-  gained = gained ∙ (ap (λ (es : List Event). es ++ event (Claim p) 1 ∷ []) were.gained
-      ∙ (append_assoc old (refusals were.tried) (event (Claim p) 1 ∷ []) ∙ ap (λ (es : List Event). old ++ es) (sym (refusals_more were.tried p))));
+  gained = gained ∙ rw (were.gained, refusals_more were.tried p) (append_assoc old (refusals were.tried) (event (Claim p) 1 ∷ []));
 }
 
 -- who held the same and then one more holds one more

@@ -27,13 +27,12 @@ abbrev both : Place → List Event → List Event → Bool → Bool → List (Li
 both p a b x y = with_claim a p x ∷ with_claim b p y ∷ []
 
 module _ (words : List ℕ) (p : Place) (a b : List Event) (a_free : holds p a ≡ false) (b_free : holds p b ≡ false) where
-  -- where both were refused, nobody holds the place,
+  -- where both were refused, nobody holds the place, and each record ends with a claim that was refused
   nobody : (h : ℕ) → holds p (record_at (both p a b false false) h) ≡ false
   nobody zero = told_is_held a p false a_free
   nobody (suc zero) = told_is_held b p false b_free
   nobody (suc (suc h)) = refl
 
-  -- and each record ends with a claim that was refused
   refused : (h : ℕ) (r : List Event) (e : Event) → record_at (both p a b false false) h ≡ r ++ e ∷ [] → event (Claim p) 1 ≡ e
   refused zero r e is = same_last a r (event (Claim p) 1) e is
   refused (suc zero) r e is = same_last b r (event (Claim p) 1) e is
@@ -43,8 +42,7 @@ module _ (words : List ℕ) (p : Place) (a b : List Event) (a_free : holds p a �
   just_one true false one = refl
   just_one false true one = refl
   just_one true true one =
-      let same : 0 ≡ 1 = one.apart 0 1 p (told_is_held a p true a_free) (told_is_held b p true b_free) in
-      absurd (omega (arith, same))
+      let same : 0 ≡ 1 = one.apart 0 1 p (told_is_held a p true a_free) (told_is_held b p true b_free) in absurd (omega (arith, same))
   just_one false false one =
       let last = last_step words (both p a b false false) one 0 a (event (Claim p) 1) refl in
       let is : event (Claim p) 1 ≡ last.event = refused last.holder last.before last.event last.is in
@@ -52,15 +50,14 @@ module _ (words : List ℕ) (p : Place) (a b : List Event) (a_free : holds p a �
       absurd (true≢false (sym held.1 ∙ nobody held.0))
 
 -- two holders of the claims, before and after their claims, and all holders as an audit leaves them
-module _ {A : Type 0} (claims : Claims A) (p : Place) (a b a' b' : Holder) (x y : Bool) (one : HasClaimed claims p a a' x) (two : HasClaimed claims p b b' y)
+module _ {A : Type 0} {claims : Claims A} {p : Place} {a b a' b' : Holder} {x y : Bool} (one : HasClaimed claims p a a' x) (two : HasClaimed claims p b b' y)
     (a_free : holds p (record_of a) ≡ false) (b_free : holds p (record_of b) ≡ false) (items : List Holder) (same : map record_of items ≡ record_of a' ∷ record_of b' ∷ []) where
   records : map record_of items ≡ both p (record_of a) (record_of b) x y
   records = same ∙ (λ i. one.step i ∷ two.step i ∷ [])
 
   pub told_to_one : holders_of claims ≡ 2 → (length items ≡ holders_of claims → AreWholeList claims (map record_of items)) → y ≡ not x
   told_to_one all whole =
-      let counted : length items ≡ 2 = sym (length-map items record_of) ∙ ap length records in
-      let list = whole (counted ∙ sym all) in
+      let list = whole (sym (length-map items record_of) ∙ ap length records ∙ sym all) in
       just_one list.words p (record_of a) (record_of b) a_free b_free x y (subst (IsOneList list.words) records list.one)
 
   pub held_as_told : map (λ h. holds p (record_of h)) items ≡ x ∷ y ∷ []

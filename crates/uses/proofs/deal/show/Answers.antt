@@ -2,8 +2,9 @@ use Rattle.std.proofs.Common.{◌≡◌, inl, inr, [], ◌∙◌}
 use Rattle.std.proofs.lemmas.Result.{on_ok_weaker}
 use Rattle.ic_link_ops.specs.LinkedList.{next_of}
 use Rattle.ic_chain.specs.Iter.{objects_left}
+use Rattle.ic_link_ops.proofs.BothEnds.{from_front_map, from_back_map}
 use Rattle.ic_link_ops.proofs.WalkLaws.{two_ended_walk}
-use Rattle.uses.proofs.Dealing.{all_viewed, fronts_kept, backs_kept}
+use Rattle.uses.proofs.Dealing.{gained_is}
 use Rattle.uses.proofs.deal.show.Goals as goal
 
 pub returns-clause-shows : goal.returns-clause-shows
@@ -12,11 +13,5 @@ returns-clause-shows g c s shown =
     let e = c.in_turns.ensures.dealt in
     on_ok_weaker c.in_turns.result (λ over.
     let none : left e.0 ≡ [] = elim over.2 [ inl gives ↦ gives.0.0 | inr gives ↦ gives.0.0 ] in
-    all_viewed _ _ (λ x. x.now) e.1
+    rw (gained_is _ _ _ e.1.at_fronts, gained_is _ _ _ e.1.at_backs, from_front_map _ e.1.items, from_back_map _ e.1.items)
     (two_ended_walk left c.iter.result e.0 e.1.items e.1.leads none ∙ c.iter.ensures.walks s shown)) e.2
-
-pub returns-clause-fronts_keep : goal.returns-clause-fronts_keep
-returns-clause-fronts_keep g c = fronts_kept _ _ c.in_turns.ensures.dealt.1
-
-pub returns-clause-backs_keep : goal.returns-clause-backs_keep
-returns-clause-backs_keep g c = backs_kept _ _ c.in_turns.ensures.dealt.1

@@ -8,10 +8,6 @@ use Rattle.ic_chain.specs.Iter.{objects_left}
 use Rattle.ic_linked_list.proofs.ListedValues.{has_covered, has_pushed, has_all, has_first, has_taken}
 use Rattle.uses.proofs.first_objects.first_objects.Goals as goal
 
-pub push_back-requires-clause-shown : goal.push_back-requires-clause-shown
-push_back-requires-clause-shown g c =
-    let has = has_covered c.in_ok-object.ensures.keeps.entries c.loop-value.invariant in (has.members, has.shown)
-
 pub loop-value-preserved : goal.loop-value-preserved
 loop-value-preserved g c =
     has_pushed _ _ (has_covered c.in_ok-object.ensures.keeps.entries c.loop-value.invariant) c.in_ok-object.ensures.placed c.push_back.ensures.inserted c.push_back.ensures.acquired c.push_back.ensures.refused

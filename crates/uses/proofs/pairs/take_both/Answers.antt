@@ -1,10 +1,9 @@
-use Rattle.std.proofs.Common.{◌≡◌, Option, Some, None, IfNone, true, false, is_some, sym, ◌∙◌, rules}
+use Rattle.std.proofs.Common.{◌≡◌, Option, arith, IfNone, false, is_some, sym, ◌∙◌, rules}
 use Rattle.uses.proofs.pairs.take_both.Goals as goal
 
 -- what an answer that is none says
 none_says : {A P : Type 0} (r : Option A) → is_some r ≡ false → IfNone r P → P
-none_says None e h = h
-none_says (Some x) e h = let never : true ≡ false = e in absurd (cc)
+none_says r e h = grind arith
 
 pub returns-clause-released : goal.returns-clause-released
 returns-clause-released g c =

@@ -9,8 +9,8 @@ use Rattle.uses.proofs.retain.retain.Given as goal
 abbrev pub invariant-loop-object : goal.invariant-loop-object
 invariant-loop-object g l = record {
   borrows : SameBorrows l.initial.cursor l.cursor;
-  shown : (s : List Place) × Shows g.L.LinkedListOps.neighbors (g.L.LinkOps.table l.fn.links) l.fn.list s;
-  retains : (ahead : List Place) × Retains g.L.LinkedListOps.neighbors g.L.LinkOps.table g.L.LinkOps.Does l.objects (FnReturnsAt g.F.Fn l.keeps) l.fn.links shown.0 (site_of (λ list. list) (λ at. at) l.cursor) ahead;
+  retains : (s : List Place) → Shows g.L.LinkedListOps.neighbors (g.L.LinkOps.table l.fn.links) l.fn.list s
+      → (ahead : List Place) × Retains g.L.LinkedListOps.neighbors g.L.LinkOps.table g.L.LinkOps.Does l.objects (FnReturnsAt g.F.Fn l.keeps) l.fn.links s (site_of (λ list. list) (λ at. at) l.cursor) ahead;
 }
 
 abbrev pub decreases-loop-object : goal.decreases-loop-object
