@@ -1,14 +1,15 @@
--- What slots keep over each of their calls.
+-- What slots keep over each of their calls, and what a change of one slot says of the handles.
 use Rattle.std.specs.Prelude.{⊤}
-use Rattle.std.proofs.Common.{◌≡◌, ◌≢◌, ℕ, ◌+◌, ◌-◌, ◌≤◌, ◌<◌, cond, List, [], ◌∷◌, ◌++◌, drop, length, Option, Some, None, IsSome, is_some, inl, inr, refl, sym, ap, subst, ◌∙◌, arith, length-append, true≢false}
-use Rattle.std.proofs.lemmas.Bool.{eqb-false, lt-leb, le-leb}
+use Rattle.std.proofs.Common.{◌≡◌, ◌≢◌, ℕ, ◌+◌, ◌-◌, ◌≤◌, ◌<◌, true, false, cond, List, [], ◌∷◌, ◌++◌, drop, length, Option, Some, None, IsSome, is_some, inl, inr, refl, sym, ap, subst, ◌∙◌, arith, length-append, true≢false}
+use Rattle.std.proofs.lemmas.Bool.{cases_eq, eqb-false, le-leb}
 use Rattle.std.proofs.lemmas.Bool.Decides.{nat_tests}
+use Rattle.std.specs.FinMap as map
 use Rattle.std.specs.List.{AllByRecursion}
 use Rattle.ic_unsafe_ref.specs.declared.place.Place.{Place}
 use Rattle.ic_unsafe_ref.specs.Places.{index_of}
 use Rattle.ic_unsafe_ref.specs.Objects.{Objects, Places, object_at, with_object}
-use Rattle.ic_unsafe_ref.proofs.PlaceLemmas.{same_or_not}
-use Rattle.ic_unsafe_ref.proofs.Placing.{Puts, put_there, put_others, still_placed, placed_puts, exchanged_puts}
+use Rattle.ic_unsafe_ref.proofs.PlaceLemmas.{same_index, same_or_not}
+use Rattle.ic_unsafe_ref.proofs.Placing.{Puts, put_there, put_beside, put_others, placed_there, still_placed, placed_puts, exchanged_puts}
 use Rattle.ic_link_ops.specs.declared.one_word.OneWord.{OneWord}
 use Rattle.ic_link_ops.specs.declared.table.PlainTable.{PlainTable}
 use Rattle.ic_link_ops.specs.EntryLaws.{linked_in_range}
@@ -31,8 +32,60 @@ use Rattle.ic_container.proofs.RowLemmas.{alone_none, alone_others, housed_joine
 use Rattle.pool_uses.specs.declared.slots.Handle.{Handle}
 use Rattle.pool_uses.specs.declared.slots.Slot.{Slot}
 use Rattle.pool_uses.specs.KeptSlots.{is_linked, successor, plain_table, members_of, value_in, vacant_home, home_with, taken_home, taken_with, IsTaken, naming_of, IsCounted, IsKept}
-use Rattle.pool_uses.specs.Slots.{named_in, IsUsable, HasVacant, Inserts, Removes}
-use Rattle.pool_uses.proofs.NamingHandles.{inserts_filled, named_slot, removes}
+use Rattle.pool_uses.specs.Slots.{Naming, named, is_given, named_in, given_in, is_last, IsUsable, HasVacant, Inserts, Removes}
+
+same_handle : (h k : Handle) → index_of h.place ≡ index_of k.place → h.generation ≡ k.generation → h ≡ k
+same_handle h k e f = λ i. record { place = same_index h.place k.place e i; generation = f i }
+
+module _ {T : Type 0} where
+  -- what a handle names is the value of its slot
+  pub named_slot : (o : Option (Slot T)) (g : ℕ) {value : T} → Some value ≡ named_in o g → (slot : Slot T) × (o ≡ Some slot) × (slot.generation ≡ g) × (slot.value ≡ Some value)
+  named_slot None g is = absurd (cc)
+  named_slot (Some slot) g is = (slot, refl, grind (arith, nat_tests), grind (arith, nat_tests))
+
+  -- of every other handle is said what was, if that is so of the other generations of the slot that has changed
+  others_said : {old new : Objects (Slot T)} (handle : Handle) {was : Option (Slot T)} {now : Slot T} (m n : ℕ) → object_at old handle.place ≡ was → Puts old new handle.place now
+      → ((k : ℕ) → k ≢ handle.generation → (named_in (Some now) k ≡ named_in was k) × (given_in (Some now) k ≡ given_in was k))
+      → (h : Handle) → h ≢ handle → (named (naming_of new n) h ≡ named (naming_of old m) h) × (is_given (naming_of new n) h ≡ is_given (naming_of old m) h)
+  others_said {old} {new} handle {was} {now} m n there puts alike h other = elim (cases_eq (index_of h.place) (index_of handle.place)) [
+    | inl same ↦ rw (ap (map.get new.values) same ∙ put_there puts, ap (map.get old.values) same ∙ there) (alike h.generation (λ e. other (same_handle h handle same e)))
+    | inr apart ↦ rw (put_beside puts (index_of h.place) apart) (refl, refl)
+  ]
+
+  -- A SLOT IS PLACED with a value,
+  pub inserts_new : {old new : Objects (Slot T)} (p : Place) {value : T} (len : ℕ) → Places old new p (record { generation = 0; value = Some value })
+      → Inserts (record { place = p; generation = 0 }) value (naming_of old len) (naming_of new (len + 1))
+  inserts_new p {value} len places = record {
+    never = ap (λ s. given_in s 0) places.vacant;
+    nothing = ap (λ s. named_in s 0) places.vacant;
+    names = ap (λ s. named_in s 0) (placed_there places);
+    given = ap (λ s. given_in s 0) (placed_there places);
+    others = others_said (record { place = p; generation = 0 }) len (len + 1) places.vacant (placed_puts places) (λ k n. grind (arith, nat_tests));
+    count = refl;
+  }
+
+  module _ {old new : Objects (Slot T)} (handle : Handle) {was : Slot T} (len : ℕ) (there : object_at old handle.place ≡ Some was) (is : was.generation ≡ handle.generation) where
+    -- or is filled
+    pub inserts_filled : {value : T} → Puts old new handle.place (record was { value = Some value }) → was.value ≡ None → Inserts handle value (naming_of old len) (naming_of new (len + 1))
+    inserts_filled {value} puts none = record {
+      never = rw there (grind (arith, nat_tests));
+      nothing = rw there (grind (arith, nat_tests));
+      names = rw (put_there puts) (grind (arith, nat_tests));
+      given = rw (put_there puts) (grind (arith, nat_tests));
+      others = others_said handle len (len + 1) there puts (λ k n. grind (arith, nat_tests));
+      count = refl;
+    }
+
+    -- THE HANDLE IS OLD where the slot is emptied: its next generation is not given out yet
+    pub removes : Puts old new handle.place (record { generation = was.generation + 1; value = None }) → 1 ≤ len → (is_last handle ≡ false → HasVacant (naming_of new (len - 1)))
+        → Removes handle (naming_of old len) (naming_of new (len - 1))
+    removes puts some left = record {
+      given = rw (put_there puts) (grind (arith, nat_tests));
+      nothing = rw (put_there puts) (grind (arith, nat_tests));
+      others = others_said handle len (len - 1) there puts (λ k n. grind (arith, nat_tests));
+      count = omega (arith, some);
+      vacant = left;
+    }
 
 -- how slots read their table
 pub slot_reading : {K A : Type 0} → Reading {L = PlainTable (OneWord K) A ⊤} (Shows successor) is_linked (list_from None) plain_table members_of
@@ -45,14 +98,11 @@ module _ {T : Type 0} where
   -- a slot is at home in the list exactly if it can have a value
   usable_home : (o : Option (Slot T)) → IsUsable o → home_or vacant_home o ≡ Some 0
   usable_home None can = absurd can
-  usable_home (Some slot) can = rw (can.0, lt-leb 18446744073709551615 slot.generation can.1) refl
+  usable_home (Some slot) can = grind (arith, nat_tests)
 
-  home_tells : (v : Option T) (g : ℕ) → home_with v g ≡ Some 0 → (v ≡ None) × (g < 18446744073709551615)
-  home_tells v g is = grind (arith, nat_tests)
-
-  home_usable : (o : Option (Slot T)) → home_or vacant_home o ≡ Some 0 → IsUsable o
+  home_usable : (o : Option (Slot T)) → home_or vacant_home o ≡ Some 0 → (slot : Slot T) × (o ≡ Some slot) × IsUsable (Some slot)
   home_usable None h = absurd (none_not 0 h)
-  home_usable (Some slot) h = home_tells slot.value slot.generation h
+  home_usable (Some slot) h = (slot, refl, grind (arith, nat_tests))
 
 -- what is at home nowhere is in no row
 absent_off : (home : Place → Option ℕ) (p : Place) → home p ≡ None → (i : ℕ) (s : List Place) → AllByRecursion (λ q. home q ≡ Some i) s → IsAbsent p s
@@ -131,10 +181,6 @@ module _ {T K A : Type 0} {objects : Objects (Slot T)} {links : PlainTable (OneW
     by [] member = absurd (member tt)
     by (p ∷ s) member = refl
 
-  -- which is a vacant slot
-  first_usable : {p : Place} → Some p ≡ first (members_of links vacant) → IsUsable (object_at objects p)
-  first_usable {p} is = home_usable (object_at objects p) (subst (AllByRecursion (λ q. home_or vacant_home (object_at objects q) ≡ Some 0)) (first_is members is) (k.holds.housed.own 0)).0
-
   -- AFTER THE TABLE HAS GROWN
   pub kept_grown : {grown : PlainTable (OneWord K) A ⊤} → Grows (plain_table links) (plain_table grown) → IsKept objects grown vacant len
   kept_grown {grown} grows = record { holds = holds_grown slot_reading k.holds grown grows; pooled = pooled_grown k.pooled grows; counted = k.counted }
@@ -155,10 +201,7 @@ module _ {T K A : Type 0} {objects : Objects (Slot T)} {links : PlainTable (OneW
       (fills : (s : Slot T) → object_at objects p ≡ Some s → (g ≡ s.generation) × (new ≡ with_object objects p (record s { value = Some value }))) where
     -- its slot, before
     first_vacant : (was : Slot T) × (object_at objects p ≡ Some was) × IsUsable (Some was)
-    first_vacant = by (object_at objects p) refl (first_usable (answer members shown)) where
-      by : (o : Option (Slot T)) → object_at objects p ≡ o → IsUsable o → (was : Slot T) × (object_at objects p ≡ Some was) × IsUsable (Some was)
-      by None e can = absurd can
-      by (Some was) e can = (was, e, can)
+    first_vacant = home_usable (object_at objects p) (subst (AllByRecursion (λ q. home_or vacant_home (object_at objects q) ≡ Some 0)) (first_is members (answer members shown)) (k.holds.housed.own 0)).0
 
     filled_puts : Puts objects new p (record first_vacant.0 { value = Some value })
     filled_puts = exchanged_puts (fills first_vacant.0 first_vacant.1).1
@@ -222,3 +265,24 @@ module _ {T K A : Type 0} {objects : Objects (Slot T)} {links : PlainTable (OneW
 
     pub emptied_handle : Removes h (naming_of objects len) (naming_of new (len - 1))
     emptied_handle = removes h len own.1 own.2 puts emptied_some (λ no. (h.place, emptied_usable (eqb-false (h.generation + 1) 18446744073709551615 no)))
+
+-- A HANDLE THAT IS OLD stays so, whatever is inserted and removed: it was given out, and names nothing
+pub record IsOld {T : Type 0} (slots : Naming T) (h : Handle) : Type 0 where
+  pub given : is_given slots h ≡ true
+  pub nothing : named slots h ≡ None
+
+module _ {T : Type 0} {old new : Naming T} {h handle : Handle} (is : IsOld old h) where
+  beside_old : h ≢ handle → (h ≢ handle → (named new h ≡ named old h) × (is_given new h ≡ is_given old h)) → IsOld new h
+  beside_old other stays = record { given = (stays other).1 ∙ is.given; nothing = (stays other).0 ∙ is.nothing }
+
+  pub old_inserts : {value : T} → Inserts handle value old new → IsOld new h
+  old_inserts did = beside_old (λ e. let never : false ≡ true = sym did.never ∙ ap (is_given old) (sym e) ∙ is.given in absurd (cc)) (did.others h)
+
+  pub old_removes : Removes handle old new → IsOld new h
+  old_removes did = elim (cases_eq (index_of h.place) (index_of handle.place)) [
+    | inl e ↦ elim (cases_eq h.generation handle.generation) [
+      | inl f ↦ let same = same_handle h handle e f in record { given = ap (is_given new) same ∙ did.given; nothing = ap (named new) same ∙ did.nothing }
+      | inr n ↦ beside_old (λ same. n (ap (λ x. x.generation) same)) (did.others h)
+    ]
+    | inr n ↦ beside_old (λ same. n (ap (λ x. index_of x.place) same)) (did.others h)
+  ]

@@ -1,6 +1,7 @@
 -- What a step says of those that wait.
-use Rattle.std.proofs.Common.{◌≡◌, ◌≢◌, ℕ, ◌^◌, leb, ◌<◌, true, false, Option, Some, None, IsSome, is_some, List, [], ◌∷◌, ◌++◌, map, drop, inl, inr, refl, sym, ap, subst, ◌∙◌, true≢false}
+use Rattle.std.proofs.Common.{◌≡◌, ◌≢◌, ℕ, ◌^◌, leb, ◌<◌, true, false, Option, Some, None, IsSome, is_some, List, [], ◌∷◌, ◌++◌, map, drop, arith, append_assoc, append-nil, inl, inr, refl, sym, ap, subst, ◌∙◌, true≢false}
 use Rattle.std.proofs.lemmas.Bool.Decides.{leb_tells}
+use Rattle.std.proofs.lemmas.List.{map_push}
 use Rattle.std.proofs.lemmas.List.Elements.{filter_map-append}
 use Rattle.std.specs.List.{AllByRecursion, cons_option}
 use Rattle.std.specs.Ordering.{nat_cmp}
@@ -9,6 +10,7 @@ use Rattle.ic_unsafe_ref.specs.Objects.{Objects, Places, Frees, object_at, is_pl
 use Rattle.ic_unsafe_ref.proofs.Placing.{placed_there, others_placed, others_left}
 use Rattle.ic_link_ops.specs.PlacedObjects.{values_at}
 use Rattle.ic_link_ops.specs.Sequences.{first, IsAbsent, IsDistinct}
+use Rattle.ic_link_ops.proofs.Each.{all_both}
 use Rattle.ic_link_ops.proofs.PlacedValues.{vacant_absent}
 use Rattle.ic_link_ops.proofs.SequenceLemmas.{distinct_middle, first_is}
 use Rattle.ic_pool.specs.Pooled.{Grows}
@@ -22,7 +24,7 @@ use Rattle.ic_container.proofs.TreeLemmas.{all_distinct, all_stand, all_values, 
 use Rattle.scheduler.specs.Timers.{due, is_due}
 use Rattle.pool_uses.specs.declared.timers.Timer.{Timer}
 use Rattle.pool_uses.specs.KeptTimers.{deadline_of, waiting_of, waiting_at, waiting_in, timetable_of}
-use Rattle.pool_uses.specs.Timers.{Waiting, timer_of, deadlines, NamesNone, Adds, Cancels, TakesFirst}
+use Rattle.pool_uses.specs.Timers.{Waiting, timer_of, deadlines, NamesNone, Adds, Cancels, TakesFirst, TakesAll, taken_out}
 
 module _ {V : Type 0} (objects : Objects (Timer V)) where
   -- what waits at the members of a sequence that is cut
@@ -31,17 +33,12 @@ module _ {V : Type 0} (objects : Objects (Timer V)) where
 
   waiting_split : (front : List Place) (p : Place) (back : List Place) {timer : Timer V} → object_at objects p ≡ Some timer
       → waiting_at objects (front ++ p ∷ back) ≡ waiting_at objects front ++ timer_of p timer.deadline timer.value ∷ waiting_at objects back
-  waiting_split front p back there =
-      waiting_join front (p ∷ back) ∙ ap (λ (o : Option (Timer V)). waiting_at objects front ++ cons_option (waiting_of p o) (waiting_at objects back)) there
+  waiting_split front p back there = waiting_join front (p ∷ back) ∙ rw there refl
 
   -- their deadlines are those of the timers there
   deadlines_are : (s : List Place) → deadlines (waiting_at objects s) ≡ map deadline_of (values_at objects s)
   deadlines_are [] = refl
-  deadlines_are (p ∷ s) = by (object_at objects p) (deadlines_are s) where
-    by : (o : Option (Timer V)) → deadlines (waiting_at objects s) ≡ map deadline_of (values_at objects s)
-        → deadlines (cons_option (waiting_of p o) (waiting_at objects s)) ≡ map deadline_of (cons_option o (values_at objects s))
-    by None rest = rest
-    by (Some timer) rest = ap (λ (l : List ℕ). timer.deadline ∷ l) rest
+  deadlines_are (p ∷ s) = let rest = deadlines_are s in grind arith
 
   -- what holds of each member holds of what waits there
   all_waiting : (P : Place → Type 0) (Q : Waiting V → Type 0) → ((p : Place) (timer : Timer V) → object_at objects p ≡ Some timer → P p → Q (timer_of p timer.deadline timer.value))
@@ -123,3 +120,22 @@ module _ {V A : Type 0} {objects : Objects (Timer V)} {links : TreeLinkOps A} {r
     rises = rises;
     fresh = vacant_named p (ap is_some places.vacant);
   }
+
+-- TIMERS THAT ARE DUE are taken out, one after another
+module _ {V : Type 0} {now : ℕ} {had : List (ℕ × V)} where
+  -- at first none is taken,
+  pub takes_none : (start : List (Waiting V)) → TakesAll now had had start start
+  takes_none start = record { taken = []; were = refl; due = tt; out = sym (append-nil had) }
+
+  -- and then the first of those that wait still
+  pub takes_one : {has more : List (ℕ × V)} {start old new : List (Waiting V)} {deadline : ℕ} {value : V} → TakesAll now had has start old → TakesFirst now deadline value old new
+      → more ≡ has ++ (deadline, value) ∷ [] → TakesAll now had more start new
+  takes_one {new = new} {deadline} {value} k one is =
+      let timer : Waiting V = timer_of one.reference deadline value in
+      record {
+        taken = k.taken ++ timer ∷ [];
+        were = k.were ∙ ap (λ (l : List (Waiting V)). k.taken ++ l) one.first ∙ sym (append_assoc k.taken (timer ∷ []) new);
+        due = all_both _ k.taken (timer ∷ []) k.due (one.due, tt);
+        out = is ∙ ap (λ (l : List (ℕ × V)). l ++ (deadline, value) ∷ []) k.out ∙ append_assoc had (taken_out k.taken) ((deadline, value) ∷ [])
+            ∙ ap (λ (l : List (ℕ × V)). had ++ l) (sym (map_push (λ (w : Waiting V). (w.deadline, w.value)) k.taken timer));
+      }

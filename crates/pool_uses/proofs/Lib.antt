@@ -1,4 +1,2 @@
-pub mod NamingHandles
 pub mod KeepingSlots
 pub mod KeepingTimers
-pub mod TakingAll

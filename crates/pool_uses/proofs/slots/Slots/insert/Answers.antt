@@ -1,6 +1,5 @@
 use Rattle.std.proofs.Common.{is_some, ap, ◌∙◌, arith}
-use Rattle.pool_uses.proofs.KeepingSlots.{few, filled, filled_handle, first_of_vacant, kept_grown, kept_placed, shown}
-use Rattle.pool_uses.proofs.NamingHandles.{inserts_new}
+use Rattle.pool_uses.proofs.KeepingSlots.{few, filled, filled_handle, first_of_vacant, inserts_new, kept_grown, kept_placed, shown}
 use Rattle.pool_uses.proofs.slots.Slots.insert.Goals as goal
 
 pub pop_front-requires : goal.pop_front-requires
@@ -23,18 +22,16 @@ returns-in-Some-clause-inserted g c =
 -- there is none, and no place or no memory
 pub invariant_of-self-in-Err-NoPlaceLeft : goal.invariant_of-self-in-Err-NoPlaceLeft
 invariant_of-self-in-Err-NoPlaceLeft g c =
-    let none = c.in_default.ensures.empty in
     let e = rw c.in-Err-NoPlaceLeft.field-0-is at c.in-Err-NoPlaceLeft.ensures in
-    rw (e.refused.1, none.0) (kept_grown c.self.invariant (rw none.1 at e.keeps))
+    rw (e.refused.1, c.in_default.ensures.empty.0) (kept_grown c.self.invariant (rw c.in_default.ensures.empty.1 at e.keeps))
 
 pub returns-in-Err-NoPlaceLeft-clause-ready : goal.returns-in-Err-NoPlaceLeft-clause-ready
 returns-in-Err-NoPlaceLeft-clause-ready g c can = let k = c.self.invariant in ap is_some (c.in_default.ensures.answer _ (shown k)) ∙ first_of_vacant k (rw (← c.self.view_is) at can)
 
 pub invariant_of-self-in-Err-OutOfMemory : goal.invariant_of-self-in-Err-OutOfMemory
 invariant_of-self-in-Err-OutOfMemory g c =
-    let none = c.in_default.ensures.empty in
     let e = rw c.in-Err-OutOfMemory.field-0-is at c.in-Err-OutOfMemory.ensures in
-    rw (e.refused.1, none.0) (kept_grown c.self.invariant (rw none.1 at e.keeps))
+    rw (e.refused.1, c.in_default.ensures.empty.0) (kept_grown c.self.invariant (rw c.in_default.ensures.empty.1 at e.keeps))
 
 pub returns-in-Err-OutOfMemory-clause-ready : goal.returns-in-Err-OutOfMemory-clause-ready
 returns-in-Err-OutOfMemory-clause-ready g c can = let k = c.self.invariant in ap is_some (c.in_default.ensures.answer _ (shown k)) ∙ first_of_vacant k (rw (← c.self.view_is) at can)
@@ -45,9 +42,8 @@ overflow_add-self-2 g c = omega (arith, few c.self.invariant.counted)
 
 pub invariant_of-self-2 : goal.invariant_of-self-2
 invariant_of-self-2 g c =
-    let none = c.in_default.ensures.empty in
     let e = c.in-Ok.ensures in
-    rw none.0 (kept_placed c.self.invariant (rw none.1 at e.keeps) e.placed e.covered)
+    rw c.in_default.ensures.empty.0 (kept_placed c.self.invariant (rw c.in_default.ensures.empty.1 at e.keeps) e.placed e.covered)
 
 pub returns-clause-inserted : goal.returns-clause-inserted
 returns-clause-inserted g c = rw (c.place-3.ensures, ← c.self.view_is) (inserts_new c.in-Ok.slot c.self.inside.len c.in-Ok.ensures.placed)

@@ -11,13 +11,11 @@ invariant_of-self g c =
     rw c.empty-value.ensures.links
     (kept_used_up c.self.invariant c.args.handle (rw (← c.self.view_is) at c.in_ok-get.ensures) (rw c.new-slot.ensures at c.empty-value.ensures.emptied) c.if-handle-eq18446744073709551615.true)
 
-pub returns-then-handle-eq18446744073709551615-clause-value : goal.returns-then-handle-eq18446744073709551615-clause-value
-returns-then-handle-eq18446744073709551615-clause-value g c =
-    rw (← c.self.view_is) (emptied_value c.self.invariant c.args.handle (rw (← c.self.view_is) at c.in_ok-get.ensures) (rw c.new-slot.ensures at c.empty-value.ensures.emptied))
-
-pub returns-then-handle-eq18446744073709551615-clause-removed : goal.returns-then-handle-eq18446744073709551615-clause-removed
-returns-then-handle-eq18446744073709551615-clause-removed g c =
-    rw (← c.self.view_is) (emptied_handle c.self.invariant c.args.handle (rw (← c.self.view_is) at c.in_ok-get.ensures) (rw c.new-slot.ensures at c.empty-value.ensures.emptied))
+pub returns-then-handle-eq18446744073709551615 : goal.returns-then-handle-eq18446744073709551615
+returns-then-handle-eq18446744073709551615 g c =
+    let is = rw (← c.self.view_is) at c.in_ok-get.ensures in
+    let empties = rw c.new-slot.ensures at c.empty-value.ensures.emptied in
+    rw (← c.self.view_is) (record { value = emptied_value c.self.invariant c.args.handle is empties; removed = emptied_handle c.self.invariant c.args.handle is empties; unchanged = tt })
 
 -- it is vacant, and goes to the front of the list
 pub push_front-requires-clause-shown : goal.push_front-requires-clause-shown
@@ -31,10 +29,8 @@ invariant_of-self-2 g c =
     let push = rw (c.new-slot.ensures, c.empty-value.ensures.links) at c.push_front.ensures in
     kept_vacated k c.args.handle is empties c.if-handle-eq18446744073709551615.false (joined_front _ (shown k) _ c.push_front.result (emptied_free k c.args.handle is empties) push.refused push.inserted push.acquired push.frame)
 
-pub returns-clause-value : goal.returns-clause-value
-returns-clause-value g c =
-    rw (← c.self.view_is) (emptied_value c.self.invariant c.args.handle (rw (← c.self.view_is) at c.in_ok-get.ensures) (rw c.new-slot.ensures at c.empty-value.ensures.emptied))
-
-pub returns-clause-removed : goal.returns-clause-removed
-returns-clause-removed g c =
-    rw (← c.self.view_is) (emptied_handle c.self.invariant c.args.handle (rw (← c.self.view_is) at c.in_ok-get.ensures) (rw c.new-slot.ensures at c.empty-value.ensures.emptied))
+pub returns : goal.returns
+returns g c =
+    let is = rw (← c.self.view_is) at c.in_ok-get.ensures in
+    let empties = rw c.new-slot.ensures at c.empty-value.ensures.emptied in
+    rw (← c.self.view_is) (record { value = emptied_value c.self.invariant c.args.handle is empties; removed = emptied_handle c.self.invariant c.args.handle is empties; unchanged = tt })

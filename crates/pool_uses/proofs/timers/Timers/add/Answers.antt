@@ -21,9 +21,6 @@ returns-in-Err-OutOfMemory-clause-refused g c =
 pub insert-requires-clause-lacks : goal.insert-requires-clause-lacks
 insert-requires-clause-lacks g c = let e = c.in-Ok.ensures in rw c.place-2.ensures (all_lacks deadline_of _ c.self.invariant c.place.new.self.links e.keeps e.placed)
 
-pub invariant_of-self-2 : goal.invariant_of-self-2
-invariant_of-self-2 g c = c.insert.ensures.all
-
 pub returns-clause-added : goal.returns-clause-added
 returns-clause-added g c =
     let e = c.in-Ok.ensures in

@@ -6,9 +6,6 @@ use Rattle.pool_uses.proofs.timers.Timers.cancel.Goals as goal
 pub returns-then-not-is_placed-clause-none : goal.returns-then-not-is_placed-clause-none
 returns-then-not-is_placed-clause-none g c = rw (← c.self.view_is) (vacant_named c.self.invariant c.args.timer.now (sym c.is_placed.ensures ∙ c.if-not-is_placed.true), refl)
 
-pub remove-requires : goal.remove-requires
-remove-requires g c = record { all = c.self.invariant; placed = rw c.place.ensures (sym c.is_placed.ensures ∙ c.if-not-is_placed.false) }
-
 pub invariant_of-self : goal.invariant_of-self
 invariant_of-self g c =
     let out = rw (c.new.ensures, c.place-2.ensures) at c.remove-timer.ensures in

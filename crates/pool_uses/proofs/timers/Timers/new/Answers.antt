@@ -1,4 +1,4 @@
-use Rattle.std.proofs.Common.{◌≡◌, ◌^◌, leb, [], ap}
+use Rattle.std.proofs.Common.{◌≡◌, [], ap}
 use Rattle.ic_rbtree.specs.Tree.{root_of}
 use Rattle.ic_rbtree.specs.PlainTrees.{plain_table, members_of}
 use Rattle.ic_rbtree.proofs.PlainTrees.{plain_members, plain_trees}
@@ -11,11 +11,7 @@ invariant_of-result g c =
     let pool = c.new-2.ensures in
     all_first deadline_of c.new-2.result.objects c.new-2.result.links (root_of c.new-4.result) (rw pool.links c.new.ensures) c.new-4.ensures.empty pool.vacant
 
-pub returns-clause-room : goal.returns-clause-room
-returns-clause-room g c = ap (leb (2 ^ 32)) c.new-2.ensures.first
-
 pub returns-clause-waiting : goal.returns-clause-waiting
 returns-clause-waiting g c =
-    let links = c.new-2.result.links in
-    let none : members_of links (root_of c.new-4.result) ≡ [] = plain_members links (rw c.new-4.ensures.empty (plain_trees.nothing (plain_table links))) in
+    let none : members_of c.new-2.result.links (root_of c.new-4.result) ≡ [] = plain_members c.new-2.result.links (rw c.new-4.ensures.empty (plain_trees.nothing (plain_table c.new-2.result.links))) in
     ap (waiting_at c.new-2.result.objects) none
