@@ -1,23 +1,27 @@
 -- Entries by their keys: the one of a key among others, and what is left without it.
-use Rattle.std.proofs.Common.{◌≡◌, ◌≢◌, ℕ, zero, suc, ◌+◌, ◌≤◌, Bool, true, false, not, eqb, Option, None, Some, List, [], ◌∷◌, ◌++◌, length, take, filter, refl, sym, ap, ◌∙◌, subst, arith, append-nil, cond, eq-eqb, eqb-true, length-append, ne_eqb}
+use Rattle.std.proofs.Common.{◌≡◌, ◌≢◌, ℕ, zero, suc, ◌+◌, ◌≤◌, Bool, true, false, not, eqb, Option, None, Some, List, [], ◌∷◌, ◌++◌, length, take, filter, refl, sym, ap, ◌∙◌, subst, arith, append-nil, cond, eq-eqb, eqb-true, length-append, ne_eqb, ◌-◌, IsSome, true≢false}
 use Rattle.std.proofs.lemmas.Bool.{eqb-false}
+use Rattle.std.proofs.lemmas.Bool.Decides.{nat_tests}
 use Rattle.std.proofs.lemmas.List.{take_all, take-append-le}
-use Rattle.std.proofs.lemmas.Option.{same_Some}
+use Rattle.std.proofs.lemmas.Option.{same_Some, slice_get_past}
 use Rattle.std.proofs.lemmas.List.Elements.{filter-append}
 use Rattle.std.proofs.lemmas.List.Folds.{find-append}
 use Rattle.std.specs.List.{AllByRecursion, slice_get}
 use Rattle.std.specs.Option.{option_or}
+use Rattle.ic_unsafe_ref.specs.declared.place.Place.{Place}
+use Rattle.ic_link_ops.specs.Positions.{object_there}
+use Rattle.ic_link_ops.proofs.PlacedValues.{from_each}
+use Rattle.ic_container.specs.Orders.{IsWhole}
+use Rattle.ic_container.specs.Trees.{IsFound}
+use Rattle.ic_container.proofs.ListedLemmas.{whole_value}
+use Rattle.ic_indexed.specs.Indexed.{IndexedOrder, order_in}
 use Rattle.ic_link_ops.proofs.SequenceLemmas.{none_not}
 use Rattle.ic_link_ops.proofs.Each.{all_back, all_both, all_map, all_without}
 use Rattle.ic_rbtree.proofs.KeyLaws.{filter_front, filter_pass}
 use Rattle.ic_container.specs.Values.{Without}
 use Rattle.lru_cache.specs.declared.entry.Entry.{Entry}
-use Rattle.lru_cache.specs.Kept.{oldest}
-use Rattle.lru_cache.specs.Cache.{Cache, key_of, has_key, entry_with, without, touched, inserted, leaves, HaveOwnKeys}
-
--- a key is itself
-pub itself : (k : ℕ) → eqb k k ≡ true
-itself k = eq-eqb k k refl
+use Rattle.lru_cache.specs.Kept.{oldest, entries_of, IsCounted}
+use Rattle.lru_cache.specs.Cache.{Cache, key_of, has_key, entry_with, without, touched, inserted, leaves, HaveOwnKeys, IsSound}
 
 module _ {V : Type 0} where
   -- none of them has the key
@@ -70,41 +74,32 @@ module _ {V : Type 0} where
       pub found_it : entry_with (key_of entry) entries ≡ Some entry
       found_it =
           ap (entry_with (key_of entry)) w.was ∙ find-append (has_key (key_of entry)) w.front (entry ∷ w.back)
-          ∙ ap (λ (o : Option (Entry V)). option_or o (entry_with (key_of entry) (entry ∷ w.back))) (found_none (key_of entry) w.front cut.0) ∙ rw (itself (key_of entry)) refl
+          ∙ ap (λ (o : Option (Entry V)). option_or o (entry_with (key_of entry) (entry ∷ w.back))) (found_none (key_of entry) w.front cut.0) ∙ rw (eq-eqb (key_of entry) (key_of entry) refl) refl
 
       -- the others are left without it,
       pub without_it : without (key_of entry) entries ≡ rest
       without_it =
           let test : Entry V → Bool = λ other. not (has_key (key_of entry) other) in
           ap (without (key_of entry)) w.was ∙ filter-append test w.front (entry ∷ w.back)
-          ∙ rw (without_none (key_of entry) w.front cut.0, itself (key_of entry), without_none (key_of entry) w.back cut.1) (sym w.is)
+          ∙ rw (without_none (key_of entry) w.front cut.0, eq-eqb (key_of entry) (key_of entry) refl, without_none (key_of entry) w.back cut.1) (sym w.is)
 
       -- and it goes in front of them
       pub touched_it : touched (key_of entry) entries ≡ entry ∷ rest
       touched_it =
           let first : filter (has_key (key_of entry)) entries ≡ entry ∷ [] =
           ap (filter (has_key (key_of entry))) w.was ∙ filter-append (has_key (key_of entry)) w.front (entry ∷ w.back)
-          ∙ rw (with_none (key_of entry) w.front cut.0, itself (key_of entry), with_none (key_of entry) w.back cut.1) refl in
+          ∙ rw (with_none (key_of entry) w.front cut.0, eq-eqb (key_of entry) (key_of entry) refl, with_none (key_of entry) w.back cut.1) refl in
           ap (λ (l : List (Entry V)). l ++ without (key_of entry) entries) first ∙ ap (λ (l : List (Entry V)). entry ∷ l) without_it
-
-  found_has : (key : ℕ) (entries : List (Entry V)) {entry : Entry V} → entry_with key entries ≡ Some entry → has_key key entry ≡ true
-  found_has key [] {entry} e = absurd (none_not entry e)
-  found_has key (x ∷ entries) {entry} e = by (has_key key x) refl e (found_has key entries) where
-    by : (b : Bool) → has_key key x ≡ b → cond b (Some x) (entry_with key entries) ≡ Some entry → (entry_with key entries ≡ Some entry → has_key key entry ≡ true) → has_key key entry ≡ true
-    by true h e rest = ap (has_key key) (sym (same_Some _ _ e)) ∙ h
-    by false h e rest = rest e
 
   -- WHAT IS FOUND has the key
   pub found_key : (key : ℕ) (entries : List (Entry V)) {entry : Entry V} → entry_with key entries ≡ Some entry → key_of entry ≡ key
-  found_key key entries {entry} e = eqb-true (key_of entry) key (found_has key entries e)
+  found_key key [] {entry} e = absurd (none_not entry e)
+  found_key key (x ∷ entries) {entry} e = grind (arith, nat_tests, found_key key entries {entry = entry})
 
   -- none is found where none has the key
   pub lack_found : (key : ℕ) (entries : List (Entry V)) → entry_with key entries ≡ None → Lack key entries
   lack_found key [] e = tt
-  lack_found key (x ∷ entries) e = by (has_key key x) refl e (lack_found key entries) where
-    by : (b : Bool) → has_key key x ≡ b → cond b (Some x) (entry_with key entries) ≡ None → (entry_with key entries ≡ None → Lack key entries) → Lack key (x ∷ entries)
-    by true h e rest = absurd (none_not x (sym e))
-    by false h e rest = (h, rest e)
+  lack_found key (x ∷ entries) e = (grind (arith, nat_tests), lack_found key entries (grind (arith, nat_tests)))
 
   -- THE OLDEST is the last
   pub oldest_last : (entries : List (Entry V)) {entry : Entry V} → oldest entries ≡ Some entry → (front : List (Entry V)) × (entries ≡ front ++ entry ∷ [])
@@ -125,17 +120,9 @@ module _ {V : Type 0} where
       s.1 ∙ ap (λ (l : List (Entry V)). l ++ entry ∷ []) (sym (without_it r own) ∙ without_it w own)
 
   -- WHICH ONE LEAVES: the one at the end of a full cache
-  slice_last : (entries : List (Entry V)) (n : ℕ) → length entries ≡ suc n → slice_get entries n ≡ oldest entries
-  slice_last [] n e = absurd (omega (arith, e))
-  slice_last (x ∷ []) zero e = refl
-  slice_last (x ∷ []) (suc n) e = absurd (omega (arith, e))
-  slice_last (x ∷ y ∷ entries) zero e = absurd (omega (arith, e))
-  slice_last (x ∷ y ∷ entries) (suc n) e = slice_last (y ∷ entries) n (omega (arith, e))
-
-  slice_past : (entries : List (Entry V)) (n : ℕ) → length entries ≤ n → slice_get entries n ≡ None
-  slice_past [] n h = refl
-  slice_past (x ∷ entries) zero h = absurd (omega (arith, h))
-  slice_past (x ∷ entries) (suc n) h = slice_past entries n (omega (arith, h))
+  slice_last : (x : Entry V) (entries : List (Entry V)) → slice_get (x ∷ entries) (length entries) ≡ oldest (x ∷ entries)
+  slice_last x [] = refl
+  slice_last x (y ∷ entries) = slice_last y entries
 
   -- the oldest one of a full cache, and else none
   abbrev pub oldest_of_full : Cache V → Option (Entry V)
@@ -143,8 +130,10 @@ module _ {V : Type 0} where
 
   slice_is : (entry : Entry V) (entries : List (Entry V)) (capacity : ℕ) (b : Bool) → eqb (length entries) capacity ≡ b → length entries ≤ capacity → capacity ≢ 0 → slice_get (entry ∷ entries) capacity ≡ cond b (oldest entries) None
   slice_is entry entries zero b e few some = absurd (some refl)
-  slice_is entry entries (suc n) true e few some = slice_last entries n (eqb-true _ _ e)
-  slice_is entry entries (suc n) false e few some = let apart = eqb-false _ _ e in slice_past entries n (omega (arith, few, apart))
+  slice_is entry [] (suc n) true e few some = let no = eqb-true _ _ e in absurd (omega (arith, no))
+  slice_is entry (x ∷ entries) (suc n) true e few some =
+      let is = eqb-true _ _ e in let same : n ≡ length entries = omega (arith, is) in ap (slice_get (x ∷ entries)) same ∙ slice_last x entries
+  slice_is entry entries (suc n) false e few some = let apart = eqb-false _ _ e in slice_get_past entries n (omega (arith, few, apart))
 
   module _ (entry : Entry V) (cache : Cache V) (own : HaveOwnKeys cache.entries) (few : length cache.entries ≤ cache.capacity) (some : cache.capacity ≢ 0) where
     pub leaves_is : leaves entry cache ≡ option_or (entry_with (key_of entry) cache.entries) (oldest_of_full cache)
@@ -154,19 +143,17 @@ module _ {V : Type 0} where
     module _ {gone : Entry V} {rest : List (Entry V)} (w : Without gone cache.entries rest) where
       pub inserted_for : Some gone ≡ option_or (entry_with (key_of entry) cache.entries) (oldest_of_full cache) → (entry ∷ rest ≡ inserted entry cache) × Lack (key_of entry) rest
       inserted_for leaving = by (entry_with (key_of entry) cache.entries) refl leaving where
-        full : (b : Bool) → eqb (length cache.entries) cache.capacity ≡ b → entry_with (key_of entry) cache.entries ≡ None → Some gone ≡ cond b (oldest cache.entries) None → (entry ∷ rest ≡ inserted entry cache) × Lack (key_of entry) rest
-        full false e none leaving = absurd (none_not gone (sym leaving))
-        full true e none leaving =
-            let lack = lack_found (key_of entry) cache.entries none in
-            let all = without_none (key_of entry) cache.entries lack ∙ without_oldest own w (sym leaving) in
-            let room : length (entry ∷ rest) ≡ cache.capacity = omega (arith, eqb-true _ _ e, length_rest w) in (
+        by : (o : Option (Entry V)) → entry_with (key_of entry) cache.entries ≡ o → Some gone ≡ option_or o (oldest_of_full cache) → (entry ∷ rest ≡ inserted entry cache) × Lack (key_of entry) rest
+        by None e leaving =
+            let last : oldest cache.entries ≡ Some gone = grind (arith, nat_tests) in
+            let full : length cache.entries ≡ cache.capacity = grind (arith, nat_tests) in
+            let lack = lack_found (key_of entry) cache.entries e in
+            let all = without_none (key_of entry) cache.entries lack ∙ without_oldest own w last in
+            let room : length (entry ∷ rest) ≡ cache.capacity = omega (arith, full, length_rest w) in (
               sym (take_all cache.capacity (entry ∷ rest) (omega (arith, room))) ∙ sym (take-append-le cache.capacity (entry ∷ rest) (gone ∷ []) (omega (arith, room)))
                   ∙ ap (λ (l : List (Entry V)). take cache.capacity (entry ∷ l)) (sym all),
               still_lack w (key_of entry) lack,
             )
-
-        by : (o : Option (Entry V)) → entry_with (key_of entry) cache.entries ≡ o → Some gone ≡ option_or o (oldest_of_full cache) → (entry ∷ rest ≡ inserted entry cache) × Lack (key_of entry) rest
-        by None e leaving = full (eqb (length cache.entries) cache.capacity) refl e leaving
         by (Some old) e leaving =
             let same = found_key (key_of entry) cache.entries (e ∙ sym leaving) in (
               sym (take_all cache.capacity (entry ∷ rest) (omega (arith, length_rest w, few))) ∙ ap (λ (l : List (Entry V)). take cache.capacity (entry ∷ l)) (sym (without_it w own) ∙ ap (λ (k : ℕ). without k cache.entries) same),
@@ -175,17 +162,91 @@ module _ {V : Type 0} where
 
     -- none leaves, and there is room for one more
     pub inserted_more : None ≡ option_or (entry_with (key_of entry) cache.entries) (oldest_of_full cache) → (entry ∷ cache.entries ≡ inserted entry cache) × (length cache.entries + 1 ≤ cache.capacity) × Lack (key_of entry) cache.entries
-    inserted_more leaving = by (entry_with (key_of entry) cache.entries) refl leaving where
-      full : (b : Bool) → eqb (length cache.entries) cache.capacity ≡ b → entry_with (key_of entry) cache.entries ≡ None → None ≡ cond b (oldest cache.entries) None
-          → (entry ∷ cache.entries ≡ inserted entry cache) × (length cache.entries + 1 ≤ cache.capacity) × Lack (key_of entry) cache.entries
-      full true e none leaving = absurd (some (sym (eqb-true _ _ e) ∙ ap length (oldest_none cache.entries (sym leaving))))
-      full false e none leaving =
-          let apart = eqb-false _ _ e in
-          let room : length cache.entries + 1 ≤ cache.capacity = omega (arith, few, apart) in
-          let lack = lack_found (key_of entry) cache.entries none in
-          let same = without_none (key_of entry) cache.entries lack in
-          (sym (take_all cache.capacity (entry ∷ cache.entries) (omega (arith, room))) ∙ ap (λ (l : List (Entry V)). take cache.capacity (entry ∷ l)) (sym same), room, lack)
+    inserted_more leaving =
+        let none : entry_with (key_of entry) cache.entries ≡ None = grind arith in
+        let empty : oldest cache.entries ≡ None → length cache.entries ≡ 0 = λ e. ap length (oldest_none cache.entries e) in
+        let room : length cache.entries + 1 ≤ cache.capacity = grind (arith, nat_tests) in
+        let lack = lack_found (key_of entry) cache.entries none in
+        let same = ap (λ (l : List (Entry V)). take cache.capacity (entry ∷ l)) (sym (without_none (key_of entry) cache.entries lack)) in
+        (sym (take_all cache.capacity (entry ∷ cache.entries) (omega (arith, room))) ∙ same, room, lack)
 
-      by : (o : Option (Entry V)) → entry_with (key_of entry) cache.entries ≡ o → None ≡ option_or o (oldest_of_full cache) → (entry ∷ cache.entries ≡ inserted entry cache) × (length cache.entries + 1 ≤ cache.capacity) × Lack (key_of entry) cache.entries
-      by None e leaving = full (eqb (length cache.entries) cache.capacity) refl e leaving
-      by (Some old) e leaving = absurd (none_not old leaving)
+-- WHAT A SEARCH FINDS is the entry of the key
+pub found_entry : {V : Type 0} (store : IndexedOrder (Entry V)) → IsWhole (order_in store) → HaveOwnKeys (entries_of store) → (key : ℕ) (position : Option Place) → IsFound key_of store.values key position
+    → object_there store.values position ≡ entry_with key (entries_of store)
+found_entry store w own key None none =
+    sym (found_none key (entries_of store) (from_each (λ entry. has_key key entry ≡ false) store.values (λ p entry there. ne_eqb (key_of entry) key (none p entry there)) store.order))
+found_entry store w own key (Some p) found = found.1 ∙ sym (found_it (whole_value w p found.1).1 own) ∙ ap (λ (n : ℕ). entry_with n (entries_of store)) found.2
+
+-- WHAT A CACHE KEEPS over each of its calls: the same entries and parts, in a cache of the same capacity
+pub same_entries : {V : Type 0} (capacity : ℕ) {parts more : ℕ} {entries others : List (Entry V)} → parts ≡ more → entries ≡ others
+    → ◌≡◌ {A = Cache V} (record { entries = entries; capacity = capacity; parts = parts }) (record { entries = others; capacity = capacity; parts = more })
+same_entries capacity alike same = λ i. record { entries = same i; capacity = capacity; parts = alike i }
+
+-- what is there
+pub some_there : {X : Type 0} (o : Option X) → IsSome o → (x : X) × (o ≡ Some x)
+some_there None h = absurd (true≢false (sym h))
+some_there (Some x) h = (x, refl)
+
+module _ {V : Type 0} {store : IndexedOrder (Entry V)} {len capacity : ℕ} (k : IsCounted store len capacity) where
+  -- the cache, as clauses see it
+  abbrev pub cache_of : Cache V
+  cache_of = record { entries = entries_of store; capacity = capacity; parts = store.parts }
+
+  pub sound : IsSound cache_of
+  sound = record { own = k.own; few = omega (arith, k.count, k.few) }
+
+  module _ {new : IndexedOrder (Entry V)} {entry : Entry V} where
+    module _ {rest : List (Entry V)} (w : Without entry (entries_of store) rest) where
+      -- an entry in the place of one
+      renewed : {other : Entry V} → Lack (key_of other) rest → entries_of new ≡ other ∷ rest → IsCounted new len capacity
+      renewed lack are = record { own = subst HaveOwnKeys (sym are) (lack, rest_own w k.own); count = omega (arith, k.count, ap length are, length_rest w); few = k.few }
+
+      -- IT IS TOUCHED
+      pub counted_touched : entries_of new ≡ entry ∷ rest → IsCounted new len capacity
+      counted_touched are = renewed {other = entry} (rest_lack w k.own) are
+
+    -- IT LEAVES
+    pub counted_removed : Without entry (entries_of store) (entries_of new) → IsCounted new (len - 1) capacity
+    counted_removed w = record { own = rest_own w k.own; count = omega (arith, k.count, length_rest w); few = omega (arith, k.few) }
+
+  -- AN ENTRY IS INSERTED into a cache that may have one: what each of the two cases says of it
+  module _ (entry : Entry V) (some : capacity ≢ 0) where
+    leaving_is : {left : Option (Entry V)} → left ≡ option_or (entry_with (key_of entry) (entries_of store)) (cond (eqb len capacity) (oldest (entries_of store)) None)
+        → left ≡ option_or (entry_with (key_of entry) (entries_of store)) (oldest_of_full cache_of)
+    leaving_is leaving = leaving ∙ ap (λ (n : ℕ). option_or (entry_with (key_of entry) (entries_of store)) (cond (eqb n capacity) (oldest (entries_of store)) None)) k.count
+
+    pub left_is : {left : Option (Entry V)} → left ≡ option_or (entry_with (key_of entry) (entries_of store)) (cond (eqb len capacity) (oldest (entries_of store)) None) → left ≡ leaves entry cache_of
+    left_is leaving = leaving_is leaving ∙ sym (leaves_is entry cache_of sound.own sound.few some)
+
+    -- another one leaves for it,
+    module _ {gone : Entry V} (leaving : Some gone ≡ option_or (entry_with (key_of entry) (entries_of store)) (cond (eqb len capacity) (oldest (entries_of store)) None))
+        (new : IndexedOrder (Entry V)) (r : (rest : List (Entry V)) × Without gone (entries_of store) rest × (entries_of new ≡ entry ∷ rest)) where
+      pub counted_renewed : IsCounted new len capacity
+      counted_renewed = renewed r.1 (inserted_for entry cache_of sound.own sound.few some r.1 (leaving_is leaving)).1 r.2
+
+      pub entries_renewed : entries_of new ≡ inserted entry cache_of
+      entries_renewed = r.2 ∙ (inserted_for entry cache_of sound.own sound.few some r.1 (leaving_is leaving)).0
+
+    -- or none does
+    module _ (leaving : None ≡ option_or (entry_with (key_of entry) (entries_of store)) (cond (eqb len capacity) (oldest (entries_of store)) None))
+        (new : IndexedOrder (Entry V)) (are : entries_of new ≡ entry ∷ entries_of store) where
+      pub counted_added : IsCounted new (len + 1) capacity
+      counted_added =
+          let x = inserted_more entry cache_of sound.own sound.few some (leaving_is leaving) in
+          record { own = subst HaveOwnKeys (sym are) (x.2, k.own); count = omega (arith, k.count, ap length are); few = omega (arith, k.count, x.1) }
+
+      pub entries_added : entries_of new ≡ inserted entry cache_of
+      entries_added = are ∙ (inserted_more entry cache_of sound.own sound.few some (leaving_is leaving)).0
+
+  -- NOTHING CHANGED
+  pub counted_same : {new : IndexedOrder (Entry V)} → new ≡ store → IsCounted new len capacity
+  counted_same same = subst (λ store. IsCounted store len capacity) (sym same) k
+
+  -- WHERE NO ENTRY HAS THE KEY, nothing is touched and nothing taken out
+  pub touched_none : (key : ℕ) → entry_with key (entries_of store) ≡ None → touched key (entries_of store) ≡ entries_of store
+  touched_none key none =
+      let lack = lack_found key (entries_of store) none in
+      ap (λ (l : List (Entry V)). l ++ without key (entries_of store)) (with_none key (entries_of store) lack) ∙ without_none key (entries_of store) lack
+
+  pub without_nothing : (key : ℕ) → entry_with key (entries_of store) ≡ None → without key (entries_of store) ≡ entries_of store
+  without_nothing key none = without_none key (entries_of store) (lack_found key (entries_of store) none)

@@ -4,8 +4,7 @@ use Rattle.ic_unsafe_ref.specs.Objects.{object_at}
 use Rattle.ic_link_ops.specs.Positions.{object_there}
 use Rattle.lru_cache.specs.Cache.{touched}
 use Rattle.lru_cache.specs.Kept.{entries_of}
-use Rattle.lru_cache.proofs.Entries.{found_key, touched_it}
-use Rattle.lru_cache.proofs.Counting.{same_entries, some_there, counted_touched, touched_none}
+use Rattle.lru_cache.proofs.Entries.{found_key, touched_it, same_entries, some_there, counted_touched, touched_none}
 use Rattle.lru_cache.proofs.cache.LruCache.get.Goals as goal
 
 pub returns-in_err-place : goal.returns-in_err-place

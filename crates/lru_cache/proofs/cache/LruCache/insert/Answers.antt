@@ -1,7 +1,7 @@
 use Rattle.std.proofs.Common.{is_some, sym, ap, ◌∙◌, arith, true≢false}
 use Rattle.std.specs.Option.{option_map}
 use Rattle.lru_cache.specs.Cache.{entry_of, pair_of}
-use Rattle.lru_cache.proofs.Counting.{sound, same_entries, left_is, counted_renewed, entries_renewed, counted_added, entries_added, counted_same}
+use Rattle.lru_cache.proofs.Entries.{sound, same_entries, left_is, counted_renewed, entries_renewed, counted_added, entries_added}
 use Rattle.lru_cache.proofs.cache.LruCache.insert.Goals as goal
 
 -- another entry leaves
@@ -51,6 +51,3 @@ pub returns-clause-accepted : goal.returns-clause-accepted
 returns-clause-accepted g c =
     let none = left_is c.self.invariant (entry_of c.args.key c.args.value) c.if-self-eq0.false c.in-None.ensures.leaving in
     rw (← c.self.view_is) (λ some. absurd (true≢false (sym some ∙ ap is_some (sym none))))
-
-pub returns-clause-sound : goal.returns-clause-sound
-returns-clause-sound g c = sound (counted_same c.self.invariant c.in-Err.ensures.refused.1)

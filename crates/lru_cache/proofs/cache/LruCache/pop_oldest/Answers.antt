@@ -1,7 +1,6 @@
 use Rattle.std.proofs.Common.{sym, ◌∙◌}
 use Rattle.lru_cache.specs.Kept.{entries_of}
-use Rattle.lru_cache.proofs.Entries.{oldest_none, without_oldest}
-use Rattle.lru_cache.proofs.Counting.{counted_removed}
+use Rattle.lru_cache.proofs.Entries.{oldest_none, without_oldest, counted_removed}
 use Rattle.lru_cache.proofs.cache.LruCache.pop_oldest.Goals as goal
 
 pub returns-in_err-place-clause-oldest : goal.returns-in_err-place-clause-oldest

@@ -2,8 +2,7 @@ use Rattle.std.proofs.Common.{refl, ℕ, sym, ap, ◌∙◌}
 use Rattle.ic_link_ops.specs.Positions.{object_there}
 use Rattle.lru_cache.specs.Cache.{without}
 use Rattle.lru_cache.specs.Kept.{entries_of}
-use Rattle.lru_cache.proofs.Entries.{found_key, without_it}
-use Rattle.lru_cache.proofs.Counting.{same_entries, counted_removed, without_nothing}
+use Rattle.lru_cache.proofs.Entries.{found_key, without_it, same_entries, counted_removed, without_nothing}
 use Rattle.lru_cache.proofs.cache.LruCache.remove.Goals as goal
 
 pub returns-in_err-place-clause-removed : goal.returns-in_err-place-clause-removed
