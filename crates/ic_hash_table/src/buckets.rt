@@ -97,13 +97,16 @@ impl Buckets for &mut [PlaceWord] {
     }
 }
 
+// The word of a place is a multiple of 8 below this number, 2^36, as `Place::from_word` requires.
+const WORDS_END: u64 = 68_719_476_736;
+
 // The place that a word names, and none where it is no place's word.
 #[inline]
 #[tactic(auto, using(ic_unsafe_ref::proofs::PlaceLemmas::place_at_other))]
 fn place_named_by(word: u64) -> Option<Place>
     ensures { result ≡ place_at word }
 {
-    if word % 8 != 0 || word >= 68_719_476_736 {
+    if word % 8 != 0 || word >= WORDS_END {
         return None;
     }
     Place::from_word(word)
