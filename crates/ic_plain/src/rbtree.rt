@@ -47,7 +47,7 @@ pub fn is_empty<K: KeyAdapter, A: Allocator>(tree: &RBTree<K>, links: &LinkOps<A
     tree.is_empty()
 }
 
-/// The place of the first member, which has the lowest key, `None` in an empty tree. O(log n).
+/// The place of the first member, `None` in an empty tree. In a tree in order this member has the lowest key. O(log n).
 #[inline]
 pub fn first<K: KeyAdapter, A: Allocator>(tree: &RBTree<K>, links: &LinkOps<A>) -> Option<Place>
     requires shown { PlainShowsSome links.now (root_of tree.now) }
@@ -56,7 +56,7 @@ pub fn first<K: KeyAdapter, A: Allocator>(tree: &RBTree<K>, links: &LinkOps<A>) 
     tree.first(links)
 }
 
-/// The place of the last member, which has the highest key, `None` in an empty tree. O(log n).
+/// The place of the last member, `None` in an empty tree. In a tree in order this member has the highest key. O(log n).
 #[inline]
 pub fn last<K: KeyAdapter, A: Allocator>(tree: &RBTree<K>, links: &LinkOps<A>) -> Option<Place>
     requires shown { PlainShowsSome links.now (root_of tree.now) }
@@ -196,7 +196,7 @@ pub fn remove_key<K: KeyAdapter, A: Allocator, B: Allocator>(
     Some(object)
 }
 
-/// Takes the first member off, which has the lowest key, and returns it, or `None` if the tree is empty. O(log n).
+/// Takes the first member off and returns it, or `None` if the tree is empty. In a tree in order this member has the lowest key. O(log n).
 #[inline]
 pub fn pop_front<K: KeyAdapter, A: Allocator>(
     tree: &mut RBTree<K>,
@@ -217,7 +217,7 @@ pub fn pop_front<K: KeyAdapter, A: Allocator>(
     Some(object)
 }
 
-/// Takes the last member off, which has the highest key, and returns it, or `None` if the tree is empty. O(log n).
+/// Takes the last member off and returns it, or `None` if the tree is empty. In a tree in order this member has the highest key. O(log n).
 #[inline]
 pub fn pop_back<K: KeyAdapter, A: Allocator>(
     tree: &mut RBTree<K>,
