@@ -1,13 +1,8 @@
 -- What follows where there was no room.
-use Rattle.std.proofs.Common.{◌≡◌, ◌∙◌, ap, Result, Ok, Err, OnErr, [], ◌∷◌}
+use Rattle.std.proofs.Common.{◌≡◌, ◌∙◌, ap, Result, Ok, Err, [], ◌∷◌}
 use Rattle.std.specs.Result.{IsErrAnd}
 use Rattle.std.specs.declared.alloc.AllocFailed.{AllocFailed}
 use Rattle.scheduler.specs.Timers.{handed_back}
-
--- what holds at any rate
-pub on_err : {A E : Type 0} {P : Type 0} (r : Result A E) → P → OnErr r P
-on_err (Ok a) h = tt
-on_err (Err e) h = h
 
 -- what there was no room for comes back
 pub room_refused : {T : Type 0} (r : Result Unit (AllocFailed T)) {x : AllocFailed T} {y : T} → IsErrAnd r (λ e. e ≡ x) → x.value ≡ y → handed_back r ≡ y ∷ []
