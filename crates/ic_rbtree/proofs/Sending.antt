@@ -309,14 +309,6 @@ module _ {E : Type 0} (n : E → Node) where
     pub comes_first : {d : Descent} → d ≡ at_root → Comes order count objects v root equals old old root d
     comes_first is = record { each = λ s h. sent_first is (count old) h; same = refl }
 
-    -- the same, as it is called elsewhere
-    pub comes_as : {now now' : P} {here here' : Option Place} {d d' : Descent} → now' ≡ now → d' ≡ d → here' ≡ here
-        → Comes order count objects v root equals old now here d → Comes order count objects v root equals old now' here' d'
-    comes_as {now} {now'} {here} {here'} {d} {d'} en ed eh x =
-        subst (λ z. Comes order count objects v root equals old z here' d') (sym en)
-        (subst (λ z. Comes order count objects v root equals old now here' z) (sym ed)
-        (subst (λ z. Comes order count objects v root equals old now z d) (sym eh) x))
-
     -- one look further
     pub comes_on : {now more : P} {here next : Option Place} {d d' : Descent} {p : Place} → Comes order count objects v root equals old now here d → here ≡ Some p → (left : Bool)
         → d' ≡ passed d p left (is_eq (compared (order now) objects p)) → left ≡ goes_left equals (compared (order now) objects p)

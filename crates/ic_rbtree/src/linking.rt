@@ -18,7 +18,7 @@ ghost use Rattle.ic_rbtree.specs.Insertion.{IsHole};
 ghost use Rattle.ic_rbtree.specs.Ordered.{InsertsInOrder};
 
 use crate::Probe;
-use crate::keys::descent::{Turn, descend};
+use crate::keys::descent::descend;
 use crate::repair::insertion::attach;
 use crate::repair::removal::unlink;
 use crate::repair::writers::take_place;
@@ -78,7 +78,7 @@ pub(crate) fn insert_in_order<L: RBTreeOps, V, P: Probe<V>, O: Values<V>>(
         return false;
     }
     let from = root.get();
-    let hole = descend(&*links, from, objects, probe, Side::Right, Turn::Guessed);
+    let hole = descend(&*links, from, objects, probe, Side::Right);
     attach(links, root, hole.parent.get(), hole.side, object);
     true
 }

@@ -20,7 +20,7 @@ ghost use Rattle.ic_rbtree.specs.Transplants.{TakesAway, TakesPlace};
 ghost use Rattle.ic_rbtree.specs.Tree.{root_of, adapter_of};
 
 use crate::Probe;
-use crate::keys::descent::{Descent, Turn, descend};
+use crate::keys::descent::{Descent, descend};
 use crate::nodes::Nodes;
 use crate::repair::insertion::attach;
 use crate::repair::removal::unlink;
@@ -218,6 +218,6 @@ impl<A> RBTree<A> {
         ensures looks { (s : List Place) → Shows L.node (L.table links.now) (root_of self.now) s
             → Looks P.order P.count probe.old probe.new s }
     {
-        descend(links, self.root.get(), values, probe, equals, Turn::Guessed)
+        descend(links, self.root.get(), values, probe, equals)
     }
 }

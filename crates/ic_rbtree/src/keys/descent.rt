@@ -123,16 +123,6 @@ impl Descent {
     }
 }
 
-/// How a descent comes to the next member.
-#[derive(Drop)]
-pub(crate) enum Turn {
-    /// By branches, which a processor guesses and loads ahead, as long as it goes right, and from then on as `Picked`. Keys that come in
-    /// order go right at each member.
-    Guessed,
-    /// By both children, of which it picks one. No guess is wrong, as every second one is for keys at random.
-    Picked,
-}
-
 // One of two places or none, picked as a word, which takes no branch.
 #[inline]
 fn pick(takes_left: bool, left: Option<Place>, right: Option<Place>) -> Option<Place>
@@ -157,8 +147,8 @@ fn are_some(left: Option<Place>, right: Option<Place>) -> bool
 // Goes down from the root to a gap: left of the members that are greater than what is searched, right of those that are
 // less, and past equal ones to the side `equals`.
 //
-// Where the turn is picked, a test of both children behind the loop, which never holds, keeps both loads: the compiler would else make
-// them one, from a picked address. The left child is read before the comparison, so that where the table's entries stand is read once.
+// Of both children one is picked, so that no guess of a processor is wrong, as every second one is for keys at random. A test of both
+// behind the loop, which never holds, keeps both loads: the compiler would else make them one, from a picked address.
 #[inline]
 pub(crate) fn descend<L: RBTreeOps, V, P: Probe<V>, O: Values<V>>(
     links: &L,
@@ -166,7 +156,6 @@ pub(crate) fn descend<L: RBTreeOps, V, P: Probe<V>, O: Values<V>>(
     objects: &O,
     probe: &mut P,
     equals: Side,
-    turn: Turn,
 ) -> Descent
     requires placed { ShowsPlaced (Shows L.node (L.table links.now) root) (O.values objects.now) }
     requires room { HasRoom (P.count probe.old) }
@@ -177,16 +166,6 @@ pub(crate) fn descend<L: RBTreeOps, V, P: Probe<V>, O: Values<V>>(
 {
     let mut descent = Descent::new();
     let mut at = root;
-    if let Turn::Guessed = turn {
-        while let Some(place) = at {
-            let left = links.left(place);
-            if descent.look(objects, probe, place, equals) {
-                at = left;
-                break;
-            }
-            at = links.right(place);
-        }
-    }
     while let Some(place) = at {
         let left = links.left(place);
         let right = links.right(place);

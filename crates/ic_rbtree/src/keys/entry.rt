@@ -16,7 +16,7 @@ ghost use Rattle.ic_rbtree.specs.CursorMut as editing;
 ghost use Rattle.ic_rbtree.specs.Entry.{IfOccupied, IfVacant, IsVacantFor, CanInsert, InsertsInto, links_of, IsBorrowed};
 ghost use Rattle.ic_rbtree.specs.Tree.{root_of, adapter_of};
 
-use crate::keys::descent::{Turn, descend};
+use crate::keys::descent::descend;
 use crate::linking::insert;
 use crate::{CursorMut, KeyAdapter, KeyProbe, Probe, RBTree};
 use ic_link_ops::rbtree::RBTreeOps;
@@ -106,7 +106,7 @@ impl<A: KeyAdapter> RBTree<A> {
             → Looks P.order P.count probe.old probe.new s }
     {
         let root = self.root.get();
-        let descent = descend(&*links, root, objects, probe, Side::Left, Turn::Picked);
+        let descent = descend(&*links, root, objects, probe, Side::Left);
         if descent.is_equal() {
             let current = PlaceWord::of(descent.back.get());
             return Entry::Occupied(CursorMut::new(self, links, current));

@@ -16,7 +16,7 @@ ghost use Rattle.ic_rbtree.specs.Comparing.{compared, own_order};
 ghost use Rattle.ic_rbtree.specs.Ordered.{InsertsInOrder};
 ghost use Rattle.ic_rbtree.specs.Tree.{root_of, adapter_of};
 
-use crate::keys::descent::{Turn, descend};
+use crate::keys::descent::descend;
 use crate::keys::probe::KeyFirst;
 use crate::repair::insertion::attach;
 use crate::{KeyAdapter, RBTree};
@@ -56,7 +56,7 @@ impl<A: KeyAdapter> RBTree<A> {
         let own = &*links;
         let mut probe = KeyFirst::new(self.adapter, self.adapter.get_key(own.value(place)));
         let from = self.root.get();
-        let hole = descend(own, from, own, &mut probe, Side::Right, Turn::Guessed);
+        let hole = descend(own, from, own, &mut probe, Side::Right);
         attach(links, &mut self.root, hole.parent.get(), hole.side, place);
         Ok(())
     }

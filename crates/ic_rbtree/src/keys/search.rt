@@ -10,7 +10,7 @@ ghost use Rattle.ic_rbtree.specs.Borders.{Finds, IsLowerBorder, IsUpperBorder};
 ghost use Rattle.ic_rbtree.specs.Descents.{gap_in};
 ghost use Rattle.ic_rbtree.specs.Tree.{root_of};
 
-use crate::keys::descent::{Turn, descend};
+use crate::keys::descent::descend;
 use crate::{Bound, KeyAdapter, Probe, RBTree};
 use ic_link_ops::rbtree::RBTreeOps;
 use ic_link_ops::{LinkOps, PlaceWord, Side};
@@ -33,7 +33,7 @@ impl<A: KeyAdapter> RBTree<A> {
             → Looks P.order P.count probe.old probe.new s }
     {
         let root = self.root.get();
-        let descent = descend(links, root, objects, probe, Side::Left, Turn::Picked);
+        let descent = descend(links, root, objects, probe, Side::Left);
         if !descent.is_equal() {
             return PlaceWord::of(None);
         }
@@ -59,12 +59,8 @@ impl<A: KeyAdapter> RBTree<A> {
     {
         let root = self.root.get();
         match bound {
-            Bound::Included(probe) => {
-                descend(links, root, objects, probe, Side::Left, Turn::Picked).back
-            }
-            Bound::Excluded(probe) => {
-                descend(links, root, objects, probe, Side::Right, Turn::Picked).back
-            }
+            Bound::Included(probe) => descend(links, root, objects, probe, Side::Left).back,
+            Bound::Excluded(probe) => descend(links, root, objects, probe, Side::Right).back,
             Bound::Unbounded => PlaceWord::of(self.first(links)),
         }
     }
@@ -88,12 +84,8 @@ impl<A: KeyAdapter> RBTree<A> {
     {
         let root = self.root.get();
         match bound {
-            Bound::Included(probe) => {
-                descend(links, root, objects, probe, Side::Right, Turn::Picked).front
-            }
-            Bound::Excluded(probe) => {
-                descend(links, root, objects, probe, Side::Left, Turn::Picked).front
-            }
+            Bound::Included(probe) => descend(links, root, objects, probe, Side::Right).front,
+            Bound::Excluded(probe) => descend(links, root, objects, probe, Side::Left).front,
             Bound::Unbounded => PlaceWord::of(self.last(links)),
         }
     }

@@ -1,14 +1,13 @@
-use Rattle.std.proofs.Common.{◌≡◌, Bool, true, false, cond, Option, Some, None, refl, sym, ap, ◌∙◌, arith}
+use Rattle.std.proofs.Common.{◌≡◌, Bool, true, false, cond, Option, Some, None, refl, sym, ◌∙◌, arith}
 use Rattle.ic_unsafe_ref.specs.declared.place.Place.{Place}
 use Rattle.ic_link_ops.specs.RedBlackTree.{Node, node_at}
 use Rattle.ic_link_ops.specs.Frames.{child_on}
 use Rattle.ic_rbtree.specs.Descents.{side_of}
-use Rattle.ic_rbtree.proofs.Sending.{Comes, comes_first, comes_as, comes_on, sent_linked, sent_room, sent_placed, sent_ends, sent_looks}
+use Rattle.ic_rbtree.proofs.Sending.{Comes, comes_first, comes_on, sent_linked, sent_room, sent_placed, sent_ends, sent_looks}
 use Rattle.ic_rbtree.proofs.keys.descent.descend.Goals as goal
-use Rattle.ic_rbtree.proofs.keys.descent.descend.Goals.{After-pick, in-Guessed+in-Some+then-look, in-Guessed+in_default-at, in_default}
+use Rattle.ic_rbtree.proofs.keys.descent.descend.Goals.{After-pick}
 use Rattle.ic_rbtree.proofs.keys.descent.descend.Given.{Over}
 
--- THE WAY by guesses
 pub loop-at-init : goal.loop-at-init
 loop-at-init g c = comes_first g.L.RBTreeOps.node g.P.Probe.order g.P.Probe.count (g.O.Values.values c.args.objects.now) c.new-descent.ensures
 
@@ -17,67 +16,18 @@ left-left-requires g c =
     let r = c.requires.placed in
     record { linked = sym (g.met.L.RBTreeOps.linked_alike _) ∙ sent_linked g.L.RBTreeOps.node (c.loop-at.invariant.each r.members r.shown) c.in-Some.is }
 
-pub look-requires : goal.look-requires
-look-requires g c =
+pub right-right-requires : goal.right-right-requires
+right-right-requires g c =
+    let r = c.requires.placed in
+    record { linked = sym (g.met.L.RBTreeOps.linked_alike _) ∙ sent_linked g.L.RBTreeOps.node (c.loop-at.invariant.each r.members r.shown) c.in-Some.is }
+
+pub look-goes_left-requires : goal.look-goes_left-requires
+look-goes_left-requires g c =
     let r = c.requires.placed in
     let x = c.loop-at.invariant.each r.members r.shown in
     record {
       placed = sent_placed g.L.RBTreeOps.node x c.in-Some.is (g.O.Values.values c.args.objects.now) r.shown refl r.placed;
       room = sent_room g.L.RBTreeOps.node x c.in-Some.is r.shown refl c.requires.room;
-    }
-
-pub right-at-requires : goal.right-at-requires
-right-at-requires g c =
-    let r = c.requires.placed in
-    record { linked = sym (g.met.L.RBTreeOps.linked_alike _) ∙ sent_linked g.L.RBTreeOps.node (c.loop-at.invariant.each r.members r.shown) c.in-Some.is }
-
-pub loop-at-smaller : goal.loop-at-smaller
-loop-at-smaller g c =
-    let r = c.requires.placed in
-    let room = sent_room g.L.RBTreeOps.node (c.loop-at.invariant.each r.members r.shown) c.in-Some.is r.shown refl c.requires.room in
-    omega (arith, room, c.look.ensures.counted)
-
-pub loop-at-preserved : goal.loop-at-preserved
-loop-at-preserved g c =
-    comes_on g.L.RBTreeOps.node g.P.Probe.order g.P.Probe.count (g.O.Values.values c.args.objects.now)
-    c.loop-at.invariant c.in-Some.is c.look.result c.look.ensures.passed c.look.ensures.left
-    (c.right-at.ensures ∙ ap (λ left. child_on (side_of left) (node_at g.L.RBTreeOps.node (g.L.LinkOps.table c.args.links.now) c.in-Some.place)) (sym c.if-look.false))
-    c.look.ensures.counted c.look.ensures.same
-
--- and from there on by picks
-pub loop-at-2-init : goal.loop-at-2-init
-loop-at-2-init g c =
-    elim c.match-turn.branch [
-      | in-Guessed+in-Some+then-look w ↦
-          comes_as g.L.RBTreeOps.node g.P.Probe.order g.P.Probe.count (g.O.Values.values c.args.objects.now) w.probe-is w.descent-is w.at-is
-          (comes_on g.L.RBTreeOps.node g.P.Probe.order g.P.Probe.count (g.O.Values.values c.args.objects.now)
-          w.loop-at.invariant w.in-Some.is w.look.result w.look.ensures.passed w.look.ensures.left
-          (w.left-left.ensures ∙ ap (λ left. child_on (side_of left) (node_at g.L.RBTreeOps.node (g.L.LinkOps.table c.args.links.now) w.in-Some.place)) (sym w.if-look.true))
-          w.look.ensures.counted w.look.ensures.same)
-      | in-Guessed+in_default-at w ↦
-          comes_as g.L.RBTreeOps.node g.P.Probe.order g.P.Probe.count (g.O.Values.values c.args.objects.now) w.probe-is w.descent-is w.at-is w.loop-at.invariant
-      | in_default w ↦
-          comes_as g.L.RBTreeOps.node g.P.Probe.order g.P.Probe.count (g.O.Values.values c.args.objects.now) w.probe-is w.descent-is w.at-is
-          (comes_first g.L.RBTreeOps.node g.P.Probe.order g.P.Probe.count (g.O.Values.values c.args.objects.now) c.new-descent.ensures)
-    ]
-
-pub left-left-requires-in-Some-at : goal.left-left-requires-in-Some-at
-left-left-requires-in-Some-at g c =
-    let r = c.requires.placed in
-    record { linked = sym (g.met.L.RBTreeOps.linked_alike _) ∙ sent_linked g.L.RBTreeOps.node (c.loop-at-2.invariant.each r.members r.shown) c.in-Some-at.is }
-
-pub right-right-requires : goal.right-right-requires
-right-right-requires g c =
-    let r = c.requires.placed in
-    record { linked = sym (g.met.L.RBTreeOps.linked_alike _) ∙ sent_linked g.L.RBTreeOps.node (c.loop-at-2.invariant.each r.members r.shown) c.in-Some-at.is }
-
-pub look-goes_left-requires : goal.look-goes_left-requires
-look-goes_left-requires g c =
-    let r = c.requires.placed in
-    let x = c.loop-at-2.invariant.each r.members r.shown in
-    record {
-      placed = sent_placed g.L.RBTreeOps.node x c.in-Some-at.is (g.O.Values.values c.args.objects.now) r.shown refl r.placed;
-      room = sent_room g.L.RBTreeOps.node x c.in-Some-at.is r.shown refl c.requires.room;
     }
 
 -- past the member, to the child that was picked
@@ -89,18 +39,18 @@ to_picked : (g : Over) (c : After-pick g) (next : Option Place) → c.pick.resul
     → Comes g.L.RBTreeOps.node g.P.Probe.order g.P.Probe.count (g.O.Values.values c.args.objects.now) (g.L.LinkOps.table c.args.links.now) c.args.root c.args.equals c.args.probe.now c.look-goes_left.new.probe next c.look-goes_left.new.self
 to_picked g c next is =
     comes_on g.L.RBTreeOps.node g.P.Probe.order g.P.Probe.count (g.O.Values.values c.args.objects.now)
-    c.loop-at-2.invariant c.in-Some-at.is c.look-goes_left.result c.look-goes_left.ensures.passed c.look-goes_left.ensures.left
-    (sym is ∙ c.pick.ensures ∙ picked_child c.look-goes_left.result (node_at g.L.RBTreeOps.node (g.L.LinkOps.table c.args.links.now) c.in-Some-at.place) c.left-left-in-Some-at.ensures c.right-right.ensures)
+    c.loop-at.invariant c.in-Some.is c.look-goes_left.result c.look-goes_left.ensures.passed c.look-goes_left.ensures.left
+    (sym is ∙ c.pick.ensures ∙ picked_child c.look-goes_left.result (node_at g.L.RBTreeOps.node (g.L.LinkOps.table c.args.links.now) c.in-Some.place) c.left-left.ensures c.right-right.ensures)
     c.look-goes_left.ensures.counted c.look-goes_left.ensures.same
 
-pub loop-at-2-smaller : goal.loop-at-2-smaller
-loop-at-2-smaller g c =
+pub loop-at-smaller : goal.loop-at-smaller
+loop-at-smaller g c =
     let r = c.requires.placed in
-    let room = sent_room g.L.RBTreeOps.node (c.loop-at-2.invariant.each r.members r.shown) c.in-Some-at.is r.shown refl c.requires.room in
+    let room = sent_room g.L.RBTreeOps.node (c.loop-at.invariant.each r.members r.shown) c.in-Some.is r.shown refl c.requires.room in
     omega (arith, room, c.look-goes_left.ensures.counted)
 
-pub loop-at-2-preserved : goal.loop-at-2-preserved
-loop-at-2-preserved g c = to_picked g c.before (Some c.in-Some-pick.next) c.in-Some-pick.is
+pub loop-at-preserved : goal.loop-at-preserved
+loop-at-preserved g c = to_picked g c.before (Some c.in-Some-pick.next) c.in-Some-pick.is
 
 pub returns-in_default-pick-clause-ends : goal.returns-in_default-pick-clause-ends
 returns-in_default-pick-clause-ends g c s h = sent_ends g.L.RBTreeOps.node ((to_picked g c.before.before.before None c.in_default-pick.is).each s h) refl
@@ -110,8 +60,8 @@ returns-in_default-pick-clause-looks g c s h =
     let x = to_picked g c.before.before.before None c.in_default-pick.is in sent_looks g.L.RBTreeOps.node g.P.Probe.order g.P.Probe.count h (x.each s h) refl x.same
 
 pub returns-clause-ends : goal.returns-clause-ends
-returns-clause-ends g c s h = sent_ends g.L.RBTreeOps.node (c.loop-at-2.invariant.each s h) c.in_default-at-2.is
+returns-clause-ends g c s h = sent_ends g.L.RBTreeOps.node (c.loop-at.invariant.each s h) c.in_default.is
 
 pub returns-clause-looks : goal.returns-clause-looks
 returns-clause-looks g c s h =
-    sent_looks g.L.RBTreeOps.node g.P.Probe.order g.P.Probe.count h (c.loop-at-2.invariant.each s h) c.in_default-at-2.is c.loop-at-2.invariant.same
+    sent_looks g.L.RBTreeOps.node g.P.Probe.order g.P.Probe.count h (c.loop-at.invariant.each s h) c.in_default.is c.loop-at.invariant.same

@@ -8,10 +8,3 @@ invariant-loop-at g l =
 
 abbrev pub decreases-loop-at : goal.decreases-loop-at
 decreases-loop-at g l = 18446744073709551616 - g.P.Probe.count l.probe
-
-abbrev pub invariant-loop-at-2 : goal.invariant-loop-at-2
-invariant-loop-at-2 g l =
-    Comes g.L.RBTreeOps.node g.P.Probe.order g.P.Probe.count (g.O.Values.values l.objects) (g.L.LinkOps.table l.links) l.fn.root l.equals l.fn.probe l.probe l.at l.descent
-
-abbrev pub decreases-loop-at-2 : goal.decreases-loop-at-2
-decreases-loop-at-2 g l = 18446744073709551616 - g.P.Probe.count l.probe
