@@ -4,7 +4,7 @@
 //! let checksum = on_tree("find", &mut watch, &mut links, &objects, &order, size);
 //! ```
 
-ghost use Rattle.std.specs.Prelude.{◌≡◌, ◌≢◌, ◌<◌, ◌+◌, ◌%◌, ◌^◌, true, All, AllPairs, IfSome, MatchOption, List, length};
+ghost use Rattle.std.specs.Prelude.{◌≡◌, ◌≢◌, ◌<◌, ◌+◌, ◌%◌, ◌^◌, true, All, AllPairs, IfSome, MatchOption, List};
 ghost use Rattle.std.specs.Bool.{OnTrue};
 ghost use Rattle.ic_unsafe_ref.specs.Places.{index_of};
 ghost use Rattle.ic_unsafe_ref.specs.Objects.{is_placed, object_at, with_object};
@@ -13,14 +13,14 @@ ghost use Rattle.ic_link_ops.specs.Positions.{HasMember};
 ghost use Rattle.ic_link_ops.specs.PlacedObjects.{ShowsPlaced};
 ghost use Rattle.ic_link_ops.specs.RedBlackTree.{Shows, ShowsSome};
 ghost use Rattle.ic_link_ops.specs.Tables.{IsCovered};
-ghost use Rattle.ic_rbtree.specs.PlainTrees.{plain_table, PlainShows, PlainShowsSome};
 ghost use Rattle.ic_rbtree.specs.Tree.{root_of};
 ghost use Rattle.ic_rbtree.specs.SortedObjects.{ShowsSorted, StaysSorted};
+ghost use Rattle.bench.specs.Picks.{IsAmong};
 
 use crate::parts::{timed_rebuild, timed_split};
 use crate::random::Random;
 use crate::room::{Size, Watch, value_at};
-use ic_link_ops::rbtree::{LinkOps, RBTreeOps};
+use ic_link_ops::rbtree::RBTreeOps;
 use ic_rbtree::{Bound, KeyAdapter, RBTree};
 use ic_unsafe_ref::{Objects, Place, UnsafeRef, Values};
 
@@ -95,21 +95,24 @@ pub(crate) fn raise(objects: &mut Objects<u64>, object: Place, by: u64)
     }
 }
 
-// Inserts the object where its key belongs, unless its link is refused.
+// Inserts the object where its key belongs, and returns whether it is a member then: its link may be refused.
 #[inline]
-fn insert<L: RBTreeOps, O: Values<u64>>(
+fn insert<L: RBTreeOps>(
     tree: &mut RBTree<ByValue>,
     links: &mut L,
-    objects: &O,
-    object: UnsafeRef<u64>,
-)
+    objects: &Objects<u64>,
+    object: Place,
+) -> bool
     requires covered { IsCovered (L.table links.old) object }
-    requires object { is_placed (O.values objects.now) object ≡ true }
-    requires sorted { ShowsSorted (λ v. v) (Shows L.node (L.table links.old) (root_of tree.old)) (O.values objects.now) }
-    ensures sorted { ShowsSorted (λ v. v) (Shows L.node (L.table links.new) (root_of tree.new)) (O.values objects.now) }
+    requires object { is_placed objects.now object ≡ true }
+    requires sorted { ShowsSorted (λ v. v) (Shows L.node (L.table links.old) (root_of tree.old)) objects.now }
+    ensures sorted { ShowsSorted (λ v. v) (Shows L.node (L.table links.new) (root_of tree.new)) objects.now }
+    ensures member { OnTrue result (HasMember (Shows L.node (L.table links.new) (root_of tree.new)) object) }
+    ensures kept { (q : Place) → HasMember (Shows L.node (L.table links.old) (root_of tree.old)) q
+        → HasMember (Shows L.node (L.table links.new) (root_of tree.new)) q }
     ensures extent { (L.table links.new).extent ≡ (L.table links.old).extent }
 {
-    let _ = tree.insert(links, objects, object);
+    tree.insert(links, objects, UnsafeRef::new(object)).is_ok()
 }
 
 // Takes a member off.
@@ -133,46 +136,69 @@ pub(crate) fn remove<L: RBTreeOps>(
 
 // Inserts the objects at these places, in this order.
 #[inline(never)]
-fn timed_insert<L: RBTreeOps, O: Values<u64>>(
+fn timed_insert<L: RBTreeOps>(
     tree: &mut RBTree<ByValue>,
     links: &mut L,
-    objects: &O,
+    objects: &Objects<u64>,
     order: &[Place],
 )
     requires covered { All (λ place. index_of place < (L.table links.old).extent.places) order.now }
-    requires objects { All (λ place. is_placed (O.values objects.now) place ≡ true) order.now }
-    requires sorted { ShowsSorted (λ v. v) (Shows L.node (L.table links.old) (root_of tree.old)) (O.values objects.now) }
-    ensures sorted { ShowsSorted (λ v. v) (Shows L.node (L.table links.new) (root_of tree.new)) (O.values objects.now) }
+    requires objects { All (λ place. is_placed objects.now place ≡ true) order.now }
+    requires sorted { ShowsSorted (λ v. v) (Shows L.node (L.table links.old) (root_of tree.old)) objects.now }
+    ensures sorted { ShowsSorted (λ v. v) (Shows L.node (L.table links.new) (root_of tree.new)) objects.now }
     ensures extent { (L.table links.new).extent ≡ (L.table links.old).extent }
 {
     for place in order {
-        insert(tree, links, objects, UnsafeRef::new(*place));
+        insert(tree, links, objects, *place);
     }
+}
+
+// Inserts the objects at these places, in this order, up to one that is refused. It returns whether none was.
+fn fill<L: RBTreeOps>(
+    tree: &mut RBTree<ByValue>,
+    links: &mut L,
+    objects: &Objects<u64>,
+    order: &[Place],
+) -> bool
+    requires covered { All (λ place. index_of place < (L.table links.old).extent.places) order.now }
+    requires objects { All (λ place. is_placed objects.now place ≡ true) order.now }
+    requires sorted { ShowsSorted (λ v. v) (Shows L.node (L.table links.old) (root_of tree.old)) objects.now }
+    ensures sorted { ShowsSorted (λ v. v) (Shows L.node (L.table links.new) (root_of tree.new)) objects.now }
+    ensures members { OnTrue result (All (HasMember (Shows L.node (L.table links.new) (root_of tree.new))) order.now) }
+    ensures extent { (L.table links.new).extent ≡ (L.table links.old).extent }
+{
+    for index in 0..order.len() {
+        if !insert(tree, links, objects, order[index]) {
+            return false;
+        }
+    }
+    true
 }
 
 // Empties the tree, of which these are the objects.
 #[inline]
-fn empty<L: RBTreeOps, O: Values<u64>>(tree: &mut RBTree<ByValue>, links: &mut L, objects: &O)
-    requires sorted { ShowsSorted (λ v. v) (Shows L.node (L.table links.old) (root_of tree.old)) (O.values objects.now) }
-    ensures sorted { ShowsSorted (λ v. v) (Shows L.node (L.table links.new) (root_of tree.new)) (O.values objects.now) }
+fn empty<L: RBTreeOps>(tree: &mut RBTree<ByValue>, links: &mut L, objects: &Objects<u64>)
+    requires sorted { ShowsSorted (λ v. v) (Shows L.node (L.table links.old) (root_of tree.old)) objects.now }
+    ensures sorted { ShowsSorted (λ v. v) (Shows L.node (L.table links.new) (root_of tree.new)) objects.now }
     ensures extent { (L.table links.new).extent ≡ (L.table links.old).extent }
 {
+    let _ = objects;
     tree.clear(links);
 }
 
 // Empties the tree and inserts the objects again, so often.
-fn insert_again<L: RBTreeOps, O: Values<u64>>(
+fn insert_again<L: RBTreeOps>(
     watch: &mut Watch<'_>,
     tree: &mut RBTree<ByValue>,
     links: &mut L,
-    objects: &O,
+    objects: &Objects<u64>,
     order: &[Place],
     rounds: u64,
 )
     requires covered { All (λ place. index_of place < (L.table links.old).extent.places) order.now }
-    requires objects { All (λ place. is_placed (O.values objects.now) place ≡ true) order.now }
-    requires sorted { ShowsSorted (λ v. v) (Shows L.node (L.table links.old) (root_of tree.old)) (O.values objects.now) }
-    ensures sorted { ShowsSorted (λ v. v) (Shows L.node (L.table links.new) (root_of tree.new)) (O.values objects.now) }
+    requires objects { All (λ place. is_placed objects.now place ≡ true) order.now }
+    requires sorted { ShowsSorted (λ v. v) (Shows L.node (L.table links.old) (root_of tree.old)) objects.now }
+    ensures sorted { ShowsSorted (λ v. v) (Shows L.node (L.table links.new) (root_of tree.new)) objects.now }
 {
     for _round in 0..rounds {
         empty(tree, links, objects);
@@ -182,41 +208,13 @@ fn insert_again<L: RBTreeOps, O: Values<u64>>(
     }
 }
 
-// Whether the place is that of a member.
-fn is_member(tree: &RBTree<ByValue>, links: &LinkOps, place: Place) -> bool
-    requires covered { IsCovered (plain_table links.now) place }
-    requires shown { PlainShowsSome links.now (root_of tree.now) }
-    ensures { OnTrue result (HasMember (PlainShows links.now (root_of tree.now)) place) }
-{
-    tree.contains(links, place)
-}
-
-// Whether all of these places are members.
-fn are_members(tree: &RBTree<ByValue>, links: &LinkOps, places: &[Place]) -> bool
-    requires covered { All (λ place. index_of place < (plain_table links.now).extent.places) places.now }
-    requires shown { PlainShowsSome links.now (root_of tree.now) }
-    ensures { OnTrue result (All (HasMember (PlainShows links.now (root_of tree.now))) places.now) }
-{
-    for index in 0..places.len() {
-        if !is_member(tree, links, places[index]) {
-            return false;
-        }
-    }
-    true
-}
-
 // Takes these members off, in this order.
-#[inline(never)]
-fn timed_remove<L: RBTreeOps, O: Values<u64>>(
-    tree: &mut RBTree<ByValue>,
-    links: &mut L,
-    objects: &O,
-    places: &[Place],
-)
-    requires sorted { ShowsSorted (λ v. v) (Shows L.node (L.table links.old) (root_of tree.old)) (O.values objects.now) }
+#[inline(always)]
+pub(crate) fn remove_all<L: RBTreeOps>(tree: &mut RBTree<ByValue>, links: &mut L, places: &[Place])
     requires members { All (HasMember (Shows L.node (L.table links.old) (root_of tree.old))) places.now }
     requires distinct { AllPairs (λ a b. a ≢ b) places.now }
-    ensures sorted { ShowsSorted (λ v. v) (Shows L.node (L.table links.new) (root_of tree.new)) (O.values objects.now) }
+    ensures sorted { StaysSorted (λ v. v) (Shows L.node (L.table links.old) (root_of tree.old))
+        (Shows L.node (L.table links.new) (root_of tree.new)) }
     ensures extent { (L.table links.new).extent ≡ (L.table links.old).extent }
 {
     for index in 0..places.len() {
@@ -224,31 +222,42 @@ fn timed_remove<L: RBTreeOps, O: Values<u64>>(
     }
 }
 
+// The same, over the table that is handed in.
+#[inline(never)]
+fn timed_remove<L: RBTreeOps>(tree: &mut RBTree<ByValue>, links: &mut L, places: &[Place])
+    requires members { All (HasMember (Shows L.node (L.table links.old) (root_of tree.old))) places.now }
+    requires distinct { AllPairs (λ a b. a ≢ b) places.now }
+    ensures sorted { StaysSorted (λ v. v) (Shows L.node (L.table links.old) (root_of tree.old))
+        (Shows L.node (L.table links.new) (root_of tree.new)) }
+    ensures extent { (L.table links.new).extent ≡ (L.table links.old).extent }
+{
+    remove_all(tree, links, places);
+}
+
 // Fills the tree and takes these members off, so often.
-fn remove_again<O: Values<u64>>(
+fn remove_again<L: RBTreeOps>(
     watch: &mut Watch<'_>,
     tree: &mut RBTree<ByValue>,
-    links: &mut LinkOps,
-    objects: &O,
+    links: &mut L,
+    objects: &Objects<u64>,
     order: &[Place],
     places: &[Place],
     rounds: u64,
 )
-    requires covered { All (λ place. index_of place < (plain_table links.old).extent.places) order.now }
-    requires objects { All (λ place. is_placed (O.values objects.now) place ≡ true) order.now }
-    requires places { All (λ place. index_of place < (plain_table links.old).extent.places) places.now }
+    requires covered { All (λ place. index_of place < (L.table links.old).extent.places) order.now }
+    requires objects { All (λ place. is_placed objects.now place ≡ true) order.now }
+    requires among { All (IsAmong order.now) places.now }
     requires distinct { AllPairs (λ a b. a ≢ b) places.now }
-    requires sorted { ShowsSorted (λ v. v) (PlainShows links.old (root_of tree.old)) (O.values objects.now) }
-    ensures sorted { ShowsSorted (λ v. v) (PlainShows links.new (root_of tree.new)) (O.values objects.now) }
+    requires sorted { ShowsSorted (λ v. v) (Shows L.node (L.table links.old) (root_of tree.old)) objects.now }
+    ensures sorted { ShowsSorted (λ v. v) (Shows L.node (L.table links.new) (root_of tree.new)) objects.now }
 {
     for _round in 0..rounds {
         empty(tree, links, objects);
-        timed_insert(tree, links, objects, order);
-        if !are_members(&*tree, &*links, places) {
+        if !fill(tree, links, objects, order) {
             break;
         }
         let start = watch.start();
-        timed_remove(tree, links, objects, places);
+        timed_remove(tree, links, places);
         watch.stop(start);
     }
 }
@@ -297,21 +306,21 @@ pub(crate) fn timed_lower_bound<L: RBTreeOps, O: Values<u64>>(
 
 // Finds keys at random, takes each one's member off and inserts it again.
 #[inline(never)]
-fn timed_turn<L: RBTreeOps, O: Values<u64>>(
+fn timed_turn<L: RBTreeOps>(
     tree: &mut RBTree<ByValue>,
     links: &mut L,
-    objects: &O,
+    objects: &Objects<u64>,
     size: Size,
 )
-    requires sorted { ShowsSorted (λ v. v) (Shows L.node (L.table links.old) (root_of tree.old)) (O.values objects.now) }
-    ensures sorted { ShowsSorted (λ v. v) (Shows L.node (L.table links.new) (root_of tree.new)) (O.values objects.now) }
+    requires sorted { ShowsSorted (λ v. v) (Shows L.node (L.table links.old) (root_of tree.old)) objects.now }
+    ensures sorted { ShowsSorted (λ v. v) (Shows L.node (L.table links.new) (root_of tree.new)) objects.now }
 {
     let mut random = Random::new();
     for _operation in 0..size.operations {
         let key = random.below(size.members).wrapping_mul(2);
         if let Some(place) = find(&*tree, &*links, objects, key) {
             remove(tree, links, UnsafeRef::new(place));
-            insert(tree, links, objects, UnsafeRef::new(place));
+            insert(tree, links, objects, place);
         }
     }
 }
@@ -332,14 +341,14 @@ fn timed_queue<L: RBTreeOps>(
         if let Some(place) = least(&*tree, &*links, &*objects) {
             remove(tree, links, UnsafeRef::new(place));
             raise(objects, place, by);
-            insert(tree, links, &*objects, UnsafeRef::new(place));
+            insert(tree, links, &*objects, place);
         }
     }
 }
 
 // A cursor moves round the tree. It returns the place where it ends.
 #[inline(never)]
-fn timed_tree_step<L: RBTreeOps>(
+pub(crate) fn timed_tree_step<L: RBTreeOps>(
     tree: &RBTree<ByValue>,
     links: &L,
     operations: u64,
@@ -388,20 +397,24 @@ pub(crate) fn hash<L: RBTreeOps, O: Values<u64>>(
 }
 
 // Does the work, and returns where it ended or what it added up.
-fn work<L: RBTreeOps, O: Values<u64>>(
+fn work<L: RBTreeOps>(
     name: &str,
     tree: &mut RBTree<ByValue>,
     links: &mut L,
-    objects: &O,
+    objects: &Objects<u64>,
     size: Size,
 ) -> u64
-    requires sorted { ShowsSorted (λ v. v) (Shows L.node (L.table links.old) (root_of tree.old)) (O.values objects.now) }
-    ensures sorted { ShowsSorted (λ v. v) (Shows L.node (L.table links.new) (root_of tree.new)) (O.values objects.now) }
+    requires sorted { ShowsSorted (λ v. v) (Shows L.node (L.table links.old) (root_of tree.old)) objects.now }
+    ensures sorted { ShowsSorted (λ v. v) (Shows L.node (L.table links.new) (root_of tree.new)) objects.now }
 {
     match name {
         "find" => return timed_find(&*tree, &*links, objects, size),
         "lower_bound" => return timed_lower_bound(&*tree, &*links, objects, size),
         "tree_iter" => return timed_tree_iter(&*tree, &*links, objects, size.rounds()),
+        "tree_step" => {
+            let end = timed_tree_step(&*tree, &*links, size.operations);
+            return value_at(objects, end);
+        }
         "turn" => timed_turn(tree, links, objects, size),
         "split" => timed_split(tree, links, objects, size),
         "rebuild" => timed_rebuild(tree, links, objects, size.rounds()),
@@ -410,20 +423,20 @@ fn work<L: RBTreeOps, O: Values<u64>>(
     0
 }
 
-/// A tree of objects, or of values in an array, by their keys, inserted in this order: does the work with this name on it, and returns a checksum. Removals
+/// A tree of these objects by their keys, inserted in this order: does the work with this name on it, and returns a checksum. Removals
 /// are of these places.
-pub fn on_tree<O: Values<u64>>(
+pub fn on_tree<L: RBTreeOps>(
     name: &str,
     watch: &mut Watch<'_>,
-    links: &mut LinkOps,
-    objects: &O,
+    links: &mut L,
+    objects: &Objects<u64>,
     order: &[Place],
     places: &[Place],
     size: Size,
 ) -> u64
-    requires covered { All (λ place. index_of place < (plain_table links.old).extent.places) order.now }
-    requires objects { All (λ place. is_placed (O.values objects.now) place ≡ true) order.now }
-    requires places { All (λ place. index_of place < (plain_table links.old).extent.places) places.now }
+    requires covered { All (λ place. index_of place < (L.table links.old).extent.places) order.now }
+    requires objects { All (λ place. is_placed objects.now place ≡ true) order.now }
+    requires among { All (IsAmong order.now) places.now }
     requires distinct { AllPairs (λ a b. a ≢ b) places.now }
 {
     let mut tree = RBTree::new(ByValue);
@@ -441,43 +454,6 @@ pub fn on_tree<O: Values<u64>>(
     let end = work(name, &mut tree, links, objects, size);
     watch.stop(start);
     hash(&tree, &*links, objects).wrapping_add(end)
-}
-
-/// A tree of the values of an array, as [`on_tree`] makes it of objects.
-pub fn on_values(
-    name: &str,
-    watch: &mut Watch<'_>,
-    links: &mut LinkOps,
-    values: &Vec<u64>,
-    order: &[Place],
-    places: &[Place],
-    size: Size,
-) -> u64
-    requires covered { All (λ place. index_of place < (plain_table links.old).extent.places) order.now }
-    requires in_range { All (λ place. index_of place < length values.now.items) order.now }
-    requires places { All (λ place. index_of place < (plain_table links.old).extent.places) places.now }
-    requires distinct { AllPairs (λ a b. a ≢ b) places.now }
-{
-    on_tree(name, watch, links, values, order, places, size)
-}
-
-/// A tree of these objects by their keys: a cursor moves round it. Returns a checksum.
-pub fn on_steps<L: RBTreeOps>(
-    watch: &mut Watch<'_>,
-    links: &mut L,
-    objects: &Objects<u64>,
-    order: &[Place],
-    size: Size,
-) -> u64
-    requires covered { All (λ place. index_of place < (L.table links.old).extent.places) order.now }
-    requires objects { All (λ place. is_placed objects.now place ≡ true) order.now }
-{
-    let mut tree = RBTree::new(ByValue);
-    timed_insert(&mut tree, links, objects, order);
-    let start = watch.start();
-    let end = timed_tree_step(&tree, &*links, size.operations);
-    watch.stop(start);
-    hash(&tree, &*links, objects).wrapping_add(value_at(objects, end))
 }
 
 /// A tree of these objects by their keys: so often the least is taken off, and inserted at the end with a greater key. Returns a checksum.

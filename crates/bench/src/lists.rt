@@ -25,7 +25,11 @@ use ic_unsafe_ref::{Objects, Place, UnsafeRef, Values};
 
 // Puts the object at the back of the list, unless its link is refused.
 #[inline]
-fn put<L: LinkedListOps>(list: &mut LinkedList<u64>, links: &mut L, object: UnsafeRef<u64>)
+pub(crate) fn put<L: LinkedListOps>(
+    list: &mut LinkedList<u64>,
+    links: &mut L,
+    object: UnsafeRef<u64>,
+)
     requires covered { IsCovered (L.table links.old) object }
     requires shown { ShowsSome L.neighbors (L.table links.old) list.old }
     ensures shown { ShowsSome L.neighbors (L.table links.new) list.new }

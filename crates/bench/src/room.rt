@@ -9,6 +9,7 @@ ghost use Rattle.std.specs.Prelude.{◌≡◌, ◌≢◌, ◌<◌, true, All, Al
 ghost use Rattle.std.specs.Bool.{OnTrue};
 ghost use Rattle.ic_unsafe_ref.specs.Places.{index_of};
 ghost use Rattle.ic_unsafe_ref.specs.Objects.{is_placed};
+ghost use Rattle.bench.specs.Picks.{IsAmong};
 
 use crate::random::Random;
 use ic_unsafe_ref::{Objects, Place, UnsafeRef};
@@ -128,6 +129,30 @@ pub fn are_distinct(places: &[Place], inverse: &[usize]) -> bool
     for index in 0..places.len() {
         let place = places[index].index();
         if place >= inverse.len() || inverse[place] != index {
+            return false;
+        }
+    }
+    true
+}
+
+// Whether the place stands in the order where `inverse` says.
+fn is_among(place: Place, order: &[Place], inverse: &[usize]) -> bool
+    ensures { OnTrue result (IsAmong order.now place) }
+{
+    let number = place.index();
+    if number >= inverse.len() {
+        return false;
+    }
+    let index = inverse[number];
+    index < order.len() && order[index].index() == number
+}
+
+/// Whether each place stands in the order where `inverse` says.
+pub fn are_among(places: &[Place], order: &[Place], inverse: &[usize]) -> bool
+    ensures { OnTrue result (All (IsAmong order.now) places.now) }
+{
+    for index in 0..places.len() {
+        if !is_among(places[index], order, inverse) {
             return false;
         }
     }

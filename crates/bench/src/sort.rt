@@ -1,4 +1,4 @@
-//! A sort of a doubly linked list, by values in an array.
+//! A sort of a doubly linked list, by values in an array or beside the links.
 //!
 //! ```text
 //! let checksum = on_sort(false, &mut watch, &mut links, &objects, &values, &order, size);
@@ -10,12 +10,13 @@ ghost use Rattle.ic_unsafe_ref.specs.Objects.{is_placed};
 ghost use Rattle.ic_link_ops.specs.LinkedList.{Shows, ShowsSome};
 ghost use Rattle.ic_link_ops.specs.PlacedObjects.{ShowsPlaced};
 
-use crate::lists::{fill, hash};
+use crate::lists::{fill, hash, put};
 use crate::room::{Size, Watch};
+use ic_link_ops::LinkValues;
 use ic_link_ops::linked_list::LinkedListOps;
 use ic_linked_list::LinkedList;
-use ic_list_algorithms::{Counted, Natural, sort_by};
-use ic_unsafe_ref::{Objects, Place, Values};
+use ic_list_algorithms::{Counted, Natural, sort_by, sort_keyed};
+use ic_unsafe_ref::{Objects, Place, UnsafeRef, Values};
 
 // Sorts the list.
 #[inline(never)]
@@ -101,4 +102,62 @@ pub fn on_sort<L: LinkedListOps>(
         scatter(values);
     }
     hash(&list, &*links, objects, size.members)
+}
+
+// Sorts the list by the values beside its links.
+#[inline(never)]
+fn timed_sort_keyed<L: LinkedListOps + LinkValues<u64>>(list: &mut LinkedList<u64>, links: &mut L)
+    requires shown { ShowsSome L.neighbors (L.table links.old) list.old }
+    ensures shown { ShowsSome L.neighbors (L.table links.new) list.new }
+    ensures extent { (L.table links.new).extent ≡ (L.table links.old).extent }
+{
+    sort_keyed(list, links, &mut Natural);
+}
+
+// Puts the objects at these places into the list, in this order.
+fn push_all<L: LinkedListOps>(list: &mut LinkedList<u64>, links: &mut L, order: &[Place])
+    requires covered { All (λ place. index_of place < (L.table links.old).extent.places) order.now }
+    requires shown { ShowsSome L.neighbors (L.table links.old) list.old }
+    ensures shown { ShowsSome L.neighbors (L.table links.new) list.new }
+    ensures extent { (L.table links.new).extent ≡ (L.table links.old).extent }
+{
+    for place in order {
+        put(list, links, UnsafeRef::new(*place));
+    }
+}
+
+// Gives each of these places another value, as `scatter` does.
+fn scatter_keys<L: LinkedListOps + LinkValues<u64>>(links: &mut L, order: &[Place])
+    requires covered { All (λ place. index_of place < (L.table links.old).extent.places) order.now }
+    ensures covers { (L.table links.new).extent.places ≡ (L.table links.old).extent.places }
+{
+    for place in order {
+        let value = links.value(*place).wrapping_mul(6_364_136_223_846_793_005);
+        links.set_value(*place, value);
+    }
+}
+
+/// Lists of these places, which are sorted one after the other by the values beside their links. These are others for each list. Returns a
+/// checksum of the last list.
+pub fn on_sort_keyed<L: LinkedListOps + LinkValues<u64>>(
+    watch: &mut Watch<'_>,
+    links: &mut L,
+    objects: &Objects<u64>,
+    order: &[Place],
+    size: Size,
+) -> u64
+    requires covered { All (λ place. index_of place < (L.table links.old).extent.places) order.now }
+{
+    let mut checksum = 0;
+    for _round in 0..size.rounds() {
+        let mut list = LinkedList::new();
+        push_all(&mut list, links, order);
+        let start = watch.start();
+        timed_sort_keyed(&mut list, links);
+        watch.stop(start);
+        checksum = hash(&list, &*links, objects, size.members);
+        list.clear(links);
+        scatter_keys(links, order);
+    }
+    checksum
 }

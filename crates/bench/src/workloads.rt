@@ -4,20 +4,23 @@
 //! let checksum = checksum("find", &mut watch, size);
 //! ```
 
+ghost use Rattle.std.specs.Prelude.{◌≢◌, All, AllPairs, IfSome};
+ghost use Rattle.bench.specs.Picks.{IsAmong};
+
 use crate::beside::{on_keyed, set_keys};
 use crate::by_world::on_world;
 use crate::ends::on_queue_with_ends;
 use crate::fresh::on_fresh;
 use crate::hash::on_hash;
-use crate::keyed::{on_queue, on_steps, on_tree, on_values};
+use crate::keyed::{on_queue, on_tree};
 use crate::lists::on_list;
 use crate::random::Random;
-use crate::room::{Size, Watch, are_distinct, inverse, place_all, places_of, values_of};
+use crate::room::{Size, Watch, are_among, are_distinct, inverse, place_all, places_of, values_of};
 use crate::singly::on_singly;
-use crate::sort::on_sort;
+use crate::sort::{on_sort, on_sort_keyed};
 use crate::xor::on_xor;
-use ic_link_ops::{linked_list, rbtree, singly_linked_list, xor_linked_list};
-use ic_unsafe_ref::Objects;
+use ic_link_ops::{LentTable, linked_list, rbtree, singly_linked_list, xor_linked_list};
+use ic_unsafe_ref::{Objects, Place};
 use std::alloc::Global;
 
 /// The objects of a workload, and the numbers below theirs in two random orders.
@@ -103,6 +106,16 @@ fn sort(counts: bool, watch: &mut Watch<'_>, room: &Room, size: Size) -> Option<
     ))
 }
 
+// The same by values that stand beside the links.
+fn sort_keyed(watch: &mut Watch<'_>, room: &Room, size: Size) -> Option<u64> {
+    let alloc = watch.rt.alloc();
+    let mut links = linked_list::LinkOpsWith::new(alloc);
+    links.cover(size.members as usize).ok()?;
+    let order = places_of(alloc, &room.objects, &room.order, links.covers()).ok()?;
+    set_keys(&mut links, &room.objects, &order);
+    Some(on_sort_keyed(watch, &mut links, &room.objects, &order, size))
+}
+
 // A hash table of their values, which stand beside the links.
 fn hash_find(watch: &mut Watch<'_>, room: &Room, size: Size) -> Option<u64> {
     let alloc = watch.rt.alloc();
@@ -113,55 +126,45 @@ fn hash_find(watch: &mut Watch<'_>, room: &Room, size: Size) -> Option<u64> {
     on_hash(watch, &mut links, &order, size)
 }
 
-// A tree of them, or in its other form one of their values in an array, and for the queue one that keeps its ends. Removals are those of the
-// first half in the other order.
-fn tree(
-    name: &str,
-    is_other: bool,
-    watch: &mut Watch<'_>,
-    room: &mut Room,
-    size: Size,
-) -> Option<u64> {
+// The first half of the members in the other order, of which each stands in `order` and none twice.
+fn picked(alloc: Global, room: &Room, order: &[Place], covered: usize) -> Option<Vec<Place>>
+    ensures among { IfSome result (λ places. All (IsAmong order.now) places.items) }
+    ensures distinct { IfSome result (λ places. AllPairs (λ a b. a ≢ b) places.items) }
+{
+    let half = &room.other[..room.other.len() / 2];
+    let places = places_of(alloc, &room.objects, half, covered).ok()?;
+    let own = inverse(alloc, &room.order).ok()?;
+    let other = inverse(alloc, &room.other).ok()?;
+    if are_among(&places, order, &own) && are_distinct(&places, &other) {
+        Some(places)
+    } else {
+        None
+    }
+}
+
+// A tree of them.
+fn tree(name: &str, watch: &mut Watch<'_>, room: &mut Room, size: Size) -> Option<u64> {
     let alloc = watch.rt.alloc();
     let mut links = rbtree::LinkOps::new(alloc);
     links.cover(size.members as usize).ok()?;
-    let values = values_of(alloc, &room.objects, size.members).ok()?;
-    let covered = links.covers().min(values.len());
-    let order = places_of(alloc, &room.objects, &room.order, covered).ok()?;
+    let order = places_of(alloc, &room.objects, &room.order, links.covers()).ok()?;
     if name == "queue" {
-        let checksum = if is_other {
-            on_queue_with_ends(watch, &mut links, &mut room.objects, &order, size)
-        } else {
-            on_queue(watch, &mut links, &mut room.objects, &order, size)
-        };
-        return Some(checksum);
+        return Some(on_queue(watch, &mut links, &mut room.objects, &order, size));
     }
-    if name == "tree_step" {
-        return Some(on_steps(watch, &mut links, &room.objects, &order, size));
-    }
-    let half = &room.other[..room.other.len() / 2];
-    let places = places_of(alloc, &room.objects, half, covered).ok()?;
-    let inverse = inverse(alloc, &room.other).ok()?;
-    if !are_distinct(&places, &inverse) {
-        return None;
-    }
-    let checksum = if is_other {
-        on_values(name, watch, &mut links, &values, &order, &places, size)
-    } else {
-        on_tree(
-            name,
-            watch,
-            &mut links,
-            &room.objects,
-            &order,
-            &places,
-            size,
-        )
-    };
-    Some(checksum)
+    let places = picked(alloc, room, &order, links.covers())?;
+    Some(on_tree(
+        name,
+        watch,
+        &mut links,
+        &room.objects,
+        &order,
+        &places,
+        size,
+    ))
 }
 
-// A tree of their values, which stand beside the links. For `fresh` it counts its members, and for `fresh-ends` it has an interval beside each.
+// A tree of their values, which stand beside the links that the table lends. For `fresh` it counts its members, for `fresh-ends` it has an interval beside each,
+// and for `queue-ends` it keeps its ends.
 fn keyed(name: &str, watch: &mut Watch<'_>, room: &Room, size: Size) -> Option<u64> {
     let alloc = watch.rt.alloc();
     let mut links = rbtree::LinkOpsWith::new(alloc);
@@ -169,30 +172,45 @@ fn keyed(name: &str, watch: &mut Watch<'_>, room: &Room, size: Size) -> Option<u
     let order = places_of(alloc, &room.objects, &room.order, links.covers()).ok()?;
     set_keys(&mut links, &room.objects, &order);
     match name {
-        "fresh" => on_fresh::<()>(watch, links, &order, size),
-        "fresh-ends" => on_fresh::<u64>(watch, links, &order, size),
-        _ => Some(on_keyed(name, watch, &mut links, &order, size)),
+        "fresh" => return on_fresh::<()>(watch, links, &order, size),
+        "fresh-ends" => return on_fresh::<u64>(watch, links, &order, size),
+        "queue-ends" => {
+            let links = LentTable::new(links.lend());
+            return Some(on_queue_with_ends(watch, links, &order, size));
+        }
+        _ => {}
     }
+    let places = picked(alloc, room, &order, links.covers())?;
+    Some(on_keyed(
+        name,
+        watch,
+        LentTable::new(links.lend()),
+        &room.objects,
+        &order,
+        &places,
+        size,
+    ))
 }
 
-/// Does the workload, and returns its checksum. Behind the workload of a list `-lent` stands for a lent table, and
-/// behind one of a tree by its keys `-flat` for keys in an array, and `-keyed` for keys beside the links. `queue-ends` is the queue on
-/// a tree that keeps its ends. `sort-counted` counts comparisons in place of nanoseconds. Without memory there is no checksum.
+/// Does the workload, and returns its checksum. Behind the workload of a list `-lent` stands for a lent table, and behind one of a tree or a
+/// sort `-keyed` for keys beside the links. `queue-ends` is the queue on a tree that keeps its ends. `sort-counted` counts comparisons
+/// in place of nanoseconds. Without memory there is no checksum.
 pub fn checksum(name: &str, watch: &mut Watch<'_>, size: Size) -> Option<u64> {
     let mut room = make_room(watch.rt.alloc(), size.members)?;
-    let (work, is_other) = match name.split_once('-') {
-        Some((work, _)) => (work, true),
-        None => (name, false),
-    };
+    let (work, form) = name.split_once('-').unwrap_or((name, ""));
     match work {
-        "pair" | "touch" | "splice" | "step" | "iter" => doubly(work, is_other, watch, &room, size),
-        "singly" => singly(is_other, watch, &room, size),
-        "xor" => xor(is_other, watch, &room, size),
-        "sort" => sort(is_other, watch, &room, size),
+        "pair" | "touch" | "splice" | "step" | "iter" => {
+            doubly(work, form == "lent", watch, &room, size)
+        }
+        "singly" => singly(form == "lent", watch, &room, size),
+        "xor" => xor(form == "lent", watch, &room, size),
+        "sort" if form == "keyed" => sort_keyed(watch, &room, size),
+        "sort" => sort(form == "counted", watch, &room, size),
         "hash_find" => hash_find(watch, &room, size),
         "fresh" => keyed(name, watch, &room, size),
         "world" => Some(on_world(watch, &room.objects, &room.order, size)),
-        _ if name.ends_with("-keyed") => keyed(work, watch, &room, size),
-        _ => tree(work, is_other, watch, &mut room, size),
+        _ if form == "keyed" => keyed(work, watch, &room, size),
+        _ if form == "ends" => keyed(name, watch, &room, size),
+        _ => tree(work, watch, &mut room, size),
     }
 }

@@ -5,5 +5,4 @@ pub returns : goal.returns
 returns g c =
     let e = c.clear.ensures in
     let s = c.requires.sorted.placed in
-    let extent = (e.frame s.members s.shown).extent in
-    record { sorted = new_is_sorted (λ v. v) _ e.empty; values = g.met.L.LinkValues.values_stay _ _ extent; extent = extent }
+    record { sorted = new_is_sorted (λ v. v) _ e.empty; extent = (e.frame s.members s.shown).extent }

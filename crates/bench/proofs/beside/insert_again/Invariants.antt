@@ -7,6 +7,5 @@ use Rattle.bench.proofs.beside.insert_again.Given as goal
 abbrev pub invariant-loop-round : goal.invariant-loop-round
 invariant-loop-round g l = record {
   sorted : ShowsSorted (λ v. v) (Shows g.L.RBTreeOps.node (g.L.LinkOps.table l.links) (root_of l.tree)) (g.L.Values.values l.links);
-  values : g.L.Values.values l.links ≡ g.L.Values.values l.fn.links;
   extent : (g.L.LinkOps.table l.links).extent ≡ (g.L.LinkOps.table l.fn.links).extent;
 }

@@ -1,6 +1,9 @@
+use Rattle.ic_link_ops.specs.RedBlackTree.{Shows}
 use Rattle.ic_rbtree.specs.Tree.{root_of}
-use Rattle.ic_rbtree.specs.KeyedTrees.{ShowsKeys}
+use Rattle.ic_rbtree.specs.SortedObjects.{ShowsSorted}
 use Rattle.bench.proofs.beside.timed_queue.Given as goal
 
 abbrev pub invariant-loop-operation : goal.invariant-loop-operation
-invariant-loop-operation l = record { sorted : ShowsKeys l.links (root_of l.tree) }
+invariant-loop-operation g l = record {
+  sorted : ShowsSorted (λ v. v) (Shows g.L.RBTreeOps.node (g.L.LinkOps.table l.links) (root_of l.tree)) (g.L.Values.values l.links);
+}

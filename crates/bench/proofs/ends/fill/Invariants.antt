@@ -6,6 +6,6 @@ use Rattle.bench.proofs.ends.fill.Given as goal
 
 abbrev pub invariant-loop-place : goal.invariant-loop-place
 invariant-loop-place g l = record {
-  placed : ShowsPlaced (ShowsCached g.L.RBTreeOps.node (g.L.LinkOps.table l.links) (ends_of l.tree)) l.objects;
+  placed : ShowsPlaced (ShowsCached g.L.RBTreeOps.node (g.L.LinkOps.table l.links) (ends_of l.tree)) (g.L.Values.values l.links);
   extent : (g.L.LinkOps.table l.links).extent ≡ (g.L.LinkOps.table l.fn.links).extent;
 }

@@ -1,16 +1,24 @@
+use Rattle.std.proofs.Common.{◌≡◌, true, sym, subst}
+use Rattle.ic_unsafe_ref.specs.declared.place.Place.{Place}
+use Rattle.ic_unsafe_ref.specs.Objects.{is_placed}
 use Rattle.ic_link_ops.specs.RedBlackTree.{Shows}
 use Rattle.ic_rbtree.proofs.SortedKeys.{sorted_inserted}
-use Rattle.bench.proofs.KeyedEdits.{inserted_extent}
+use Rattle.bench.proofs.KeyedEdits.{inserted_extent, inserted_member, members_kept}
+use Rattle.bench.proofs.Options.{on_ok}
 use Rattle.bench.proofs.keyed.insert.Goals as goal
 
-pub returns-clause-sorted : goal.returns-clause-sorted
-returns-clause-sorted g c =
+pub insert-requires-clause-object : goal.insert-requires-clause-object
+insert-requires-clause-object g c = rw c.new.ensures c.requires.object
+
+pub returns : goal.returns
+returns g c =
     let e = c.insert.ensures in
     let q = c.requires.sorted in
-    sorted_inserted (λ v. v) (g.O.Values.values c.args.objects.now) g.met.L.LinkOps.refused_keeps _ _ _ c.requires.object q c.insert.result (e.inserted _ q.placed.shown) e.refused e.unchanged
-
-pub returns-clause-extent : goal.returns-clause-extent
-returns-clause-extent g c =
-    let e = c.insert.ensures in
-    let s = c.requires.sorted.placed in
-    inserted_extent (Shows g.L.RBTreeOps.node) g.met.L.LinkOps.refused_keeps c.insert.result _ _ s.members _ (e.inserted s.members s.shown) e.refused
+    let shown = q.placed.shown in
+    let object = subst (λ (a : Place). is_placed c.args.objects.now a ≡ true) (sym c.new.ensures) c.requires.object in
+    record {
+      sorted = sorted_inserted (λ v. v) c.args.objects.now g.met.L.LinkOps.refused_keeps _ _ c.new.result object q c.insert.result (e.inserted _ shown) e.refused e.unchanged;
+      member = on_ok _ c.insert.result c.is_ok.ensures.value (inserted_member g.met.L.RBTreeOps.linked_alike g.met.L.LinkOps.refused_keeps _ _ c.args.tree.now _ _ _ c.insert.result e.inserted c.new.ensures _ shown);
+      kept = λ p m. members_kept g.met.L.RBTreeOps.linked_alike g.met.L.LinkOps.refused_keeps _ _ c.args.tree.now _ _ _ c.insert.result e.inserted e.refused e.unchanged m;
+      extent = inserted_extent (Shows g.L.RBTreeOps.node) g.met.L.LinkOps.refused_keeps c.insert.result _ _ q.placed.members _ (e.inserted _ shown) e.refused;
+    }

@@ -6,6 +6,6 @@ use Rattle.bench.proofs.keyed.timed_insert.Given as goal
 
 abbrev pub invariant-loop-place : goal.invariant-loop-place
 invariant-loop-place g l = record {
-  sorted : ShowsSorted (λ v. v) (Shows g.L.RBTreeOps.node (g.L.LinkOps.table l.links) (root_of l.tree)) (g.O.Values.values l.objects);
+  sorted : ShowsSorted (λ v. v) (Shows g.L.RBTreeOps.node (g.L.LinkOps.table l.links) (root_of l.tree)) l.objects;
   extent : (g.L.LinkOps.table l.links).extent ≡ (g.L.LinkOps.table l.fn.links).extent;
 }

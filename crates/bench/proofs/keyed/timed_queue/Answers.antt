@@ -8,7 +8,7 @@ use Rattle.bench.proofs.keyed.timed_queue.Goals.{in-Some, in_default}
 
 pub insert-requires-clause-object : goal.insert-requires-clause-object
 insert-requires-clause-object g c =
-    rw c.new-in-Some.ensures (placed_still c.loop-operation.objects c.raise.new.objects c.in-Some.place _ c.raise.ensures c.in-Some.ensures.placed)
+    placed_still c.loop-operation.objects c.raise.new.objects c.in-Some.place _ c.raise.ensures c.in-Some.ensures.placed
 
 pub insert-requires-clause-sorted : goal.insert-requires-clause-sorted
 insert-requires-clause-sorted g c =

@@ -2,7 +2,7 @@ use Rattle.bench.proofs.keyed.timed_turn.Goals as goal
 use Rattle.bench.proofs.keyed.timed_turn.Goals.{in-Some, in_default}
 
 pub insert-requires-clause-sorted : goal.insert-requires-clause-sorted
-insert-requires-clause-sorted g c = c.remove.ensures.sorted (g.O.Values.values c.args.objects.now) c.loop-operation.invariant.sorted
+insert-requires-clause-sorted g c = c.remove.ensures.sorted c.args.objects.now c.loop-operation.invariant.sorted
 
 pub loop-operation-preserved : goal.loop-operation-preserved
 loop-operation-preserved g c =

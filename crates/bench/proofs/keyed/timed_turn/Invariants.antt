@@ -4,4 +4,4 @@ use Rattle.ic_rbtree.specs.SortedObjects.{ShowsSorted}
 use Rattle.bench.proofs.keyed.timed_turn.Given as goal
 
 abbrev pub invariant-loop-operation : goal.invariant-loop-operation
-invariant-loop-operation g l = record { sorted : ShowsSorted (λ v. v) (Shows g.L.RBTreeOps.node (g.L.LinkOps.table l.links) (root_of l.tree)) (g.O.Values.values l.objects) }
+invariant-loop-operation g l = record { sorted : ShowsSorted (λ v. v) (Shows g.L.RBTreeOps.node (g.L.LinkOps.table l.links) (root_of l.tree)) l.objects }

@@ -2,11 +2,10 @@ use Rattle.std.proofs.Common.{◌≡◌}
 use Rattle.ic_link_ops.specs.RedBlackTree.{Shows}
 use Rattle.ic_rbtree.specs.Tree.{root_of}
 use Rattle.ic_rbtree.specs.SortedObjects.{ShowsSorted}
-use Rattle.bench.proofs.beside.timed_insert.Given as goal
+use Rattle.bench.proofs.beside.remove_again.Given as goal
 
-abbrev pub invariant-loop-place : goal.invariant-loop-place
-invariant-loop-place g l = record {
+abbrev pub invariant-loop-round : goal.invariant-loop-round
+invariant-loop-round g l = record {
   sorted : ShowsSorted (λ v. v) (Shows g.L.RBTreeOps.node (g.L.LinkOps.table l.links) (root_of l.tree)) (g.L.Values.values l.links);
-  values : g.L.Values.values l.links ≡ g.L.Values.values l.fn.links;
   extent : (g.L.LinkOps.table l.links).extent ≡ (g.L.LinkOps.table l.fn.links).extent;
 }

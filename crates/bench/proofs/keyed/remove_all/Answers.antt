@@ -1,6 +1,6 @@
 use Rattle.std.proofs.Common.{arith, sym, ◌∙◌, slice_index_or}
 use Rattle.std.proofs.lemmas.List.{get_or_default}
-use Rattle.bench.proofs.keyed.timed_remove.Goals as goal
+use Rattle.bench.proofs.keyed.remove_all.Goals as goal
 
 pub loop-index-preserved : goal.loop-index-preserved
 loop-index-preserved g c =
@@ -8,7 +8,7 @@ loop-index-preserved g c =
     let e = c.remove.ensures in
     let taken = c.index-places-index in
     record {
-      sorted = e.sorted (g.O.Values.values c.args.objects.now) was.sorted;
+      sorted = λ objects q. e.sorted objects (was.sorted objects q);
       members = λ k d low high.
           e.kept (slice_index_or c.args.places.now k d)
           (λ same. c.requires.distinct c.loop-index.index k d (omega (arith, low)) high
