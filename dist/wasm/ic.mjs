@@ -1,4 +1,4 @@
-// Lists and a red-black tree over tables of links, by the proved calls of ic.wasm. ic.d.mts says what each does.
+// Lists, rings, hash tables and a red-black tree over tables of links, by the proved calls of ic.wasm. ic.d.mts says what each does.
 //
 //     import { hasMemory64, open, List } from "./ic.mjs";
 //     const ic = await open(new URL(hasMemory64() ? "ic.wasm" : "ic32.wasm", import.meta.url));
@@ -73,6 +73,11 @@ export class Library {
     if (this.seen?.buffer !== buffer) this.seen = new Uint32Array(buffer, this.out, 1);
     return this.seen[0];
   }
+  /** How many members the call has counted. */
+  counted(status) {
+    this.done(status);
+    return Number(new DataView(this.calls.memory.buffer).getBigUint64(this.out, true));
+  }
 }
 
 // Engines differ in whether a page count of a wide memory is a BigInt.
@@ -85,10 +90,10 @@ function grow(memory, pages, isWide) {
   }
 }
 
-/** A table of links, keys, or the words of a list: `width` words for each of `length` places. */
+/** A table of links, keys, buckets, or the words of a list: `width` words for each of `length` places. */
 export class Words {
-  constructor(library, length, width) {
-    Object.assign(this, { library, length, width, address: library.take(8 * width * length) });
+  constructor(library, length, width, address = library.take(8 * width * length)) {
+    Object.assign(this, { library, length, width, address });
   }
   /** All words. Take it anew after memory was taken. */
   get words() {
@@ -107,7 +112,7 @@ export class Words {
     return fromHalves(this.halves[at], this.halves[at + 1] & 7);
   }
   isLinked(place) {
-    return place < this.length && (this.word(place) & 1n) === 1n;
+    return place !== null && place < this.length && (this.word(place) & 1n) === 1n;
   }
   get parts() {
     return [this.library.at(this.address), BigInt(this.length)];
@@ -120,12 +125,22 @@ const fromHalves = (low, high) => orNull((high << 29 | low >>> 3) - 1 >>> 0);
 const orNull = (place) => (place === NONE ? null : place);
 const number = (place) => place ?? NONE;
 
+function checkWidth(links, width) {
+  if (links.width !== width) throw new TypeError(`its table has ${width} words for each place`);
+}
+
+/** Keys as the calls take them, which are none where there are no words. */
+function keyParts(keys, { library }) {
+  if (keys && (keys.width !== 1 || keys.library !== library)) throw new TypeError("its keys are words of the same module");
+  return keys?.parts ?? [library.at(0), 0n];
+}
+
 class Collection {
-  constructor(links, width, linkWidth) {
-    if (links.width !== linkWidth) throw new TypeError(`its table has ${linkWidth} words for each place`);
+  constructor(links, width, linkWidth, ends = new Words(links.library, 1, width)) {
+    checkWidth(links, linkWidth);
     this.links = links;
     this.library = links.library;
-    this.ends = new Words(this.library, 1, width);
+    this.ends = ends;
     [this.table, this.places] = links.parts;
     this.self = this.library.at(this.ends.address);
     this.out = this.library.at(this.library.out);
@@ -143,9 +158,12 @@ class Collection {
   beside(call, at) {
     return this.library.member(call(this.table, this.places, this.self, number(at), this.out));
   }
+  counted(call) {
+    return this.library.counted(call(this.table, this.places, this.self, this.out));
+  }
   /** Another collection of this table, whose members move to this one. */
   given(other) {
-    if (other === this || other.links !== this.links) throw new TypeError("what is given is another list of the same table");
+    if (other.self === this.self || other.links !== this.links) throw new TypeError("what is given is another list of the same table");
     return other.self;
   }
   split(call, ...more) {
@@ -185,11 +203,99 @@ export class List extends Collection {
   moveToBack(place) { this.edit(this.library.calls.ic_list_move_to_back, place); }
   fill(first, count) { this.edit(this.library.calls.ic_list_fill, first, count); }
   clear() { this.edit(this.library.calls.ic_list_clear); }
+  check() { return this.counted(this.library.calls.ic_list_check); }
+  sort(keys) { this.library.done(this.library.calls.ic_list_sort(this.table, this.places, ...keyParts(keys, this.links), this.self)); }
+  merge(keys, given) {
+    const others = this.given(given);
+    this.library.done(this.library.calls.ic_list_merge(this.table, this.places, ...keyParts(keys, this.links), this.self, others));
+  }
+}
+
+/** A ring over links2, whose head is a place of the table. What ic.h makes of several calls is made of the same calls here. */
+export class Ring {
+  constructor(links, head) {
+    checkWidth(links, 2);
+    Object.assign(this, { links, head, library: links.library });
+    [this.table, this.places] = links.parts;
+    this.edit(this.library.calls.ic_ring_init, head);
+  }
+  get isEmpty() { return this.next(this.head) === this.head; }
+  get first() { return this.member(this.next(this.head)); }
+  get last() { return this.member(this.prev(this.head)); }
+  next(at) { return this.beside(at, 0); }
+  prev(at) { return this.beside(at, 1); }
+  *[Symbol.iterator]() {
+    let at = this.first;
+    for (let left = this.links.length; at !== null && left > 0; left--, at = this.member(this.next(at))) yield at;
+  }
+  pushFront(place) { this.insertAfter(this.head, place); }
+  pushBack(place) { this.insertBefore(this.head, place); }
+  popFront() { return this.pop(this.next(this.head)); }
+  popBack() { return this.pop(this.prev(this.head)); }
+  insertAfter(at, place) { this.edit(this.library.calls.ic_ring_insert_after, at, place); }
+  insertBefore(at, place) { this.edit(this.library.calls.ic_ring_insert_before, at, place); }
+  remove(at) { this.edit(this.library.calls.ic_ring_remove, at); }
+  replace(at, place) {
+    const { ic_ring_remove } = this.library.calls;
+    this.insertBefore(at, place);
+    this.doneOr(this.status(ic_ring_remove, at), () => this.status(ic_ring_remove, place));
+  }
+  moveAfter(at, place) { this.move(this.library.calls.ic_ring_insert_after, at, place); }
+  moveBefore(at, place) { this.move(this.library.calls.ic_ring_insert_before, at, place); }
+  spliceAfter(at, given) { this.splice(at, this.given(given)); }
+  spliceBefore(at, given) {
+    const head = this.given(given), before = this.prev(at);
+    if (before === null) this.refuse(at);
+    this.splice(before, head);
+  }
+  exchange(one, other) { this.edit(this.library.calls.ic_ring_exchange, one, other); }
+  status(call, x, y) { return call(this.table, this.places, number(x), number(y)); }
+  edit(call, x, y) { this.library.done(this.status(call, x, y)); }
+  // Of two edits the second has this status. If it is refused, `back` takes the first one back.
+  doneOr(status, back) {
+    if (status !== OK) throw new Refused(back() === OK ? status : BROKEN);
+  }
+  // What stands beside a place of a ring.
+  beside(at, which) {
+    const place = this.links.isLinked(at) ? this.links.place(at, which) : null;
+    return place < this.links.length ? place : null;
+  }
+  member(place) { return place === this.head ? null : place; }
+  /** The head of another ring of this table. */
+  given(other) {
+    if (other === this || other.links !== this.links) throw new TypeError("what is given is another ring of the same table");
+    return other.head;
+  }
+  // Says why nothing stands beside a place.
+  refuse(at) {
+    if (this.links.isLinked(at)) throw new Refused(BROKEN);
+    this.remove(at);
+  }
+  pop(first) {
+    if (first === null) this.refuse(this.head);
+    if (first === this.head) return null;
+    this.remove(first);
+    return first;
+  }
+  move(insert, at, place) {
+    const { ic_ring_init, ic_ring_insert_after } = this.library.calls, prev = this.prev(place);
+    if (at === place) throw new Refused(LINKED);
+    this.remove(place);
+    this.doneOr(this.status(insert, at, place), () =>
+      prev === place ? this.status(ic_ring_init, place) : this.status(ic_ring_insert_after, prev, place),
+    );
+  }
+  splice(at, head) {
+    const { ic_ring_exchange } = this.library.calls, last = this.prev(head);
+    if (last === null) this.refuse(head);
+    this.exchange(last, at);
+    this.doneOr(this.status(ic_ring_exchange, at, head), () => this.status(ic_ring_exchange, last, at));
+  }
 }
 
 /** A singly linked list over links1. */
 export class Stack extends Collection {
-  constructor(links) { super(links, 1, 1); }
+  constructor(links, ends) { super(links, 1, 1, ends); }
   get first() { return this.ends.place(0); }
   next(at) { return this.links.place(at); }
   *[Symbol.iterator]() {
@@ -207,6 +313,33 @@ export class Stack extends Collection {
   splitAfter(at) { return this.split(this.library.calls.ic_stack_split_after, at); }
   fill(first, count) { this.edit(this.library.calls.ic_stack_fill, first, count); }
   clear() { this.edit(this.library.calls.ic_stack_clear); }
+  check() { return this.counted(this.library.calls.ic_stack_check); }
+}
+
+/** A hash table over links1. Each call for one object takes the same hash. */
+export class HashTable {
+  constructor(links, buckets, keys = null) {
+    checkWidth(links, 1);
+    Object.assign(this, { links, keys, library: links.library, buckets: new Words(links.library, buckets, 1) });
+    [this.table, this.keyed] = [links.parts, keyParts(keys, links)];
+    this.out = this.library.at(this.library.out);
+  }
+  *[Symbol.iterator]() {
+    for (let bucket = 0; bucket < this.buckets.length; bucket++) yield* this.chain(bucket);
+  }
+  /** The chain of a hash. A list that was made before of the same chain has the same members. */
+  chain(hash) {
+    const bucket = Number(BigInt.asUintN(64, BigInt(hash)) % BigInt(this.buckets.length));
+    return new Stack(this.links, new Words(this.library, 1, 1, this.buckets.address + 8 * bucket));
+  }
+  insert(hash, place) { this.edit(this.library.calls.ic_hash_insert, hash, place); }
+  remove(hash, place) { this.edit(this.library.calls.ic_hash_remove, hash, place); }
+  find(hash, key) {
+    const { ic_hash_find } = this.library.calls;
+    return this.library.member(ic_hash_find(...this.table, ...this.keyed, ...this.buckets.parts, BigInt(hash), BigInt(key), this.out));
+  }
+  nextEqual(at) { return this.library.member(this.library.calls.ic_hash_next_equal(...this.table, ...this.keyed, number(at), this.out)); }
+  edit(call, hash, place) { this.library.done(call(...this.table, ...this.buckets.parts, BigInt(hash), number(place))); }
 }
 
 /** An XOR list over links1. A gap is named by both members beside it. */
@@ -241,9 +374,8 @@ export class XorList extends Collection {
 export class Tree extends Collection {
   constructor(links, keys = null) {
     super(links, 1, 3);
-    if (keys && (keys.width !== 1 || keys.library !== links.library)) throw new TypeError("its keys are words of the same module");
     this.keys = keys;
-    [this.keysAt, this.keyCount] = keys?.parts ?? [this.library.at(0), 0n];
+    [this.keysAt, this.keyCount] = keyParts(keys, links);
   }
   get root() { return this.ends.place(0); }
   left(at) { return this.links.place(at, 0); }
@@ -259,6 +391,7 @@ export class Tree extends Collection {
   remove(at) { this.edit(this.library.calls.ic_tree_remove, at); }
   replace(at, place) { this.edit(this.library.calls.ic_tree_replace, at, place); }
   clear() { this.edit(this.library.calls.ic_tree_clear); }
+  check() { return this.counted(this.library.calls.ic_tree_check); }
   find(key) { return this.search(this.library.calls.ic_tree_find, key); }
   lowerBound(key) { return this.search(this.library.calls.ic_tree_lower_bound, key); }
   upperBound(key) { return this.search(this.library.calls.ic_tree_upper_bound, key); }

@@ -1,7 +1,7 @@
 // Random calls of ic.mjs beside plain arrays, by each of the modules.
 //     node --experimental-wasm-memory64 tests/library/plain_arrays.mjs CALLS MODULE ..
 import assert from "node:assert";
-import { List, Refused, Stack, Tree, XorList, open } from "../../dist/wasm/ic.mjs";
+import { BROKEN, HashTable, LINKED, List, NOT_LINKED, NULL, OUT_OF_RANGE, Refused, Ring, Stack, Tree, XorList, open } from "../../dist/wasm/ic.mjs";
 
 const [calls, ...modules] = process.argv.slice(2), PLACES = 20, REFUSED = "refused";
 let state = 7;
@@ -15,6 +15,7 @@ const insert = (plain, named, index, place) => (accepts(plain, named, place) ? (
 const replace = (plain, index, place) => (index >= 0 && accepts(plain, [], place) ? ((plain[index] = place), null) : REFUSED);
 const remove = (plain, index) => (index < 0 ? REFUSED : (plain.splice(index, 1), null));
 const clear = (plain) => ((plain.length = 0), null);
+const sort = (plain, key) => (plain.sort((one, other) => key(one) - key(other)), null);
 
 /** A run of places goes in at an index, if none of them is refused. */
 function fill(plain, index, first, count) {
@@ -60,9 +61,27 @@ function putInFront(plain, index, rest, splice) {
   plain.unshift(...moved);
 }
 
+/** Moves some members of a list in order to another one, and merges that with it: of equal keys those that stayed are in front. */
+function mergeSome(list, plain, keys, key) {
+  const given = new List(list.links), moved = plain.filter(() => random(2));
+  list.sort(keys);
+  sort(plain, key);
+  for (const place of plain.filter((it) => moved.includes(it))) {
+    list.remove(place);
+    given.pushBack(place);
+  }
+  const behind = [...given];
+  plain.splice(0, plain.length, ...list, ...behind);
+  compare("List.merge", () => list.merge(keys, given), sort(plain, key));
+  assert(given.isEmpty);
+  assert.deepEqual([...list], plain);
+}
+
 function doubly(ic, turns) {
-  const list = new List(ic.links2(PLACES)), plain = [];
+  const list = new List(ic.links2(PLACES)), plain = [], keys = ic.keys(PLACES), few = ic.keys(PLACES - 1), key = (place) => Number(keys.word(place));
+  for (let place = 0; place < PLACES; place++) keys.words[place] = BigInt(random(8));
   play(list, plain, turns, (turn) => {
+    if (turn % 70 === 0) mergeSome(list, plain, keys, key);
     const place = random(PLACES + 2), at = random(9) === 0 ? null : random(PLACES + 1), count = random(4);
     if (plain.includes(at) && turn % 50 === 0) {
       const rest = list.splitAfter(at);
@@ -91,7 +110,71 @@ function doubly(ic, turns) {
       ["moveToBack", [place], () => move(plain, [], place, () => plain.length)],
       ["moveAfter", [at, place], () => move(plain, [at], place, () => (own < 0 ? plain.indexOf(at) + 1 : own))],
       ["moveBefore", [at, place], () => move(plain, [at], place, () => (own >= 0 ? own : at === null ? plain.length : plain.indexOf(at)))],
+      ["check", [], () => plain.length],
       ...(turn % 60 === 0 ? [["clear", [], () => clear(plain)]] : []),
+      ...(turn % 40 === 0 ? [["sort", [keys], () => sort(plain, key)], ["sort", [few], () => REFUSED]] : []),
+    ];
+  });
+}
+
+/** Two rings of one table, with its last places for heads. The calls of the first one edit both. */
+function rings(ic, turns) {
+  const links = ic.links2(PLACES + 2), both = [PLACES, PLACES + 1].map((head) => ({ head, ring: new Ring(links, head), plain: [] }));
+  const [{ ring, plain }, other] = both;
+  // Where a place stands: the array of its ring, and an index there, at which a head is in front of all.
+  function stands(place) {
+    const it = both.find(({ head, plain }) => place === head || plain.includes(place));
+    return it && { plain: it.plain, index: it.plain.indexOf(place), isHead: place === it.head };
+  }
+  const member = (place) => (stands(place)?.isHead ? undefined : stands(place));
+  const isFree = (place) => place < PLACES && !stands(place);
+  function put(place, at, isAfter) {
+    const there = stands(at);
+    there.plain.splice(isAfter ? there.index + 1 : there.isHead ? there.plain.length : there.index, 0, place);
+    return null;
+  }
+  function move(place, at, isAfter) {
+    const from = stands(place);
+    if (!from || !stands(at) || at === place) return REFUSED;
+    from.plain.splice(from.index, 1);
+    return put(place, at, isAfter);
+  }
+  function splice(at, isAfter) {
+    for (const place of other.plain.splice(0)) {
+      put(place, at, isAfter);
+      if (isAfter) at = place;
+    }
+    return null;
+  }
+  // Both rings become one, with both heads in it, and two again.
+  function exchangeTwice() {
+    const one = random(plain.length + 1) - 1, two = random(other.plain.length + 1) - 1;
+    const places = [plain[one] ?? ring.head, other.plain[two] ?? other.head], behind = other.plain.slice(0, two + 1);
+    compare("Ring.exchange", () => ring.exchange(...places), null);
+    assert.deepEqual([...ring], [...plain.slice(0, one + 1), ...other.plain.slice(two + 1), other.head, ...behind, ...plain.slice(one + 1)]);
+    compare("Ring.exchange", () => ring.exchange(...places), null);
+  }
+  play(ring, plain, turns, (turn) => {
+    const place = random(PLACES + 3), at = random(PLACES + 3), from = random(PLACES), own = [...plain, ring.head][random(plain.length + 1)];
+    const index = plain.indexOf(at);
+    if (turn % 50 === 0) exchangeTwice();
+    assert.deepEqual([...other.ring], other.plain);
+    assert.deepEqual([ring.first, ring.last, ring.isEmpty], [orNull(plain[0]), orNull(plain.at(-1)), !plain.length]);
+    if (index >= 0) assert.deepEqual([ring.next(at), ring.prev(at)], [plain[index + 1] ?? ring.head, plain[index - 1] ?? ring.head]);
+    return [
+      ["pushFront", [place], () => (isFree(place) ? put(place, ring.head, true) : REFUSED)],
+      ["pushBack", [place], () => (isFree(place) ? put(place, ring.head, false) : REFUSED)],
+      ["popFront", [], () => orNull(plain.shift())],
+      ["popBack", [], () => orNull(plain.pop())],
+      ["insertAfter", [at, place], () => (stands(at) && isFree(place) ? put(place, at, true) : REFUSED)],
+      ["insertBefore", [at, place], () => (stands(at) && isFree(place) ? put(place, at, false) : REFUSED)],
+      ["remove", [from], () => (member(from) ? remove(member(from).plain, member(from).index) : REFUSED)],
+      ["replace", [from, place], () => (member(from) && isFree(place) ? ((member(from).plain[member(from).index] = place), null) : REFUSED)],
+      ["moveAfter", [at, from], () => move(from, at, true)],
+      ["moveBefore", [at, from], () => move(from, at, false)],
+      ["exchange", [at, null], () => REFUSED],
+      ...(turn % 30 === 0 ? [["spliceAfter", [own, other.ring], () => splice(own, true)]] : []),
+      ...(turn % 30 === 1 ? [["spliceBefore", [own, other.ring], () => splice(own, false)]] : []),
     ];
   });
 }
@@ -111,9 +194,44 @@ function singly(ic, turns) {
       ["fill", [place, count], () => fill(plain, 0, place, count)],
       ["insertAfter", [at, place], () => insert(plain, [at], index + 1, place)],
       ["removeAfter", [at], () => (at !== null && index < 0 ? REFUSED : orNull(plain.splice(index + 1, 1)[0]))],
+      ["check", [], () => plain.length],
       ...(turn % 60 === 0 ? [["clear", [], () => clear(plain)]] : []),
     ];
   });
+}
+
+/** A hash table beside an array for each chain. The hash of a key is seven times the key. */
+function hashed(ic, turns) {
+  const keys = ic.keys(PLACES), links = ic.links1(PLACES), key = (place) => Number(keys.word(place)), hash = (key) => 7 * key;
+  const made = new HashTable(links, 4, keys), chains = [[], [], [], []], plain = [];
+  function edit(result) {
+    plain.splice(0, plain.length, ...chains.flat());
+    return result;
+  }
+  play(made, plain, turns, (turn) => {
+    const place = random(PLACES + 2), sought = random(12), of = random(PLACES), isMember = plain.includes(of);
+    if (!plain.includes(place) && place < PLACES) keys.words[place] = BigInt(random(12));
+    const here = hash(key(of)), chain = chains[here % 4], there = place < PLACES ? hash(key(place)) : 0;
+    if (turn % 50 === 0) {
+      // All members move to another array of buckets, and back.
+      const more = new HashTable(links, 11, keys), back = [...plain].reverse();
+      for (const place of plain) (made.remove(hash(key(place)), place), more.insert(hash(key(place)), place));
+      assert(plain.every((place) => [...more.chain(hash(key(place)))].includes(place)) && ![...made].length);
+      for (const place of back) (more.remove(hash(key(place)), place), made.insert(hash(key(place)), place));
+    }
+    return [
+      ["insert", [there, place], () => (plain.includes(place) ? REFUSED : edit(insert(chains[there % 4], [], 0, place)))],
+      ["remove", [here, of], () => edit(remove(chain, chain.indexOf(of)))],
+      ["remove", [here + 1, of], () => REFUSED],
+      ["find", [hash(sought), sought], () => orNull(chains[hash(sought) % 4].find((it) => key(it) === sought))],
+      ["nextEqual", [of], () => (isMember ? orNull(chain.slice(chain.indexOf(of) + 1).find((it) => key(it) === key(of))) : REFUSED)],
+    ];
+  });
+  const last = new HashTable(ic.links1(PLACES), 4, keys);
+  last.insert(2n ** 64n - 1n, 5);
+  assert.deepEqual([...last.chain(3)], [5]);
+  assert.equal(last.chain(-1).check(), 1);
+  assert.throws(() => last.chain(3).spliceAfter(null, last.chain(7)), TypeError);
 }
 
 function xor(ic, turns) {
@@ -153,6 +271,7 @@ function tree(ic, turns) {
     return [
       ["insert", [place], () => insert(plain, [], behind < 0 ? plain.length : behind, place)],
       ["remove", [place], () => remove(plain, plain.indexOf(place))],
+      ["check", [], () => plain.length],
       ...(turn % 60 === 0 ? [["clear", [], () => clear(plain)]] : []),
       ["find", [sought], () => orNull(plain.find((it) => key(it) === sought))],
       ["lowerBound", [sought], () => orNull(plain.find((it) => key(it) >= sought))],
@@ -161,12 +280,60 @@ function tree(ic, turns) {
   });
 }
 
+/** What some refusals say, by ic.h. None changes a link. */
+function refusals(ic) {
+  const links = ic.links2(5), ring = new Ring(links, 4), other = new Ring(links, 3), list = new List(links);
+  const linked = () => Array.from({ length: 5 }, (_, at) => links.isLinked(at) && [links.word(at, 0), links.word(at, 1)]);
+  function refused(status, call) {
+    const before = linked();
+    assert.throws(call, (error) => error instanceof Refused && error.status === status);
+    assert.deepEqual(linked(), before);
+  }
+  ring.pushBack(0);
+  ring.pushBack(1);
+  refused(LINKED, () => new Ring(links, 0));
+  refused(OUT_OF_RANGE, () => new Ring(links, 5));
+  refused(LINKED, () => ring.moveAfter(0, 0));
+  refused(LINKED, () => list.pushBack(0));
+  refused(NOT_LINKED, () => ring.remove(2));
+  refused(NOT_LINKED, () => ring.moveBefore(2, 1));
+  refused(NOT_LINKED, () => ring.spliceBefore(2, other));
+  refused(NULL, () => ring.insertAfter(null, 2));
+  refused(NULL, () => ring.exchange(0, null));
+  refused(NULL, () => ring.spliceBefore(null, other));
+  // The place 1 leads back to none, so no call parts 0 from it. Then the head leads on to a place that the table does not have.
+  links.words[2 * 1 + 1] = 0n;
+  refused(BROKEN, () => ring.replace(0, 2));
+  refused(BROKEN, () => ring.moveAfter(4, 0));
+  refused(BROKEN, () => ring.spliceBefore(1, other));
+  links.words[2 * 4] = 8n * 9n + 1n;
+  assert.deepEqual([ring.first, ring.isEmpty, [...ring]], [null, false, []]);
+  refused(BROKEN, () => ring.popFront());
+  other.remove(3);
+  refused(NOT_LINKED, () => other.popFront());
+  refused(NOT_LINKED, () => ring.spliceAfter(4, other));
+  list.pushBack(2);
+  links.words[2 * 2 + 1] = 8n;
+  refused(BROKEN, () => list.check());
+  refused(BROKEN, () => list.sort(ic.keys(5)));
+  refused(OUT_OF_RANGE, () => list.sort(ic.keys(4)));
+  refused(OUT_OF_RANGE, () => new HashTable(ic.links1(5), 0).insert(0, 0));
+  refused(OUT_OF_RANGE, () => new HashTable(ic.links1(5), 1).find(0, 0));
+}
+
 for (const module of modules) {
   const ic = await open(new URL(`../../dist/wasm/${module}`, import.meta.url));
-  for (const part of [doubly, singly, xor, tree]) part(ic, Number(calls) / 4 / modules.length);
-  const list = new List(ic.links2(PLACES));
-  assert.throws(() => list.spliceAfter(null, list), TypeError);
-  assert.throws(() => list.spliceAfter(null, new List(ic.links2(PLACES))), TypeError);
+  const parts = [doubly, rings, singly, hashed, xor, tree];
+  for (const part of parts) part(ic, Number(calls) / parts.length / modules.length);
+  refusals(ic);
+  const links = ic.links2(PLACES), list = new List(links), ring = new Ring(links, 0);
+  for (const given of [list, new List(ic.links2(PLACES))]) {
+    assert.throws(() => list.spliceAfter(null, given), TypeError);
+    assert.throws(() => list.merge(ic.keys(PLACES), given), TypeError);
+  }
+  for (const given of [ring, new Ring(ic.links2(PLACES), 0)]) assert.throws(() => ring.spliceBefore(0, given), TypeError);
+  assert.throws(() => list.sort(links), TypeError);
+  assert.throws(() => new Ring(ic.links1(PLACES), 0), TypeError);
 }
 const untested = Object.entries(counts).filter(([, [done]]) => !done);
 assert.deepEqual(untested, []);

@@ -1,6 +1,6 @@
 // What ic.d.mts lets a program write, and what it refuses. It is checked, and not run:
 //     tsc --noEmit --strict --target es2022 --module nodenext --moduleResolution nodenext --lib es2022,dom tests/library/typed.mts
-import { List, Refused, Stack, Tree, XorList, open, type Gap } from "../../dist/wasm/ic.mjs";
+import { HashTable, List, Refused, Ring, Stack, Tree, XorList, open, type Gap } from "../../dist/wasm/ic.mjs";
 
 const ic = await open(new URL("ic.wasm", import.meta.url));
 const list = new List(ic.links2(100));
@@ -21,6 +21,16 @@ keys.words[3] = 50n;
 tree.insert(3);
 tree.clear();
 for (const place of tree) console.log(place + 1, tree.find(50n), tree.lowerBound(20));
+list.sort(keys);
+list.merge(keys, rest);
+const members: number = list.check() + stack.check() + tree.check();
+const ring = new Ring(ic.links2(10), 8);
+ring.spliceAfter(ring.head, new Ring(ic.links2(10), 9));
+for (const place of ring) ring.moveBefore(ring.head, place);
+const table = new HashTable(ic.links1(4), 16, keys);
+table.insert(50n, 3);
+const found: Gap = table.find(50, 50n);
+const chain: Stack = table.chain(50);
 try {
   others.insertBetween(null, 3, null);
 } catch (error) {
@@ -34,5 +44,13 @@ list.fill(3);
 list.moveBefore(3);
 // @ts-expect-error: there may be no member
 const place: number = list.popBack();
+// @ts-expect-error: a ring has a head
+new Ring(ic.links2(10));
+// @ts-expect-error: a list is no ring
+ring.spliceAfter(8, list);
+// @ts-expect-error: no hash
+table.insert(3);
+// @ts-expect-error: an XOR list has no check
+others.check();
 // @ts-expect-error: a place is no text
 list.pushFront("7");

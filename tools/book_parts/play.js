@@ -170,30 +170,6 @@ class Rings {
   }
 }
 
-// A hash table by keys. The hash of a key is the key itself.
-class HashTable {
-  constructor(links, keys, buckets) {
-    const { library } = links;
-    Object.assign(this, { links, keys, buckets, library, out: library.at(library.out) });
-  }
-  edit(name, key, place) {
-    this.library.done(this.library.calls[`ic_hash_${name}`](...this.links.parts, ...this.buckets.parts, BigInt(key), place ?? NONE));
-  }
-  insert(place, key) { this.edit("insert", key ?? 0, place); }
-  remove(at) { this.edit("remove", at < this.links.length ? this.keys.word(at ?? 0) : 0, at); }
-  find(key) {
-    const number = BigInt(key ?? 0);
-    return this.library.member(this.library.calls.ic_hash_find(...this.links.parts, ...this.keys.parts, ...this.buckets.parts, number, number, this.out));
-  }
-  nextEqual(at) {
-    return this.library.member(this.library.calls.ic_hash_next_equal(...this.links.parts, ...this.keys.parts, at ?? NONE, this.out));
-  }
-  *chain(bucket) {
-    let at = this.buckets.place(bucket);
-    for (let left = this.links.length; at !== null && left > 0; left--, at = this.links.place(at)) yield at;
-  }
-}
-
 // Gives a place its key before it is linked. A member keeps its key.
 function setKey(links, keys, place, key) {
   if (key !== null && place !== null && place < PLACES && !links.isLinked(place)) keys.words[place] = BigInt(key);
@@ -263,7 +239,7 @@ const links = ic.links2(PLACES), list = new List(links);
 const ones = ic.links1(PLACES), xor = new XorList(ones);
 const nexts = ic.links1(PLACES), stack = new Stack(nexts);
 const pairs = ic.links2(PLACES), rings = new Rings(pairs);
-const chains = ic.links1(PLACES), hash = new HashTable(chains, ic.keys(PLACES), ic.links1(BUCKETS));
+const chains = ic.links1(PLACES), hash = new HashTable(chains, BUCKETS, ic.keys(PLACES));
 const nodes = ic.links3(PLACES), keys = ic.keys(PLACES), tree = new Tree(nodes, keys);
 const numbered = ["place", (it) => it];
 
@@ -323,10 +299,10 @@ const plays = {
   hash: panel("hash", "A hash table by keys, with one word a place and one a bucket", chains, {
     "insert place key": (place, key) => {
       setKey(chains, hash.keys, place, key);
-      hash.insert(place, key);
+      hash.insert(key ?? 0, place);
     },
-    "remove at": (at) => hash.remove(at),
-    "find key": (key) => hash.find(key),
+    "remove at": (at) => hash.remove(at < PLACES ? hash.keys.word(at ?? 0) : 0, at),
+    "find key": (key) => hash.find(key ?? 0, key ?? 0),
     "next_equal at": (at) => hash.nextEqual(at),
   }, ["insert 0 12; insert 1 7; insert 2 23", "insert 3 4", "insert 4 7", "find 7", "next_equal 4", "next_equal 1", "insert 5 15; insert 6 8", "remove 2", "find 23", "insert 0 5", "remove 9"],
   () => drawHashTable(hash) + drawTable(chains, [numbered, ["key", (it) => hash.keys.word(it)], ["next", (it) => shown(chains.place(it, 0))]]),
