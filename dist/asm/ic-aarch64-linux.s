@@ -1,4 +1,4 @@
-/* Lists and a red-black tree over tables of links: the calls of ic.h, for aarch64-linux.
+/* Lists, rings, hash tables and a red-black tree over tables of links, with checks, sorts and merges: the calls of ic.h, for aarch64-linux.
    logic=proved functions=297 target=aarch64-unknown-linux-gnu sum=dac8208d650f15bf native=nat,char,string logic-built=trusted libraries-built=trusted statements=trusted incremental=trusted
    Licensed under Apache 2.0 or MIT. Made by tools/build-library: do not edit. */
 	.section	.note.gnu.property,"a",@note

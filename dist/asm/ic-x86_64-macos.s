@@ -1,4 +1,4 @@
-/* Lists and a red-black tree over tables of links: the calls of ic.h, for x86_64-macos.
+/* Lists, rings, hash tables and a red-black tree over tables of links, with checks, sorts and merges: the calls of ic.h, for x86_64-macos.
    the module of x86_64-linux, for x86_64-apple-macos11
    Licensed under Apache 2.0 or MIT. Made by tools/build-library: do not edit. */
 	.build_version macos, 11, 0

@@ -1,4 +1,4 @@
-/* Lists and a red-black tree over tables of links: the calls of ic.h, for x86_64-windows.
+/* Lists, rings, hash tables and a red-black tree over tables of links, with checks, sorts and merges: the calls of ic.h, for x86_64-windows.
    the module of x86_64-linux, for x86_64-pc-windows-gnu
    Licensed under Apache 2.0 or MIT. Made by tools/build-library: do not edit. */
 	.globl	ic_version_0_1
