@@ -1,4 +1,4 @@
-//! Lists and red-black trees for C, and for whoever keeps a table and what stands in it in words of his own.
+//! Lists, rings, hash tables and red-black trees for C, and their checks, sorts and merges, over words of the caller's own.
 //!
 //! ```text
 //! struct ic_link2 links[64] = {0};  // 64 places, none of them linked
