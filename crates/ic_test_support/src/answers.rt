@@ -4,7 +4,7 @@
 //! object(list.pop_front(&mut links)) // `none`, or the index of the place where the object stands
 //! ```
 
-use crate::notes::Answer;
+use crate::notes::{Answer, Text};
 use ic_link_ops::ReplaceError;
 use ic_unsafe_ref::{Objects, Place, UnsafeRef};
 
@@ -58,5 +58,12 @@ pub fn placed(objects: &mut Objects<u64>, value: u64) -> Answer {
     match UnsafeRef::from_box(objects, value) {
         Ok(object) => number(object.place()),
         Err(_) => Answer::Refused("memory"),
+    }
+}
+
+/// Notes these positions.
+pub fn write_places(notes: &mut Text, found: &[Option<Place>]) {
+    for at in found {
+        notes.add(standing(*at), " ");
     }
 }

@@ -60,6 +60,11 @@ impl Text {
         self.is_whole &= write!(self.text, "{answer}{behind}").is_ok();
     }
 
+    /// Whether all of it could be written, and it has these words and no others. How they are spaced does not count.
+    pub fn has_words(&self, words: &str) -> bool {
+        self.is_whole && self.text.split_whitespace().eq(words.split_whitespace())
+    }
+
     /// Writes the text to what is shown, if all of it could be written.
     pub fn show(&self, shown: &mut String) -> fmt::Result {
         if self.is_whole {

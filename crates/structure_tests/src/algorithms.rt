@@ -1,16 +1,14 @@
 //! The algorithms over lists, each called once at a list of eight objects, or of two lists of four.
 
-ghost use Rattle.std.specs.Prelude.{◌≡◌, ◌≤◌, ◌<◌, true, List, length};
+ghost use Rattle.std.specs.Prelude.{◌≡◌, ◌≤◌, List, length};
 ghost use Rattle.ic_unsafe_ref.specs.declared.place.Place.{Place};
-ghost use Rattle.ic_unsafe_ref.specs.Objects.{is_placed};
-ghost use Rattle.ic_unsafe_ref.specs.Places.{index_of};
 ghost use Rattle.ic_link_ops.specs.Chains.{ShowsChain, ShowsSomeChain};
 ghost use Rattle.ic_link_ops.specs.PlacedObjects.{ShowsPlaced};
 ghost use Rattle.ic_link_ops.specs.PlainTables.{table};
 ghost use Rattle.ic_list_algorithms.specs.Runs.{FewLooks, TwoShown};
 ghost use Rattle.ic_list_algorithms.specs.TwoLists.{TwoLists};
 
-use crate::objects::reference;
+use crate::objects::{TENS, eight_objects, reference};
 use ic_chain::{Chain, DoubleEnded, ForwardLinks, ListKind, SingleEnded};
 use ic_link_ops::linked_list::{LinkOpsWith, TwoWords};
 use ic_link_ops::singly_linked_list::Singly;
@@ -19,8 +17,6 @@ use ic_linked_list::DoublyLinked;
 use ic_list_algorithms as algorithms;
 use ic_list_algorithms::{By, Counted, Following, Natural};
 use ic_singly_linked_list::SinglyLinked;
-use ic_test_support::answers::placed;
-use ic_test_support::tables::are_placed;
 use ic_unsafe_ref::{Objects, Place, UnsafeRef};
 use std::alloc::Global;
 use std::process::Abort;
@@ -31,22 +27,6 @@ struct Fixture<K: ListKind, W: Words> {
     objects: Objects<u64>,
     links: PlainTable<W>,
     list: Chain<K, u64>,
-}
-
-// The objects 10 to 80, in this order, and a table of links that covers their places, 0 to 7.
-fn eight_objects<W: Words>(rt: &impl Abort, alloc: Global) -> (Objects<u64>, PlainTable<W>)
-    ensures covers { (table W.unlinked result.1).extent.places ≡ 8 }
-    ensures placed { (q : Place) → index_of q < 8 → is_placed result.0 q ≡ true }
-{
-    let mut objects = Objects::new(alloc);
-    for tens in 1..9 {
-        let _ = placed(&mut objects, tens * 10);
-    }
-    let mut links = PlainTable::new(alloc);
-    let _ = links.cover(8);
-    assert!(rt; links.covers() == 8);
-    assert!(rt; are_placed(&links, &objects));
-    (objects, links)
 }
 
 // Puts the objects at the first places into a new list, as many as that and in their order.
@@ -69,7 +49,7 @@ fn eight<K: ForwardLinks<PlainTable<W>>, W: Words>(rt: &impl Abort, alloc: Globa
     ensures shown { ShowsPlaced (ShowsChain K.Between K.kept (table W.unlinked result.links) result.list) result.objects }
     ensures some { ShowsSomeChain K.Between K.kept (table W.unlinked result.links) result.list }
 {
-    let (objects, mut links) = eight_objects(rt, alloc);
+    let (objects, mut links) = eight_objects(rt, alloc, TENS);
     let list = filled(&mut links, 8);
     Fixture {
         objects,

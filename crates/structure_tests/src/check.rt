@@ -39,13 +39,6 @@ fn write_found(notes: &mut Text, found: Option<usize>) {
     notes.add(answer, " ");
 }
 
-// Asserts that the notes have these words.
-fn same(rt: &impl Abort, alloc: Global, notes: &Text, wanted: &str) {
-    let mut found = String::new(alloc);
-    let shown = notes.show(&mut found);
-    assert!(rt; shown.is_ok() && found.split_whitespace().eq(wanted.split_whitespace()));
-}
-
 // A list of the objects at the first three places.
 fn list_of_three<K: NamesItsNext<PlainTable<W>>, W: Words>(
     links: &mut PlainTable<W>,
@@ -82,7 +75,7 @@ fn a_doubly_linked_list_is_checked(rt: HostRuntime) {
     let alloc = rt.alloc();
     let mut notes = Text::new(alloc);
     write_list::<DoublyLinked, linked_list::TwoWords>(&rt, alloc, &mut notes);
-    same(&rt, alloc, &notes, "3 no none 3");
+    assert!(rt; notes.has_words("3 no none 3"));
 }
 
 #[test]
@@ -90,7 +83,7 @@ fn a_singly_linked_list_is_checked(rt: HostRuntime) {
     let alloc = rt.alloc();
     let mut notes = Text::new(alloc);
     write_list::<SinglyLinked, OneWord<singly_linked_list::Singly>>(&rt, alloc, &mut notes);
-    same(&rt, alloc, &notes, "3 no none 3");
+    assert!(rt; notes.has_words("3 no none 3"));
 }
 
 #[test]
@@ -105,7 +98,7 @@ fn a_whole_table_is_checked(rt: HostRuntime) {
     write_found(&mut notes, check_all(&[list], &links, &mut marks));
     let none: [LinkedList<u64>; 0] = [];
     write_found(&mut notes, check_all(&none, &links, &mut marks));
-    same(&rt, alloc, &notes, "3 none");
+    assert!(rt; notes.has_words("3 none"));
 }
 
 // Says that a number is its own key.
@@ -149,7 +142,7 @@ fn a_tree_is_checked(rt: HostRuntime) {
     write_found(&mut notes, check_tree(&tree, &links));
     links.force_unlink(place(1));
     write_found(&mut notes, check_tree(&tree, &links));
-    same(&rt, alloc, &notes, "3 none");
+    assert!(rt; notes.has_words("3 none"));
 }
 
 // Notes whether a tree of three objects with these keys is in their order.
@@ -171,7 +164,7 @@ fn the_order_of_a_tree_is_checked(rt: HostRuntime) {
     let mut notes = Text::new(alloc);
     write_sorted(&rt, alloc, &mut notes, &[10, 20, 20]);
     write_sorted(&rt, alloc, &mut notes, &[10, 30, 20]);
-    same(&rt, alloc, &notes, "yes no");
+    assert!(rt; notes.has_words("yes no"));
 }
 
 // The end that a file names: 0 for none, else one more than the place's index.
@@ -229,5 +222,5 @@ fn a_list_from_a_file_is_checked(rt: HostRuntime) {
     let mut notes = Text::new(alloc);
     write_from_file(&rt, alloc, &mut notes, &[(0, 2), (1, 0)]);
     write_from_file(&rt, alloc, &mut notes, &[(0, 2), (2, 0)]);
-    same(&rt, alloc, &notes, "0 none");
+    assert!(rt; notes.has_words("0 none"));
 }

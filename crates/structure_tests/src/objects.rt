@@ -1,4 +1,4 @@
-//! What the tests stand on: numbers at the first eight places, and the words that a test's notes are compared with.
+//! What the tests stand on: numbers at the first eight places.
 
 ghost use Rattle.std.specs.Prelude.{◌≡◌, ◌<◌, true};
 ghost use Rattle.ic_unsafe_ref.specs.declared.place.Place.{Place};
@@ -7,12 +7,14 @@ ghost use Rattle.ic_unsafe_ref.specs.Places.{index_of};
 ghost use Rattle.ic_link_ops.specs.PlainTables.{table};
 
 use ic_link_ops::{PlainTable, Words};
-use ic_test_support::answers::{placed, standing};
-use ic_test_support::notes::Text;
+use ic_test_support::answers::placed;
 use ic_test_support::tables::are_placed;
 use ic_unsafe_ref::{Objects, Place, UnsafeRef};
 use std::alloc::Global;
 use std::process::Abort;
+
+/// 10 to 80, in this order.
+pub(crate) const TENS: [u64; 8] = [10, 20, 30, 40, 50, 60, 70, 80];
 
 /// These numbers as objects at the places 0 to 7, and a table of links that covers these places.
 pub(crate) fn eight_objects<W: Words>(
@@ -40,18 +42,4 @@ pub(crate) fn reference(index: usize) -> UnsafeRef<u64>
     ensures { index_of result ≡ index }
 {
     UnsafeRef::new(Place::new(index).unwrap())
-}
-
-/// Notes these places.
-pub(crate) fn write_places(notes: &mut Text, found: &[Option<Place>]) {
-    for at in found {
-        notes.add(standing(*at), " ");
-    }
-}
-
-/// Asserts that the notes have these words. The one comparison of each test.
-pub(crate) fn same(rt: &impl Abort, alloc: Global, notes: &Text, wanted: &str) {
-    let mut found = String::new(alloc);
-    let shown = notes.show(&mut found);
-    assert!(rt; shown.is_ok() && found.split_whitespace().eq(wanted.split_whitespace()));
 }

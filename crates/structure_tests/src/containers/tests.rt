@@ -1,27 +1,39 @@
 //! Each call once.
 
-use crate::containers::{JobQueue, Priority};
+use crate::containers::{Job, JobQueue, Priority};
+use ic_unsafe_ref::UnsafeRef;
+use std::process::Abort;
+
+// Adds a job, for which there is room.
+fn added(
+    rt: &impl Abort,
+    queue: &mut JobQueue<u64>,
+    priority: Priority,
+    value: u64,
+) -> UnsafeRef<Job<u64>> {
+    match queue.push(priority, value) {
+        Ok(job) => job,
+        Err(_) => panic!(rt; "no room"),
+    }
+}
+
+// The value of a job that was taken out.
+fn value(job: Option<Job<u64>>) -> Option<u64> {
+    Some(job?.value)
+}
 
 #[test]
 fn urgent_first_and_cancelled(rt: HostRuntime) {
     let mut queue = JobQueue::new(rt.alloc());
-    let Ok(_first) = queue.push(Priority::Normal, 10) else {
-        panic!(rt; "no room");
-    };
-    let Ok(second) = queue.push(Priority::Normal, 20) else {
-        panic!(rt; "no room");
-    };
-    let Ok(third) = queue.push(Priority::Low, 30) else {
-        panic!(rt; "no room");
-    };
-    let Ok(_urgent) = queue.push(Priority::Urgent, 1) else {
-        panic!(rt; "no room");
-    };
+    let _first = added(&rt, &mut queue, Priority::Normal, 10);
+    let second = added(&rt, &mut queue, Priority::Normal, 20);
+    let third = added(&rt, &mut queue, Priority::Low, 30);
+    let _urgent = added(&rt, &mut queue, Priority::Urgent, 1);
     assert!(rt; queue.reprioritize(&third, Priority::Normal));
-    assert_eq!(rt; queue.cancel(&second).map(|job| job.value), Some(20));
+    assert!(rt; value(queue.cancel(&second)) == Some(20));
     assert!(rt; !queue.reprioritize(&second, Priority::Urgent));
-    assert_eq!(rt; queue.pop().map(|job| job.value), Some(1));
-    assert_eq!(rt; queue.pop().map(|job| job.value), Some(10));
-    assert_eq!(rt; queue.pop().map(|job| job.value), Some(30));
+    assert!(rt; value(queue.pop()) == Some(1));
+    assert!(rt; value(queue.pop()) == Some(10));
+    assert!(rt; value(queue.pop()) == Some(30));
     assert!(rt; queue.pop().is_none());
 }

@@ -1,0 +1,15 @@
+use Rattle.std.proofs.Common.{◌≡◌, ◌<◌}
+use Rattle.ic_unsafe_ref.specs.Places.{index_of}
+use Rattle.ic_link_ops.specs.ThreeWords.{node_of}
+use Rattle.ic_rbtree.specs.KeyedTrees.{keyed_table}
+use Rattle.ic_augmented.specs.Greatest.{greatest}
+use Rattle.ic_augmented.specs.Summed.{links_of}
+use Rattle.ic_augmented.specs.SumTables.{room_of}
+use Rattle.keyed_tests.specs.Ready.{IsReady}
+use Rattle.keyed_tests.proofs.augmented.the_first_above.Given as goal
+
+abbrev pub invariant-loop-index : goal.invariant-loop-index
+invariant-loop-index g l = record {
+  covers : (keyed_table (links_of l.summed)).extent.places ≡ 3;
+  ready : IsReady node_of keyed_table greatest (λ sums q. index_of q < room_of sums) l.tree l.summed;
+}

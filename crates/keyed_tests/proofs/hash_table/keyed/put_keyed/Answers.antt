@@ -1,0 +1,18 @@
+use Rattle.ic_link_ops.specs.Sequences.{insert}
+use Rattle.ic_link_ops.proofs.Calling.{either}
+use Rattle.keyed_tests.proofs.Extents.{places_of}
+use Rattle.keyed_tests.proofs.hash_table.keyed.put_keyed.Goals as goal
+
+pub insert_keyed-requires-clause-placed : goal.insert_keyed-requires-clause-placed
+insert_keyed-requires-clause-placed g c =
+    g.met.L.LinkValues.covered_has_value c.args.links.now c.reference.result (rw (c.requires.covers, c.reference.ensures) c.requires.few)
+
+pub returns-clause-covers : goal.returns-clause-covers
+returns-clause-covers g c = let q = c.requires.held in places_of (c.insert_keyed.ensures.frame q.0 q.1).extent c.requires.covers
+
+pub returns-clause-held : goal.returns-clause-held
+returns-clause-held g c =
+    let e = c.insert_keyed.ensures in
+    let q = c.requires.held in
+    rw e.values
+    (either _ c.insert_keyed.result (e.inserted q.0 q.1) e.refused e.unchanged (λ also. (insert also.0 c.reference.result, also.2)) (λ refused same. (q.0, rw (g.met.L.LinkOps.refused_keeps _ _ _ refused, same) q.1)))

@@ -1,0 +1,14 @@
+use Rattle.std.proofs.Common.{IsSome}
+use Rattle.ic_unsafe_ref.specs.Objects.{object_at}
+use Rattle.ic_tree_merges.proofs.MergedTrees.{all_parts}
+use Rattle.keyed_tests.proofs.tree_merges.kept_rest.Goals as goal
+
+pub returns : goal.returns
+returns g c =
+    let q = c.requires.two in
+    let k = c.difference.ensures.parted q.first q.second q.shown q.other q.apart in
+    let placed = all_parts (λ p. IsSome (object_at c.args.objects.now p)) k.common k.rest q.first k.is.interleaved q.placed in
+    record {
+      common = record { members = k.common; shown = k.common_shown; placed = placed.0 };
+      kept = record { members = k.rest; shown = k.rest_shown; placed = placed.1 };
+    }

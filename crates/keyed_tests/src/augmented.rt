@@ -1,0 +1,186 @@
+//! Trees with summaries: edits and questions in turn, each requirement met by the call before.
+
+ghost use Rattle.std.specs.Prelude.{◌≡◌, ◌<◌, None, List, filter, length, map, min};
+ghost use Rattle.std.specs.Ordering.{nat_cmp};
+ghost use Rattle.ic_unsafe_ref.specs.declared.place.Place.{Place};
+ghost use Rattle.ic_unsafe_ref.specs.Places.{index_of};
+ghost use Rattle.ic_link_ops.specs.Sequences.{first};
+ghost use Rattle.ic_link_ops.specs.Tables.{IsCovered};
+ghost use Rattle.ic_link_ops.specs.ThreeWords.{node_of};
+ghost use Rattle.ic_rbtree.specs.Borders.{IsSorted};
+ghost use Rattle.ic_rbtree.specs.KeyedTrees.{keyed_table, keys_of};
+ghost use Rattle.ic_rbtree.specs.Tree.{root_of};
+ghost use Rattle.ic_augmented.specs.Consistent.{ShowsSummed};
+ghost use Rattle.ic_augmented.specs.Counts.{counts};
+ghost use Rattle.ic_augmented.specs.Greatest.{greatest, number_at, is_greater};
+ghost use Rattle.ic_augmented.specs.Intervals.{start_in, overlaps};
+ghost use Rattle.ic_augmented.specs.Summed.{links_of, sums_of};
+ghost use Rattle.ic_augmented.specs.SumTables.{joined, room_of};
+ghost use Rattle.keyed_tests.specs.Ready.{IsReady};
+
+mod intervals;
+
+use crate::keyed::{OwnKey, keyed_links, place_at, reference};
+use ic_augmented::{
+    Counts, Greatest, Joins, RenewSums, SumTable, Summed, first_greater, first_overlap, index_of,
+    insert_keyed, len, nth, propagate, refresh, remove, set_value,
+};
+use ic_link_ops::LinkValues;
+use ic_link_ops::rbtree::{LinkOpsWith, RBTreeOps};
+use ic_rbtree::{KeyAdapter, Nodes, RBTree};
+use ic_unsafe_ref::{Place, UnsafeRef};
+use std::alloc::{Allocator, Global};
+use std::process::Abort;
+
+/// An empty tree, with links at the first places, these keys beside them, and room for a summary of each.
+fn empty_tree<V: Joins<u64>>(
+    rt: &impl Abort,
+    alloc: Global,
+    keys: &[u64],
+) -> (RBTree<OwnKey>, Summed<LinkOpsWith<u64>, SumTable<V, u64>>)
+    requires { length keys.now < 4294967296 }
+    ensures covers { (keyed_table (links_of result.1)).extent.places ≡ length keys.now }
+    ensures ready { IsReady node_of keyed_table (joined V.join V.initial) (λ sums q. index_of q < room_of sums) result.0 result.1 }
+    ensures empty { root_of result.0 ≡ None }
+{
+    let mut sums = SumTable::new(alloc);
+    let covered = sums.cover(keys.len());
+    assert!(rt; covered.is_ok());
+    let links = keyed_links(rt, alloc, keys);
+    (RBTree::new(OwnKey), Summed { links, sums })
+}
+
+// Inserts the object in the order of its key, and renews the summaries.
+fn put<A: KeyAdapter, L: RBTreeOps + LinkValues<A::Value>, M: RenewSums>(
+    tree: &mut RBTree<A>,
+    summed: &mut Summed<L, M>,
+    object: UnsafeRef<A::Value>,
+)
+    requires covered { IsCovered (L.table (links_of summed.old)) object }
+    requires ready { IsReady L.node L.table M.sums M.Covers tree.old summed.old }
+    ensures ready { IsReady L.node L.table M.sums M.Covers tree.new summed.new }
+    ensures extent { (L.table (links_of summed.new)).extent ≡ (L.table (links_of summed.old)).extent }
+{
+    let _ = insert_keyed(tree, summed, object);
+    refresh(tree, summed);
+}
+
+// Does the same, and renews the summaries above the place alone.
+fn put_and_propagate<A: KeyAdapter, L: RBTreeOps + LinkValues<A::Value>, M: RenewSums>(
+    rt: &impl Abort,
+    tree: &mut RBTree<A>,
+    summed: &mut Summed<L, M>,
+    object: UnsafeRef<A::Value>,
+)
+    requires covered { IsCovered (L.table (links_of summed.old)) object }
+    requires ready { IsReady L.node L.table M.sums M.Covers tree.old summed.old }
+    ensures ready { IsReady L.node L.table M.sums M.Covers tree.new summed.new }
+    ensures extent { (L.table (links_of summed.new)).extent ≡ (L.table (links_of summed.old)).extent }
+{
+    let place = object.place();
+    let inserted = insert_keyed(tree, summed, object);
+    assert!(rt; inserted.is_ok());
+    propagate(summed, place);
+}
+
+// The position that the member at a position tells, and the length where no member stands there.
+fn position_of_nth<T, N: Nodes, A: Allocator>(
+    tree: &RBTree<T>,
+    summed: &Summed<N, Counts<A>>,
+    position: u64,
+) -> u64
+    requires ready { IsReady N.node N.table counts (λ sums q. index_of q < room_of sums) tree.now summed.now }
+    ensures least { (s : List Place) → ShowsSummed N.node (counts (sums_of summed.now)) (N.table (links_of summed.now)) (root_of tree.now) s
+        → result ≡ min position (length s) }
+{
+    match nth(tree, summed, position) {
+        Some(place) => index_of(summed, place),
+        None => len(tree, summed),
+    }
+}
+
+// Takes the member at a position out, if there is one, and renews the counts.
+fn take_nth<T, L: RBTreeOps, A: Allocator>(
+    tree: &mut RBTree<T>,
+    summed: &mut Summed<L, Counts<A>>,
+    position: u64,
+) -> Option<Place>
+    requires ready { IsReady L.node L.table counts (λ sums q. index_of q < room_of sums) tree.old summed.old }
+    ensures ready { IsReady L.node L.table counts (λ sums q. index_of q < room_of sums) tree.new summed.new }
+{
+    let Some(place) = nth(tree, summed, position) else {
+        return None;
+    };
+    remove(tree, summed, place);
+    refresh(tree, summed);
+    Some(place)
+}
+
+// Gives the place a number, and finds the first member with a number above the bound.
+fn first_above<T, L: RBTreeOps, A: Allocator>(
+    tree: &RBTree<T>,
+    summed: &mut Summed<L, Greatest<A>>,
+    place: Place,
+    number: u64,
+    bound: u64,
+) -> Option<Place>
+    requires covered { IsCovered (L.table (links_of summed.old)) place }
+    requires ready { IsReady L.node L.table greatest (λ sums q. index_of q < room_of sums) tree.now summed.old }
+    ensures ready { IsReady L.node L.table greatest (λ sums q. index_of q < room_of sums) tree.now summed.new }
+    ensures number { number_at (sums_of summed.new) place ≡ number }
+    ensures found { (s : List Place) → ShowsSummed L.node (greatest (sums_of summed.new)) (L.table (links_of summed.new)) (root_of tree.now) s
+        → result ≡ first (filter (is_greater (number_at (sums_of summed.new)) bound) s) }
+    ensures extent { (L.table (links_of summed.new)).extent ≡ (L.table (links_of summed.old)).extent }
+{
+    set_value(summed, place, number);
+    refresh(tree, summed);
+    first_greater(tree, summed, bound)
+}
+
+// The first interval that overlaps `[from, to)`: each starts at its key, and ends at its number.
+fn first_overlapping(
+    tree: &RBTree<OwnKey>,
+    summed: &Summed<LinkOpsWith<u64>, Greatest>,
+    from: u64,
+    to: u64,
+) -> Option<Place>
+    requires ready { IsReady node_of keyed_table greatest (λ sums q. index_of q < room_of sums) tree.now summed.now }
+    ensures found { (s : List Place) → ShowsSummed node_of (greatest (sums_of summed.now)) (keyed_table (links_of summed.now)) (root_of tree.now) s
+        → IsSorted nat_cmp (map (start_in (keys_of (links_of summed.now))) s)
+        → result ≡ first (filter (overlaps (start_in (keys_of (links_of summed.now))) (number_at (sums_of summed.now)) from to) s) }
+{
+    first_overlap(tree, summed, &summed.links, from, to)
+}
+
+// Members by their position, and those that leave by it.
+#[test]
+fn members_by_position(rt: HostRuntime) {
+    let alloc = rt.alloc();
+    let (mut tree, mut summed) = empty_tree::<()>(&rt, alloc, &[40, 10, 30, 20]);
+    for index in 0..3 {
+        put(&mut tree, &mut summed, reference(index));
+    }
+    put_and_propagate(&rt, &mut tree, &mut summed, reference(3));
+    assert!(rt; position_of_nth(&tree, &summed, 2) == 2);
+    assert!(rt; position_of_nth(&tree, &summed, 9) == 4);
+    assert!(rt; take_nth(&mut tree, &mut summed, 1) == Some(place_at(3)));
+    assert!(rt; take_nth(&mut tree, &mut summed, 3).is_none());
+    assert!(rt; position_of_nth(&tree, &summed, 9) == 3);
+    assert!(rt; take_nth(&mut tree, &mut summed, 1) == Some(place_at(2)));
+}
+
+// The first member with a number above a bound, before and after one is raised, and the first interval that overlaps another.
+#[test]
+fn the_first_above(rt: HostRuntime) {
+    let alloc = rt.alloc();
+    let (mut tree, mut summed) = empty_tree::<u64>(&rt, alloc, &[10, 20, 30]);
+    for index in 0..3 {
+        put(&mut tree, &mut summed, reference(index));
+    }
+    assert!(rt; first_above(&tree, &mut summed, place_at(2), 50, 0) == Some(place_at(2)));
+    assert!(rt; first_above(&tree, &mut summed, place_at(0), 60, 40) == Some(place_at(0)));
+    assert!(rt; first_above(&tree, &mut summed, place_at(0), 40, 40) == Some(place_at(2)));
+    assert!(rt; first_above(&tree, &mut summed, place_at(1), 50, 50).is_none());
+    assert!(rt; first_overlapping(&tree, &summed, 45, 46) == Some(place_at(1)));
+    assert!(rt; first_overlapping(&tree, &summed, 50, 60).is_none());
+}

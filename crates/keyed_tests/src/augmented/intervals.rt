@@ -1,0 +1,151 @@
+//! What Linux's test of interval trees (`lib/interval_tree_test.c`) does: a hundred intervals at random, and at a hundred points how many of them
+//! overlap it, beside a plain count.
+
+ghost use Rattle.std.specs.Prelude.{◌≡◌, ◌<◌, List, filter, length};
+ghost use Rattle.ic_unsafe_ref.specs.declared.place.Place.{Place};
+ghost use Rattle.ic_link_ops.specs.Tables.{IsCovered};
+ghost use Rattle.ic_rbtree.specs.Tree.{root_of};
+ghost use Rattle.ic_augmented.specs.Consistent.{ShowsSummed};
+ghost use Rattle.ic_augmented.specs.Greatest.{greatest, number_at};
+ghost use Rattle.ic_augmented.specs.Intervals.{start_in, overlaps};
+ghost use Rattle.ic_augmented.specs.Summed.{links_of, sums_of};
+ghost use Rattle.keyed_tests.specs.Ready.{AreIntervals};
+
+use super::empty_tree;
+use crate::keyed::{OwnKey, reference};
+use ic_augmented::{
+    Greatest, Summed, first_overlap, insert_fresh, next_overlap, refresh, remove, set_value,
+};
+use ic_link_ops::LinkValues;
+use ic_link_ops::rbtree::RBTreeOps;
+use ic_rbtree::RBTree;
+use ic_unsafe_ref::{Place, UnsafeRef};
+use std::process::Abort;
+
+// The kernel's generator of random numbers: four words, each of which shifts its bits back into itself.
+#[derive(Drop)]
+struct Random {
+    words: [u32; 4],
+}
+
+impl Random {
+    // As the kernel's test seeds it.
+    fn new() -> Random {
+        Random {
+            words: [0x408c_3c09; 4],
+        }
+    }
+
+    // The next number.
+    fn next(&mut self) -> u64
+        ensures { result < 4294967296 }
+    {
+        let [a, b, c, d] = self.words;
+        let a = ((a & 0xffff_fffe) << 18) ^ (((a << 6) ^ a) >> 13);
+        let b = ((b & 0xffff_fff8) << 2) ^ (((b << 2) ^ b) >> 27);
+        let c = ((c & 0xffff_fff0) << 7) ^ (((c << 13) ^ c) >> 21);
+        let d = ((d & 0xffff_ff80) << 13) ^ (((d << 3) ^ d) >> 12);
+        self.words = [a, b, c, d];
+        u64::from((a ^ b ^ c ^ d) >> 4)
+    }
+}
+
+// A hundred intervals: where each starts, and where it ends. The kernel has an end in its interval, and we the number in front of it.
+fn random_intervals(random: &mut Random) -> ([u64; 100], [u64; 100]) {
+    let mut starts = [0; 100];
+    let mut ends = [0; 100];
+    for index in 0..100 {
+        let last = random.next();
+        starts[index] = random.next() % last.max(1);
+        ends[index] = last + 1;
+    }
+    (starts, ends)
+}
+
+// How many of these intervals a point is in, by a look at each.
+fn plain_count(starts: &[u64; 100], ends: &[u64; 100], point: u64) -> u64 {
+    let mut count = 0;
+    for index in 0..100 {
+        if starts[index] <= point && point < ends[index] {
+            count += 1;
+        }
+    }
+    count
+}
+
+// Gives the interval its end, and inserts it.
+fn put<L: RBTreeOps + LinkValues<u64>>(
+    rt: &impl Abort,
+    tree: &mut RBTree<OwnKey>,
+    summed: &mut Summed<L, Greatest>,
+    interval: UnsafeRef<u64>,
+    end: u64,
+)
+    requires covered { IsCovered (L.table (links_of summed.old)) interval }
+    requires intervals { AreIntervals L.node L.table L.values tree.old summed.old }
+    ensures intervals { AreIntervals L.node L.table L.values tree.new summed.new }
+    ensures extent { (L.table (links_of summed.new)).extent ≡ (L.table (links_of summed.old)).extent }
+{
+    set_value(summed, interval.place(), end);
+    let inserted = insert_fresh(tree, summed, interval);
+    assert!(rt; inserted.is_ok());
+}
+
+// How many intervals overlap `[from, to)`.
+fn count_overlaps<L: RBTreeOps + LinkValues<u64>>(
+    tree: &RBTree<OwnKey>,
+    summed: &Summed<L, Greatest>,
+    from: u64,
+    to: u64,
+) -> u64
+    requires intervals { AreIntervals L.node L.table L.values tree.now summed.now }
+    ensures counted { (s : List Place) → ShowsSummed L.node (greatest (sums_of summed.now)) (L.table (links_of summed.now)) (root_of tree.now) s
+        → result ≡ length (filter (overlaps (start_in (L.values (links_of summed.now))) (number_at (sums_of summed.now)) from to) s) }
+{
+    let mut count = 0;
+    let mut at = first_overlap(tree, summed, &summed.links, from, to);
+    while let Some(place) = at {
+        count += 1;
+        at = next_overlap(summed, &summed.links, place, from, to);
+    }
+    count
+}
+
+// Takes the first interval that overlaps `[from, to)` off, if there is one.
+fn take_first<L: RBTreeOps + LinkValues<u64>>(
+    tree: &mut RBTree<OwnKey>,
+    summed: &mut Summed<L, Greatest>,
+    from: u64,
+    to: u64,
+) -> Option<Place>
+    requires intervals { AreIntervals L.node L.table L.values tree.old summed.old }
+    ensures intervals { AreIntervals L.node L.table L.values tree.new summed.new }
+    ensures extent { (L.table (links_of summed.new)).extent ≡ (L.table (links_of summed.old)).extent }
+{
+    let place = first_overlap(tree, summed, &summed.links, from, to)?;
+    remove(tree, summed, place);
+    refresh(tree, summed);
+    Some(place)
+}
+
+// The hundred intervals, at a hundred points, and once more after all have left.
+#[test]
+fn intervals_at_random(rt: HostRuntime) {
+    let mut random = Random::new();
+    let (starts, ends) = random_intervals(&mut random);
+    let (mut tree, mut summed) = empty_tree::<u64>(&rt, rt.alloc(), &starts);
+    for _ in 0..2 {
+        for index in 0..100 {
+            put(&rt, &mut tree, &mut summed, reference(index), ends[index]);
+        }
+        for _ in 0..100 {
+            let point = random.next();
+            let count = count_overlaps(&tree, &summed, point, point + 1);
+            assert!(rt; count == plain_count(&starts, &ends, point));
+        }
+        for _ in 0..100 {
+            assert!(rt; take_first(&mut tree, &mut summed, 0, u64::MAX).is_some());
+        }
+        assert!(rt; count_overlaps(&tree, &summed, 0, u64::MAX) == 0);
+    }
+}

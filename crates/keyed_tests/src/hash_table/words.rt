@@ -1,0 +1,55 @@
+//! A hash table whose buckets are plain words, as of a file that is mapped: it is closed, and made again of its words.
+
+ghost use Rattle.std.specs.Prelude.{◌≡◌, ◌<◌, None, length, true};
+ghost use Rattle.std.specs.List.{AllByRecursion};
+ghost use Rattle.ic_unsafe_ref.specs.declared.place.Place.{Place};
+ghost use Rattle.ic_unsafe_ref.specs.Objects.{is_placed};
+ghost use Rattle.ic_unsafe_ref.specs.Places.{index_of};
+
+use crate::hash_table::{NUMBERS, OwnKey, put};
+use crate::objects::eight_objects;
+use ic_hash_table::{Buckets, HashAdapter, HashTable};
+use ic_link_ops::LinkOps as _;
+use ic_link_ops::singly_linked_list::{LinkOps, SinglyLinkedListOps};
+use ic_test_support::answers::write_places;
+use ic_test_support::notes::{Answer, Text};
+use ic_unsafe_ref::{Objects, UnsafeRef};
+
+// Puts two objects into a new table over these buckets, closes it, and makes it again: the member that it finds by this key then.
+fn found_again<A: HashAdapter<Value = u64>, L: SinglyLinkedListOps, B: Buckets + Drop>(
+    adapter: A,
+    buckets: B,
+    links: &mut L,
+    objects: &Objects<u64>,
+    key: &A::Key,
+) -> Option<UnsafeRef<u64>>
+    requires covers { (L.table links.old).extent.places ≡ 8 }
+    requires placed { (q : Place) → index_of q < 8 → is_placed objects.now q ≡ true }
+    requires count { length (B.fronts buckets) ≡ 4 }
+    requires none { AllByRecursion (λ front. front ≡ None) (B.fronts buckets) }
+{
+    let mut table = HashTable::new(adapter, buckets);
+    put(&mut table, links, objects, 0);
+    put(&mut table, links, objects, 3);
+    let used = table.chains();
+    let len = table.len();
+    let again = HashTable::from_buckets(adapter, table.into_buckets(), used, len);
+    again.find(&*links, objects, key)
+}
+
+// The words name no place at first. 10 and 30 belong in chain 2, whose first member is the object at 3 then.
+#[test]
+fn a_table_over_words(rt: HostRuntime) {
+    let alloc = rt.alloc();
+    let mut notes = Text::new(alloc);
+    let (objects, mut links): (_, LinkOps) = eight_objects(&rt, alloc, NUMBERS);
+    let mut words: [u64; 4] = [0, 7, 20, 1_099_511_627_776];
+    let found = found_again(OwnKey, &mut words[..], &mut links, &objects, &10);
+    if let Some(found) = found {
+        write_places(&mut notes, &[Some(found.place())]);
+    }
+    for word in words {
+        notes.add(Answer::Number(word), " ");
+    }
+    assert!(rt; notes.has_words("0  0 7 32 1099511627776"));
+}

@@ -1,0 +1,165 @@
+//! Trees that are merged, and parted by one another: one of 10, 20, 30 and 40, and one of 20, 30, 50 and 60.
+
+ghost use Rattle.std.specs.Prelude.{◌≡◌, ◌<◌, true};
+ghost use Rattle.ic_unsafe_ref.specs.declared.place.Place.{Place};
+ghost use Rattle.ic_unsafe_ref.specs.Objects.{is_placed};
+ghost use Rattle.ic_unsafe_ref.specs.Places.{index_of};
+ghost use Rattle.ic_link_ops.specs.PlacedObjects.{ShowsPlaced};
+ghost use Rattle.ic_link_ops.specs.RedBlackTree.{Shows};
+ghost use Rattle.ic_rbtree.specs.Tree.{root_of};
+ghost use Rattle.ic_tree_merges.specs.TwoTrees.{TwoShown};
+
+use crate::keyed::OwnKey;
+use crate::objects::{eight_objects, reference};
+use ic_link_ops::LinkOps as _;
+use ic_link_ops::rbtree::{LinkOps, RBTreeOps};
+use ic_rbtree::RBTree;
+use ic_test_support::notes::{Answer, Text};
+use ic_tree_merges::{ByKeys, difference, intersection, merge, union};
+use ic_unsafe_ref::Objects;
+
+// Puts the object into the tree where its number belongs, beside another tree.
+fn put<L: RBTreeOps>(
+    tree: &mut RBTree<OwnKey>,
+    links: &mut L,
+    objects: &Objects<u64>,
+    index: usize,
+    other: &RBTree<OwnKey>,
+)
+    requires few { index < 8 }
+    requires covers { (L.table links.old).extent.places ≡ 8 }
+    requires placed { (q : Place) → index_of q < 8 → is_placed objects.now q ≡ true }
+    requires two { TwoShown (Shows L.node) objects.now (L.table links.old) (root_of tree.old) (root_of other.now) }
+    ensures covers { (L.table links.new).extent.places ≡ 8 }
+    ensures two { TwoShown (Shows L.node) objects.now (L.table links.new) (root_of tree.new) (root_of other.now) }
+{
+    let _ = other;
+    let _ = tree.insert(links, objects, reference(index));
+}
+
+// A tree of the first four objects, and one of the others.
+fn two_trees<L: RBTreeOps>(
+    links: &mut L,
+    objects: &Objects<u64>,
+) -> (RBTree<OwnKey>, RBTree<OwnKey>)
+    requires covers { (L.table links.old).extent.places ≡ 8 }
+    requires placed { (q : Place) → index_of q < 8 → is_placed objects.now q ≡ true }
+    ensures two { TwoShown (Shows L.node) objects.now (L.table links.new) (root_of result.0) (root_of result.1) }
+{
+    let mut tree = RBTree::new(OwnKey);
+    let mut other = RBTree::new(OwnKey);
+    for index in 0..4 {
+        put(&mut tree, links, objects, index, &other);
+    }
+    for index in 4..8 {
+        put(&mut other, links, objects, index, &tree);
+    }
+    (tree, other)
+}
+
+// Merges the other tree into this one, and says how often two objects were compared.
+fn merged<L: RBTreeOps>(
+    tree: &mut RBTree<OwnKey>,
+    links: &mut L,
+    objects: &Objects<u64>,
+    other: RBTree<OwnKey>,
+) -> u64
+    requires two { TwoShown (Shows L.node) objects.now (L.table links.old) (root_of tree.old) (root_of other) }
+    ensures shown { ShowsPlaced (Shows L.node (L.table links.new) (root_of tree.new)) objects.now }
+{
+    let mut order = ByKeys::new(OwnKey);
+    merge(tree, links, objects, &mut order, other);
+    order.looks()
+}
+
+// Keeps what the other tree has, too, and returns the rest.
+fn kept_common<L: RBTreeOps>(
+    tree: &mut RBTree<OwnKey>,
+    links: &mut L,
+    objects: &Objects<u64>,
+    other: &RBTree<OwnKey>,
+) -> RBTree<OwnKey>
+    requires two { TwoShown (Shows L.node) objects.now (L.table links.old) (root_of tree.old) (root_of other.now) }
+    ensures kept { ShowsPlaced (Shows L.node (L.table links.new) (root_of tree.new)) objects.now }
+    ensures rest { ShowsPlaced (Shows L.node (L.table links.new) (root_of result)) objects.now }
+{
+    intersection(tree, links, objects, &mut ByKeys::new(OwnKey), other)
+}
+
+// Keeps what the other tree does not have, and returns what both have.
+fn kept_rest<L: RBTreeOps>(
+    tree: &mut RBTree<OwnKey>,
+    links: &mut L,
+    objects: &Objects<u64>,
+    other: &RBTree<OwnKey>,
+) -> RBTree<OwnKey>
+    requires two { TwoShown (Shows L.node) objects.now (L.table links.old) (root_of tree.old) (root_of other.now) }
+    ensures kept { ShowsPlaced (Shows L.node (L.table links.new) (root_of tree.new)) objects.now }
+    ensures common { ShowsPlaced (Shows L.node (L.table links.new) (root_of result)) objects.now }
+{
+    difference(tree, links, objects, &mut ByKeys::new(OwnKey), other)
+}
+
+// Takes over what the other tree alone has, and returns what both have.
+fn united<L: RBTreeOps>(
+    tree: &mut RBTree<OwnKey>,
+    links: &mut L,
+    objects: &Objects<u64>,
+    other: RBTree<OwnKey>,
+) -> RBTree<OwnKey>
+    requires two { TwoShown (Shows L.node) objects.now (L.table links.old) (root_of tree.old) (root_of other) }
+    ensures united { ShowsPlaced (Shows L.node (L.table links.new) (root_of tree.new)) objects.now }
+    ensures doubles { ShowsPlaced (Shows L.node (L.table links.new) (root_of result)) objects.now }
+{
+    union(tree, links, objects, &mut ByKeys::new(OwnKey), other)
+}
+
+// Notes the numbers of the tree, from the first on.
+fn write_members<L: RBTreeOps>(
+    notes: &mut Text,
+    tree: &RBTree<OwnKey>,
+    links: &L,
+    objects: &Objects<u64>,
+)
+    requires placed { ShowsPlaced (Shows L.node (L.table links.now) (root_of tree.now)) objects.now }
+{
+    for number in tree.iter(links, objects) {
+        notes.add(Answer::Number(*number), " ");
+    }
+}
+
+const NUMBERS: [u64; 8] = [10, 20, 30, 40, 20, 30, 50, 60];
+
+#[test]
+fn two_trees_in_one(rt: HostRuntime) {
+    let alloc = rt.alloc();
+    let mut notes = Text::new(alloc);
+    let (objects, mut links): (_, LinkOps) = eight_objects(&rt, alloc, NUMBERS);
+    let (mut tree, other) = two_trees(&mut links, &objects);
+    let looks = merged(&mut tree, &mut links, &objects, other);
+    assert!(rt; looks <= 8);
+    write_members(&mut notes, &tree, &links, &objects);
+    let (objects, mut links): (_, LinkOps) = eight_objects(&rt, alloc, NUMBERS);
+    let (mut tree, other) = two_trees(&mut links, &objects);
+    let doubles = united(&mut tree, &mut links, &objects, other);
+    write_members(&mut notes, &tree, &links, &objects);
+    write_members(&mut notes, &doubles, &links, &objects);
+    assert!(rt; notes.has_words("10 20 20 30 30 40 50 60  10 20 30 40 50 60  20 30"));
+}
+
+#[test]
+fn a_tree_parted_by_another(rt: HostRuntime) {
+    let alloc = rt.alloc();
+    let mut notes = Text::new(alloc);
+    let (objects, mut links): (_, LinkOps) = eight_objects(&rt, alloc, NUMBERS);
+    let (mut tree, other) = two_trees(&mut links, &objects);
+    let rest = kept_common(&mut tree, &mut links, &objects, &other);
+    write_members(&mut notes, &tree, &links, &objects);
+    write_members(&mut notes, &rest, &links, &objects);
+    let (objects, mut links): (_, LinkOps) = eight_objects(&rt, alloc, NUMBERS);
+    let (mut tree, other) = two_trees(&mut links, &objects);
+    let common = kept_rest(&mut tree, &mut links, &objects, &other);
+    write_members(&mut notes, &tree, &links, &objects);
+    write_members(&mut notes, &common, &links, &objects);
+    assert!(rt; notes.has_words("20 30  10 40  10 40  20 30"));
+}
