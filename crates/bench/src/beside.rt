@@ -39,7 +39,7 @@ pub fn set_keys<L: LinkValues<u64>>(links: &mut L, objects: &Objects<u64>, order
 }
 
 // Inserts the object where its key belongs, and returns whether it is a member then: its link may be refused.
-#[inline]
+#[inline(always)]
 fn insert<L: RBTreeOps + LinkValues<u64>>(
     tree: &mut RBTree<ByValue>,
     links: &mut L,

@@ -21,7 +21,7 @@ use ic_rbtree_cached::RBTreeCached;
 use ic_unsafe_ref::{Place, UnsafeRef, Values};
 
 // Inserts the object where its key belongs, unless its link is refused.
-#[inline]
+#[inline(always)]
 fn insert<L: RBTreeOps + LinkValues<u64>>(
     tree: &mut RBTreeCached<ByValue>,
     links: &mut L,
