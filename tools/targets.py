@@ -3,9 +3,12 @@
 `rattle build` proves the crate for each target of the kit, and has the clang of its toolchain compile the module that comes of it. In the
 toolchain that it is handed here, that clang first hardens the module, and keeps it and its assembly text. The kit's clang then compiles a
 kept module for each system that the kit has no target for.
+
+What is made for a target of the kit stays in crates/ic_ffi/out/made, and a later build of the same files takes it from there.
 """
 
 import collections
+import hashlib
 import os
 import pathlib
 import re
@@ -34,6 +37,8 @@ TARGETS = {
 }
 # What tells other tools of the compiler, or what the text has besides in a note.
 LEFT_OUT = re.compile(r"\s*\.(addrsig|ident|file|aeabi_subsection|aeabi_attribute)\b")
+# What is kept of a target of the kit.
+MADE = ("a", "ll", "s", "words", "verdict")
 STAND_IN = """#!{python} -B
 import sys
 sys.path.insert(0, {tools!r})
@@ -156,10 +161,30 @@ def write_hardened(module, name, room):
     return hardened
 
 
+def sum_of_files():
+    """A sum of all that a build reads: the kit, the crate, the libraries that are built, whose `format` has a sum of each, and how it is built."""
+    found = hashlib.sha256(f"{run(['rt', 'version'])}{version_name()}".encode())
+    own = [file for part in ("src", "specs", "proofs") for file in (CRATE / part).rglob("*") if file.is_file()]
+    below = ROOT.glob("crates/*/out/rlib/*.rlib/format")
+    for file in sorted([*own, *below, ROOT / "crates.txt", pathlib.Path(__file__)]):
+        found.update(f"{file.relative_to(ROOT)} {hashlib.sha256(file.read_bytes()).hexdigest()}\n".encode())
+    return found.hexdigest()
+
+
 def compile_proved(name, room):
     """Writes ROOM/NAME.a, .ll, .s and .words of a target that the kit has, and returns the verdict."""
-    said = run(rattle_words(TARGETS[name].triple, stand_in(name, room), room / f"{name}.a"), cwd=CRATE)
-    return re.search(r"^logic=proved .*", said, re.M)[0]
+    made, sum_now = CRATE / "out/made" / name, sum_of_files()
+    if not (made / "sum").is_file() or (made / "sum").read_text() != sum_now:
+        said = run(rattle_words(TARGETS[name].triple, stand_in(name, room), room / f"{name}.a"), cwd=CRATE)
+        (room / f"{name}.verdict").write_text(re.search(r"^logic=proved .*", said, re.M)[0])
+        shutil.rmtree(made, ignore_errors=True)
+        made.mkdir(parents=True)
+        for ending in MADE:
+            shutil.copyfile(room / f"{name}.{ending}", made / f"{name}.{ending}")
+        (made / "sum").write_text(sum_now)
+    for ending in MADE:
+        shutil.copyfile(made / f"{name}.{ending}", room / f"{name}.{ending}")
+    return (room / f"{name}.verdict").read_text()
 
 
 def compile_other(name, room):
