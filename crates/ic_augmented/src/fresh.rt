@@ -66,7 +66,7 @@ pub fn insert_fresh<A: KeyAdapter, L: RBTreeOps + LinkValues<A::Value>, M: Renew
     let links = &summed.links;
     let adapter = tree.adapter();
     let mut probe = KeyProbe::new(adapter, adapter.get_key(links.value(place)));
-    let hole = tree.search(links, links, &mut probe, Side::Right);
+    let hole = tree.descend(links, links, &mut probe, Side::Right);
     attach_fresh(tree, summed, hole.parent.get(), hole.side, place);
     Ok(())
 }

@@ -63,7 +63,7 @@ pub fn insert_keyed<A: KeyAdapter, L: RBTreeOps + LinkValues<A::Value>, M: Sums>
     let links = &summed.links;
     let adapter = tree.adapter();
     let mut probe = KeyProbe::new(adapter, adapter.get_key(links.value(place)));
-    let hole = tree.search(links, links, &mut probe, Side::Right);
+    let hole = tree.descend(links, links, &mut probe, Side::Right);
     attach(tree, summed, hole.parent.get(), hole.side, place);
     Ok(())
 }

@@ -4,28 +4,27 @@ use Rattle.ic_unsafe_ref.specs.Objects.{Objects}
 use Rattle.ic_link_ops.specs.Sequences.{join, IsAbsent}
 use Rattle.ic_rbtree.specs.Comparing.{compared, own_order}
 use Rattle.ic_rbtree.specs.Ordered.{InsertsInOrder}
-use Rattle.ic_rbtree.proofs.Removing.{shown_of}
-use Rattle.ic_rbtree.proofs.ShownClosed.{among, shown_closed, with_place, shown_closed_but, with_itself, hole_in}
+use Rattle.ic_rbtree.proofs.ShownClosed.{with_place, shown_closed_but, with_itself, hole_in}
 use Rattle.ic_rbtree.proofs.InOrder.{still_shown, fits, fitted, own_is}
 use Rattle.ic_link_ops.specs.Tables.{Table}
 use Rattle.ic_augmented.specs.Consistent.{IsConsistent, ShowsConsistent}
-use Rattle.ic_augmented.proofs.EditLemmas.{free_member, beside_consistent, acquired_consistent, inserts_consistent}
+use Rattle.ic_augmented.proofs.EditLemmas.{members_placed, free_member, beside_consistent, acquired_consistent, inserts_consistent}
 use Rattle.ic_augmented.proofs.linking.insert_keyed.Goals as goal
 
-pub search-hole-requires-clause-safe : goal.search-hole-requires-clause-safe
-search-hole-requires-clause-safe g c =
+pub descend-hole-requires-clause-placed : goal.descend-hole-requires-clause-placed
+descend-hole-requires-clause-placed g c =
     let n = g.L.RBTreeOps.node in
-    let r = c.requires.shown in
+    let alike = g.met.L.RBTreeOps.linked_alike in
     let l = g.met.L.LinkOps.does_replay _ _ _ c.if-not-acquire_link.ensures.acquired in
-    let closed = shown_closed n (shown_of n (still_shown n g.L.LinkOps.linked g.met.L.RBTreeOps.linked_alike l.was l.is c.acquire_link.ensures.frame refl r.1)) in
-    (λ q. among q r.0, closed, λ p m. g.met.L.LinkValues.covered_has_value _ p (g.met.L.LinkOps.linked_is_covered _ p (sym (g.met.L.RBTreeOps.linked_alike _) ∙ closed.linked p m)))
+    members_placed n (g.L.Values.values c.acquire_link.new.self) (still_shown n g.L.LinkOps.linked alike l.was l.is c.acquire_link.ensures.frame refl c.requires.shown.1)
+    (λ p is. g.met.L.LinkValues.covered_has_value _ p (g.met.L.LinkOps.linked_is_covered _ p (sym (alike _) ∙ is)))
 
 pub attach-requires : goal.attach-requires
 attach-requires g c =
     let n = g.L.RBTreeOps.node in
     let r = c.requires.shown in
     let l = g.met.L.LinkOps.does_replay _ _ _ c.if-not-acquire_link.ensures.acquired in
-    let f = fits n g.L.LinkOps.linked g.met.L.RBTreeOps.linked_alike l.was l.is c.acquire_link.ensures.frame r.1 refl c.search-hole.ensures.ends c.get.ensures in
+    let f = fits n g.L.LinkOps.linked g.met.L.RBTreeOps.linked_alike l.was l.is c.acquire_link.ensures.frame r.1 refl c.descend-hole.ensures.ends c.get.ensures in
     (with_place c.place-place.result (join f.gap), shown_closed_but n f.shown, (with_itself n f.shown, (hole_in n (g.L.LinkOps.table c.acquire_link.new.self) c.place-place.result _ _ f.gap f.hole, tt)))
 
 pub returns-clause-inserted : goal.returns-clause-inserted
@@ -38,7 +37,7 @@ returns-clause-inserted g c s shown =
     let after = g.L.LinkOps.table c.attach.new.summed.links in
     let new_sums = g.M.Sums.sums c.attach.new.summed.sums in
     let values = g.L.Values.values c.acquire_link.new.self in
-    let f = fits n g.L.LinkOps.linked alike l.was l.is c.acquire_link.ensures.frame shown.0 refl c.search-hole.ensures.ends c.get.ensures in
+    let f = fits n g.L.LinkOps.linked alike l.was l.is c.acquire_link.ensures.frame shown.0 refl c.descend-hole.ensures.ends c.get.ensures in
     let free = alike _ ∙ l.was in
     let kept = c.attach.ensures.consistent f.gap (alike _ ∙ l.is) (free_member n _ _ s (join f.gap) c.place-place.result f.same shown.0 free)
     (acquired_consistent n _ _ _ _ s (join f.gap) c.place-place.result f.same free c.acquire_link.ensures.frame shown) f.hole in
@@ -66,5 +65,5 @@ returns-clause-extent g c =
     let alike = g.met.L.RBTreeOps.linked_alike in
     let r = c.requires.shown in
     let l = g.met.L.LinkOps.does_replay _ _ _ c.if-not-acquire_link.ensures.acquired in
-    let f = fits n g.L.LinkOps.linked alike l.was l.is c.acquire_link.ensures.frame r.1 refl c.search-hole.ensures.ends c.get.ensures in
+    let f = fits n g.L.LinkOps.linked alike l.was l.is c.acquire_link.ensures.frame r.1 refl c.descend-hole.ensures.ends c.get.ensures in
     (fitted n g.L.LinkOps.linked alike l.was l.is c.acquire_link.ensures.frame f c.attach.ensures.attached).inserted.frame.extent
