@@ -163,8 +163,8 @@ fn tree(name: &str, watch: &mut Watch<'_>, room: &mut Room, size: Size) -> Optio
     ))
 }
 
-// A tree of their values, which stand beside the links that the table lends. For `fresh` it counts its members, for `fresh-ends` it has an interval beside each,
-// and for `queue-ends` it keeps its ends.
+// A tree of their values, which stand beside the links that the table lends. For `fresh` it counts its members, for `fresh-ends` it has
+// an interval beside each, and for `queue-ends` it keeps its ends.
 fn keyed(name: &str, watch: &mut Watch<'_>, room: &Room, size: Size) -> Option<u64> {
     let alloc = watch.rt.alloc();
     let mut links = rbtree::LinkOpsWith::new(alloc);
