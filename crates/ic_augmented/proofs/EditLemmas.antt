@@ -5,12 +5,13 @@ use Rattle.ic_unsafe_ref.specs.declared.place.Place.{Place}
 use Rattle.ic_unsafe_ref.specs.Objects.{Objects, is_placed}
 use Rattle.ic_unsafe_ref.proofs.PlaceLemmas.{same_or_not}
 use Rattle.ic_link_ops.specs.declared.side.Side.{Side}
-use Rattle.ic_link_ops.specs.PlacedObjects.{ArePlaced, ShowsPlaced}
+use Rattle.ic_link_ops.specs.PlacedObjects.{ShowsPlaced}
 use Rattle.ic_link_ops.specs.Sequences.{Cut, join, insert, IsAbsent, IsDisjoint}
 use Rattle.ic_link_ops.specs.Tables.{Table, ChangesOnly}
 use Rattle.ic_link_ops.specs.Trees.{in_order}
 use Rattle.ic_link_ops.specs.RedBlackTree.{Node, Shows}
 use Rattle.ic_link_ops.specs.Times.{one_at, times, times_in}
+use Rattle.ic_link_ops.proofs.Each.{all_members}
 use Rattle.ic_link_ops.proofs.Times.{one_at_self, one_at_other, times_append, times_order, absent_times}
 use Rattle.ic_link_ops.proofs.SequenceLemmas.{disjoint_cons}
 use Rattle.ic_link_ops.proofs.ShownTrees.{holds_linked, holds_once, shows_beside, shows_frame, free_absent, one_sequence}
@@ -30,10 +31,7 @@ use Rattle.ic_augmented.proofs.ConsistencyLemmas.{not_stale, consistent_tree, tr
 -- a value stands at each member of a tree, if one stands wherever a place is linked
 pub members_placed : {E T : Type 0} (n : E → Node) {v : Table E} {root : Option Place} {s : List Place} (objects : Objects T) → Shows n v root s
     → ((p : Place) → (n (v.entry p)).linked ≡ true → is_placed objects p ≡ true) → ShowsPlaced (Shows n v root) objects
-members_placed n {s = s} objects shown linked = record { members = s; shown = shown; placed = each s (λ p member. linked p (holds_linked shown.held member)) } where
-  each : (r : List Place) → ((p : Place) → (IsAbsent p r → ⊥) → is_placed objects p ≡ true) → ArePlaced objects r
-  each [] all = tt
-  each (x ∷ r) all = (all x (λ out. out.0 refl), each r (λ p member. all p (λ out. member out.1)))
+members_placed n {s = s} objects shown linked = record { members = s; shown = shown; placed = all_members s (λ p member. linked p (holds_linked shown.held member)) }
 
 module _ {E : Type 0} (n : E → Node) where
   -- a linked place beside the tree

@@ -1,6 +1,8 @@
 -- What holds of each of a list, and of each of its parts.
-use Rattle.std.proofs.Common.{List, [], ◌∷◌, ◌++◌}
+use Rattle.std.proofs.Common.{List, [], ◌∷◌, ◌++◌, refl}
 use Rattle.std.specs.List.{AllByRecursion}
+use Rattle.ic_unsafe_ref.specs.declared.place.Place.{Place}
+use Rattle.ic_link_ops.specs.Sequences.{IsMember}
 
 module _ {X : Type 0} (P : X → Type 0) where
   pub all_front : (s t : List X) → AllByRecursion P (s ++ t) → AllByRecursion P s
@@ -28,3 +30,8 @@ module _ {X : Type 0} (P : X → Type 0) where
 pub all_map : {X : Type 0} {P Q : X → Type 0} → ((x : X) → P x → Q x) → (s : List X) → AllByRecursion P s → AllByRecursion Q s
 all_map f [] h = tt
 all_map f (x ∷ s) h = (f x h.0, all_map f s h.1)
+
+-- what holds of every member holds of each of a sequence
+pub all_members : {P : Place → Type 0} (s : List Place) → ((q : Place) → IsMember q s → P q) → AllByRecursion P s
+all_members [] h = tt
+all_members (x ∷ s) h = (h x (λ out. out.0 refl), all_members s (λ q member. h q (λ out. member out.1)))

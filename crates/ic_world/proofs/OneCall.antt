@@ -12,6 +12,7 @@ use Rattle.ic_unsafe_ref.proofs.PlaceLemmas.{same_index}
 use Rattle.ic_link_ops.specs.Sequences.{IsAbsent, IsDisjoint}
 use Rattle.ic_link_ops.specs.Tables.{Table, IsCovered, IsUnlinked}
 use Rattle.ic_link_ops.specs.PlacedObjects.{ArePlaced}
+use Rattle.ic_link_ops.proofs.Each.{all_members}
 use Rattle.ic_link_ops.proofs.SequenceLemmas.{disjoint_cons}
 use Rattle.ic_any_collection.specs.declared.entry.Entry.{Entry}
 use Rattle.ic_any_collection.specs.declared.any_table.AnyTable.{AnyTable}
@@ -92,12 +93,8 @@ module _ {V : Type 0} {objects : Objects V} {room : ℕ} {ts : List (Table Entry
   same_state adapter = λ i. record { kind = kind_in k.members; members = sequence ts k; cursor = cursor_in k.members; linked = linked_at adapter objects ts cs k.field (whole.in_field c k is) i }
 
   -- an object stands at each member
-  placed_members : (s : List Place) → ((q : Place) → (IsAbsent q s → ⊥) → is_linked ((table ts k.field).entry q) ≡ true) → ArePlaced objects s
-  placed_members [] h = tt
-  placed_members (x ∷ s) h = (whole.placed k.field x (h x (λ out. out.0 refl)), placed_members s (λ q there. h q (λ out. there out.1)))
-
   pub all_placed : ArePlaced objects (sequence ts k)
-  all_placed = placed_members (sequence ts k) (λ q there. linked q there (is_linked ((table ts k.field).entry q)) refl) where
+  all_placed = all_members (sequence ts k) (λ q there. whole.placed k.field q (linked q there (is_linked ((table ts k.field).entry q)) refl)) where
     linked : (q : Place) → (IsAbsent q (sequence ts k) → ⊥) → (b : Bool) → is_linked ((table ts k.field).entry q) ≡ b → is_linked ((table ts k.field).entry q) ≡ true
     linked q there true e = e
     linked q there false e = absurd (there (unlinked_absent (table ts k.field) k.members (sequence ts k) (whole.held c k is).shown e))

@@ -4,7 +4,7 @@ use Rattle.std.proofs.lemmas.Bool.{cases_eq, and_parts}
 use Rattle.std.proofs.lemmas.List.{get_or-set_same, get_or-set_other, get_or_append_left, get_or_push, length-set}
 use Rattle.std.proofs.lemmas.List.Folds.{list_any_at}
 use Rattle.std.specs.Cmp.{IsTotalOrder, nat_cmp_total, unsigned_tied}
-use Rattle.std.specs.List.{AllByRecursion, list_all}
+use Rattle.std.specs.List.{list_all}
 use Rattle.std.specs.Ordering.{nat_cmp, is_eq, is_lt}
 use Rattle.std.specs.FinSet as set_of
 use Rattle.std.specs.FinMap as map_of
@@ -16,7 +16,7 @@ use Rattle.ic_unsafe_ref.specs.Places.{index_of}
 use Rattle.ic_unsafe_ref.specs.Objects.{Objects, object_at}
 use Rattle.ic_unsafe_ref.proofs.PlaceLemmas.{same_index, same_or_not}
 use Rattle.ic_link_ops.specs.PlacedObjects.{ArePlaced}
-use Rattle.ic_link_ops.specs.Sequences.{Cut, first, IsAbsent, IsMember, IsDistinct, IsAfter, IsBefore}
+use Rattle.ic_link_ops.specs.Sequences.{Cut, first, IsAbsent, IsDistinct, IsAfter, IsBefore}
 use Rattle.ic_link_ops.proofs.SequenceLemmas.{some_same, first_is}
 use Rattle.ic_any_collection.specs.declared.kind.Kind.{Kind}
 use Rattle.ic_any_collection.specs.declared.kind.Kind.TheVariants.{Singly}
@@ -48,6 +48,7 @@ use Rattle.ic_world.specs.Apart.{AreAllPlaced}
 use Rattle.ic_world.specs.Calls.{State, Reply, done, object, field, opened, items, found, looked, entry, refused, object_or_nothing, asks, names, refusal_of, onward, InsertionReplies, TakeReplies, Replies, without as without_member}
 use Rattle.ic_world.specs.Several.{StepBy, OpensWith, SplicesAt, state_in, with_state, sequence_of, refusal_of_part, refusal_of_splice, asks_collection}
 use Rattle.ic_world.specs.Step.{Step, StepOn, Accepts, AcceptsOn, refusal, refusal_on}
+use Rattle.ic_link_ops.proofs.Each.{all_members}
 use Rattle.ic_link_ops.proofs.PlacedValues.{vacant_absent}
 use Rattle.ic_world.proofs.Linked.{absent_or}
 use Rattle.ic_world.proofs.Readings.{some_within}
@@ -58,10 +59,6 @@ use Rattle.ic_world_laws.specs.Entered.{IsInOrderOf, StandsFor, without, put_las
 use Rattle.ic_world_laws.proofs.EnteredLists.{HaveEqualKeys, equal_keys_itself, nothing_in_order, put_in_order, taken_in_order, equal_in_order, same_in_order}
 
 -- in a sound family every member is placed
-all_members : {P : Place → Type 0} (s : List Place) → ((p : Place) → IsMember p s → P p) → AllByRecursion P s
-all_members [] h = tt
-all_members (x ∷ s) h = (h x (λ out. out.0 refl), all_members s (λ p there. h p (λ out. there out.1)))
-
 pub sound_placed : {A V : Type 0} (w : Family A V) → IsSound w → AreAllPlaced w
 sound_placed w sound c s is = all_members s.members (λ p there. sound.placed s.field p ((sound.collections c s is).linked p there))
 

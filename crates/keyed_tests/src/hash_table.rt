@@ -16,12 +16,12 @@ mod words;
 
 use crate::hash_table::equals::{grow_beside, put_all, shrink_beside, take_beside};
 use crate::hash_table::keyed::{put_keyed, take_by_keyed, take_keyed};
-use crate::objects::{eight_objects, reference};
 use ic_hash_table::{Buckets, Entry, HashAdapter, HashTable, KeyOf, KeyProbe, StdHash};
 use ic_link_ops::singly_linked_list::{LinkOps, LinkOpsWith, SinglyLinkedListOps};
 use ic_link_ops::{LinkOps as _, LinkValues, PlaceWord};
 use ic_test_support::answers::{object, write_places};
 use ic_test_support::notes::{Answer, Text};
+use ic_test_support::objects::{eight_objects, reference};
 use ic_unsafe_ref::{Objects, UnsafeRef, Values};
 use std::alloc::{AllocError, Global};
 use std::hash::{BuildHasherDefault, FoldHasher};

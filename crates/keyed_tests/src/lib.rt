@@ -11,6 +11,4 @@ mod hash_table;
 #[cfg(test)]
 mod keyed;
 #[cfg(test)]
-mod objects;
-#[cfg(test)]
 mod tree_merges;

@@ -10,11 +10,11 @@ ghost use Rattle.ic_rbtree.specs.Tree.{root_of};
 ghost use Rattle.ic_tree_merges.specs.TwoTrees.{TwoShown};
 
 use crate::keyed::OwnKey;
-use crate::objects::{eight_objects, reference};
 use ic_link_ops::LinkOps as _;
 use ic_link_ops::rbtree::{LinkOps, RBTreeOps};
 use ic_rbtree::RBTree;
 use ic_test_support::notes::{Answer, Text};
+use ic_test_support::objects::{eight_objects, reference};
 use ic_tree_merges::{ByKeys, difference, intersection, merge, union};
 use ic_unsafe_ref::Objects;
 

@@ -8,7 +8,6 @@ ghost use Rattle.ic_link_ops.specs.PlainTables.{table};
 ghost use Rattle.ic_list_algorithms.specs.Runs.{FewLooks, TwoShown};
 ghost use Rattle.ic_list_algorithms.specs.TwoLists.{TwoLists};
 
-use crate::objects::{TENS, eight_objects, reference};
 use ic_chain::{Chain, DoubleEnded, ForwardLinks, ListKind, SingleEnded};
 use ic_link_ops::linked_list::{LinkOpsWith, TwoWords};
 use ic_link_ops::singly_linked_list::Singly;
@@ -17,6 +16,7 @@ use ic_linked_list::DoublyLinked;
 use ic_list_algorithms as algorithms;
 use ic_list_algorithms::{By, Counted, Following, Natural};
 use ic_singly_linked_list::SinglyLinked;
+use ic_test_support::objects::{TENS, eight_objects, reference};
 use ic_unsafe_ref::{Objects, Place, UnsafeRef};
 use std::alloc::Global;
 use std::process::Abort;

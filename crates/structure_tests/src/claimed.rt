@@ -5,13 +5,13 @@ ghost use Rattle.ic_link_ops.specs.DoublyEntries.{plain_table};
 ghost use Rattle.ic_atomic.specs.AtomicLinks.{links_of};
 ghost use Rattle.ic_atomic.specs.Holders.{places_of, record_of, IsOf};
 
-use crate::objects::{TENS, eight_objects};
 use crate::ring;
 use ic_atomic::linked_list::AtomicLinkOps;
 use ic_atomic::{Claims, Holder};
 use ic_link_ops::PlainTable;
 use ic_link_ops::linked_list::LinkOps;
 use ic_test_support::notes::Text;
+use ic_test_support::objects::{TENS, eight_objects};
 use std::alloc::Global;
 use std::process::Abort;
 

@@ -11,6 +11,4 @@ pub mod containers;
 #[cfg(test)]
 mod listed;
 #[cfg(test)]
-mod objects;
-#[cfg(test)]
 mod ring;

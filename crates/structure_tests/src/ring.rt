@@ -11,7 +11,6 @@ mod connections;
 mod cursors;
 mod pairs;
 
-use crate::objects::{TENS, eight_objects, reference};
 use crate::ring::connections::{close, close_oldest, touch};
 use crate::ring::cursors::{
     close_first, close_last, keep_first, put_last_but_one, put_second, renew_last, second,
@@ -23,6 +22,7 @@ use ic_link_ops::linked_list::{LinkOps, LinkedListOps};
 use ic_ring::{Ring, bypass, insert_after, insert_before, next, prev, replace, turn_to};
 use ic_test_support::answers::{object, value, write_places};
 use ic_test_support::notes::{Answer, Text};
+use ic_test_support::objects::{TENS, eight_objects, reference};
 use ic_unsafe_ref::{Objects, UnsafeRef};
 use std::alloc::{AllocError, Global};
 use std::process::Abort;

@@ -7,10 +7,10 @@ ghost use Rattle.ic_unsafe_ref.specs.Places.{index_of};
 ghost use Rattle.ic_hash_table.specs.HashTable.{number};
 ghost use Rattle.ic_hash_table.specs.SideBySide.{HoldsSideBySide};
 
-use crate::objects::reference;
 use ic_hash_table::{Buckets, HashAdapter, HashTable};
 use ic_link_ops::LinkOps as _;
 use ic_link_ops::singly_linked_list::SinglyLinkedListOps;
+use ic_test_support::objects::reference;
 use ic_unsafe_ref::Objects;
 
 /// Puts the object in, beside those that have its key.

@@ -4,10 +4,10 @@ ghost use Rattle.std.specs.Prelude.{◌≡◌, ◌<◌};
 ghost use Rattle.ic_link_ops.specs.Tables.{IsCovered};
 ghost use Rattle.ic_hash_table.specs.HashTable.{adapter_of, number, HoldsSome};
 
-use crate::objects::reference;
 use ic_hash_table::{Buckets, HashAdapter, HashTable};
 use ic_link_ops::singly_linked_list::SinglyLinkedListOps;
 use ic_link_ops::{LinkOps as _, LinkValues};
+use ic_test_support::objects::reference;
 use ic_unsafe_ref::UnsafeRef;
 
 /// Puts the object in by the key that stands beside its link.

@@ -7,12 +7,12 @@ ghost use Rattle.ic_unsafe_ref.specs.Objects.{is_placed};
 ghost use Rattle.ic_unsafe_ref.specs.Places.{index_of};
 
 use crate::hash_table::{NUMBERS, OwnKey, put};
-use crate::objects::eight_objects;
 use ic_hash_table::{Buckets, HashAdapter, HashTable};
 use ic_link_ops::LinkOps as _;
 use ic_link_ops::singly_linked_list::{LinkOps, SinglyLinkedListOps};
 use ic_test_support::answers::write_places;
 use ic_test_support::notes::{Answer, Text};
+use ic_test_support::objects::eight_objects;
 use ic_unsafe_ref::{Objects, UnsafeRef};
 
 // Puts two objects into a new table over these buckets, closes it, and makes it again: the member that it finds by this key then.

@@ -5,11 +5,11 @@ ghost use Rattle.ic_unsafe_ref.specs.declared.place.Place.{Place};
 ghost use Rattle.ic_link_ops.specs.Sequences.{IsAbsent};
 ghost use Rattle.ic_ring.specs.Rings.{Shows, InRing};
 
-use crate::objects::reference;
 use crate::ring::{opened, put_back};
 use ic_link_ops::LinkOps;
 use ic_link_ops::linked_list::LinkedListOps;
 use ic_ring::{Ring, exchange, move_after, move_before};
+use ic_test_support::objects::reference;
 use ic_unsafe_ref::UnsafeRef;
 use std::process::Abort;
 

@@ -6,15 +6,18 @@ ghost use Rattle.ic_unsafe_ref.specs.Objects.{is_placed};
 ghost use Rattle.ic_unsafe_ref.specs.Places.{index_of};
 ghost use Rattle.ic_link_ops.specs.PlainTables.{table};
 
+use crate::answers::placed;
+use crate::tables::are_placed;
 use ic_link_ops::{PlainTable, Words};
-use ic_test_support::answers::placed;
-use ic_test_support::tables::are_placed;
 use ic_unsafe_ref::{Objects, Place, UnsafeRef};
 use std::alloc::Global;
 use std::process::Abort;
 
+/// 10 to 80, in this order.
+pub const TENS: [u64; 8] = [10, 20, 30, 40, 50, 60, 70, 80];
+
 /// These numbers as objects at the places 0 to 7, and a table of links that covers these places.
-pub(crate) fn eight_objects<W: Words>(
+pub fn eight_objects<W: Words>(
     rt: &impl Abort,
     alloc: Global,
     numbers: [u64; 8],
@@ -34,7 +37,7 @@ pub(crate) fn eight_objects<W: Words>(
 }
 
 /// The reference to the object at the place of that index.
-pub(crate) fn reference(index: usize) -> UnsafeRef<u64>
+pub fn reference(index: usize) -> UnsafeRef<u64>
     requires { index < 8 }
     ensures { index_of result ≡ index }
 {
