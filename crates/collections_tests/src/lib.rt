@@ -6,8 +6,6 @@
 #[cfg(test)]
 mod doubly;
 #[cfg(test)]
-mod fixtures;
-#[cfg(test)]
 mod laws;
 #[cfg(test)]
 mod lists;

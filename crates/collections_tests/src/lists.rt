@@ -5,9 +5,9 @@ ghost use Rattle.ic_link_ops.specs.Chains.{ShowsChain, ShowsSomeChain};
 ghost use Rattle.ic_link_ops.specs.PlacedObjects.{ShowsPlaced};
 ghost use Rattle.ic_link_ops.specs.PlainTables.{table};
 
-use crate::fixtures::{eight_objects, reference};
 use ic_chain::{Chain, ForwardLinks, ListKind};
 use ic_link_ops::{PlainTable, Words};
+use ic_test_support::objects::{TENS, eight_objects, reference};
 use ic_unsafe_ref::Objects;
 use std::alloc::Global;
 use std::process::Abort;
@@ -47,7 +47,7 @@ pub(crate) fn list_of<K: ForwardLinks<PlainTable<W>>, W: Words>(
     ensures covers { (table W.unlinked result.links).extent.places ≡ 8 }
     ensures shown { ShowsPlaced (ShowsChain K.Between K.kept (table W.unlinked result.links) result.list) result.objects }
 {
-    let (objects, mut links) = eight_objects(rt, alloc);
+    let (objects, mut links) = eight_objects(alloc, TENS).expect(rt, "memory");
     let list = filled(&mut links, members);
     ListFixture {
         objects,

@@ -3,15 +3,6 @@
 use ic_test_support::answers::{object, standing, value};
 use ic_test_support::notes::Text;
 use ic_unsafe_ref::{Place, UnsafeRef};
-use std::alloc::Global;
-use std::process::Abort;
-
-/// Asserts that the notes have these words. The one comparison of each test.
-pub(crate) fn same(rt: &impl Abort, alloc: Global, notes: &Text, wanted: &str) {
-    let mut found = String::new(alloc);
-    let shown = notes.show(&mut found);
-    assert!(rt; shown.is_ok() && found.split_whitespace().eq(wanted.split_whitespace()));
-}
 
 /// Notes these objects.
 pub(crate) fn write_values(notes: &mut Text, found: &[Option<&u64>]) {

@@ -1,9 +1,9 @@
 //! What lists, trees and links print.
 
-use crate::fixtures::reference;
 use crate::lists::list_of;
 use crate::singly::SinglyFixture;
 use crate::tree::trees::tree_of;
+use ic_test_support::objects::reference;
 
 // A list on one line, a tree with each object on a line of its own, and two links.
 #[test]

@@ -64,13 +64,4 @@ impl Text {
     pub fn has_words(&self, words: &str) -> bool {
         self.is_whole && self.text.split_whitespace().eq(words.split_whitespace())
     }
-
-    /// Writes the text to what is shown, if all of it could be written.
-    pub fn show(&self, shown: &mut String) -> fmt::Result {
-        if self.is_whole {
-            shown.write_str(self.text.as_str())
-        } else {
-            Err(fmt::Error)
-        }
-    }
 }

@@ -20,7 +20,7 @@ ghost use Rattle.keyed_tests.specs.Ready.{IsReady};
 
 mod intervals;
 
-use crate::keyed::{OwnKey, keyed_links, place_at, reference};
+use crate::keyed::{OwnKey, keyed_links};
 use ic_augmented::{
     Counts, Greatest, Joins, RenewSums, SumTable, Summed, first_greater, first_overlap, index_of,
     insert_keyed, len, nth, propagate, refresh, remove, set_value,
@@ -28,6 +28,7 @@ use ic_augmented::{
 use ic_link_ops::LinkValues;
 use ic_link_ops::rbtree::{LinkOpsWith, RBTreeOps};
 use ic_rbtree::{KeyAdapter, Nodes, RBTree};
+use ic_test_support::objects::{place_at, reference};
 use ic_unsafe_ref::{Place, UnsafeRef};
 use std::alloc::{Allocator, Global};
 use std::process::Abort;

@@ -11,10 +11,11 @@ ghost use Rattle.ic_rbtree.specs.KeyedTrees.{keyed_table};
 ghost use Rattle.ic_rbtree.specs.Tree.{root_of};
 ghost use Rattle.ic_rbtree.specs.Vines.{ShowsVineSome};
 
-use crate::keyed::{OwnKey, keyed_links, place_at, reference};
+use crate::keyed::{OwnKey, keyed_links};
 use ic_link_ops::LinkOps;
 use ic_link_ops::rbtree::{LinkOpsWith, RBTreeOps};
 use ic_rbtree::{KeyAdapter, RBTree, RBTreeBuilder};
+use ic_test_support::objects::{place_at, reference};
 use ic_unsafe_ref::{Place, UnsafeRef};
 use std::process::Abort;
 

@@ -92,7 +92,7 @@ fn fixture(rt: &impl Abort, alloc: Global) -> (Text, Objects<u64>, LinkOps, Vec<
     ensures count { length result.3.items ≡ 4 }
 {
     let buckets = empty_buckets(alloc, 4).expect(rt, "memory for buckets");
-    let (objects, links) = eight_objects(rt, alloc, NUMBERS);
+    let (objects, links) = eight_objects(alloc, NUMBERS).expect(rt, "memory");
     (Text::new(alloc), objects, links, buckets)
 }
 
@@ -443,7 +443,7 @@ fn a_table_over_a_vector(rt: HostRuntime) {
 fn a_table_over_an_array(rt: HostRuntime) {
     let alloc = rt.alloc();
     let mut notes = Text::new(alloc);
-    let (objects, mut links): (_, LinkOps) = eight_objects(&rt, alloc, NUMBERS);
+    let (objects, mut links): (_, LinkOps) = eight_objects(alloc, NUMBERS).expect(&rt, "memory");
     let none = || PlaceWord::of(None);
     let mut table = HashTable::new(OwnKey, [none(), none(), none(), none()]);
     write_edits(&mut notes, &mut table, &mut links, &objects, &10);
@@ -564,7 +564,7 @@ fn a_table_grows_and_shrinks(rt: HostRuntime) {
 fn a_table_over_a_slice(rt: HostRuntime) {
     let alloc = rt.alloc();
     let mut notes = Text::new(alloc);
-    let (objects, mut links): (_, LinkOps) = eight_objects(&rt, alloc, NUMBERS);
+    let (objects, mut links): (_, LinkOps) = eight_objects(alloc, NUMBERS).expect(&rt, "memory");
     let none = || PlaceWord::of(None);
     let mut words = [none(), none(), none(), none()];
     let mut table = HashTable::new(OwnKey, &mut words[..]);

@@ -1,13 +1,12 @@
 //! What the tests of trees stand on: numbers that are their own keys, kept beside the links.
 
 ghost use Rattle.std.specs.Prelude.{◌≡◌, ◌<◌, length};
-ghost use Rattle.ic_unsafe_ref.specs.Places.{index_of};
 ghost use Rattle.ic_rbtree.specs.KeyedTrees.{keyed_table};
 
 use ic_link_ops::LinkValues;
 use ic_link_ops::rbtree::LinkOpsWith;
 use ic_rbtree::KeyAdapter;
-use ic_unsafe_ref::{Place, UnsafeRef};
+use ic_test_support::objects::place_at;
 use std::alloc::Global;
 use std::process::Abort;
 
@@ -42,20 +41,4 @@ pub(crate) fn keyed_links(rt: &impl Abort, alloc: Global, keys: &[u64]) -> LinkO
     }
     assert!(rt; links.covers() == keys.len());
     links
-}
-
-/// The place of that index.
-pub(crate) fn place_at(index: usize) -> Place
-    requires { index < 4294967296 }
-    ensures { index_of result ≡ index }
-{
-    Place::new(index).unwrap()
-}
-
-/// The reference to what stands at the place of that index.
-pub(crate) fn reference(index: usize) -> UnsafeRef<u64>
-    requires { index < 4294967296 }
-    ensures { index_of result ≡ index }
-{
-    UnsafeRef::new(place_at(index))
 }

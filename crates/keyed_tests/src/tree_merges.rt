@@ -134,12 +134,12 @@ const NUMBERS: [u64; 8] = [10, 20, 30, 40, 20, 30, 50, 60];
 fn two_trees_in_one(rt: HostRuntime) {
     let alloc = rt.alloc();
     let mut notes = Text::new(alloc);
-    let (objects, mut links): (_, LinkOps) = eight_objects(&rt, alloc, NUMBERS);
+    let (objects, mut links): (_, LinkOps) = eight_objects(alloc, NUMBERS).expect(&rt, "memory");
     let (mut tree, other) = two_trees(&mut links, &objects);
     let looks = merged(&mut tree, &mut links, &objects, other);
     assert!(rt; looks <= 8);
     write_members(&mut notes, &tree, &links, &objects);
-    let (objects, mut links): (_, LinkOps) = eight_objects(&rt, alloc, NUMBERS);
+    let (objects, mut links): (_, LinkOps) = eight_objects(alloc, NUMBERS).expect(&rt, "memory");
     let (mut tree, other) = two_trees(&mut links, &objects);
     let doubles = united(&mut tree, &mut links, &objects, other);
     write_members(&mut notes, &tree, &links, &objects);
@@ -151,12 +151,12 @@ fn two_trees_in_one(rt: HostRuntime) {
 fn a_tree_parted_by_another(rt: HostRuntime) {
     let alloc = rt.alloc();
     let mut notes = Text::new(alloc);
-    let (objects, mut links): (_, LinkOps) = eight_objects(&rt, alloc, NUMBERS);
+    let (objects, mut links): (_, LinkOps) = eight_objects(alloc, NUMBERS).expect(&rt, "memory");
     let (mut tree, other) = two_trees(&mut links, &objects);
     let rest = kept_common(&mut tree, &mut links, &objects, &other);
     write_members(&mut notes, &tree, &links, &objects);
     write_members(&mut notes, &rest, &links, &objects);
-    let (objects, mut links): (_, LinkOps) = eight_objects(&rt, alloc, NUMBERS);
+    let (objects, mut links): (_, LinkOps) = eight_objects(alloc, NUMBERS).expect(&rt, "memory");
     let (mut tree, other) = two_trees(&mut links, &objects);
     let common = kept_rest(&mut tree, &mut links, &objects, &other);
     write_members(&mut notes, &tree, &links, &objects);

@@ -49,7 +49,7 @@ fn eight<K: ForwardLinks<PlainTable<W>>, W: Words>(rt: &impl Abort, alloc: Globa
     ensures shown { ShowsPlaced (ShowsChain K.Between K.kept (table W.unlinked result.links) result.list) result.objects }
     ensures some { ShowsSomeChain K.Between K.kept (table W.unlinked result.links) result.list }
 {
-    let (objects, mut links) = eight_objects(rt, alloc, TENS);
+    let (objects, mut links) = eight_objects(alloc, TENS).expect(rt, "memory");
     let list = filled(&mut links, 8);
     Fixture {
         objects,

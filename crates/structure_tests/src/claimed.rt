@@ -36,7 +36,7 @@ fn claimed_links<'c>(
 fn one_ring_over_claims(rt: HostRuntime) {
     let alloc = rt.alloc();
     let mut notes = Text::new(alloc);
-    let (objects, _): (_, LinkOps) = eight_objects(&rt, alloc, TENS);
+    let (objects, _): (_, LinkOps) = eight_objects(alloc, TENS).expect(&rt, "memory");
     let (claims, mut holders) = Claims::new(alloc, 8, 1).expect(&rt, "claims");
     let mut links = claimed_links(&rt, alloc, &claims, &mut holders);
     ring::write_edits(&rt, &mut notes, &mut links, &objects);

@@ -257,7 +257,7 @@ pub(crate) const EDITS: &str =
 fn one_ring(rt: HostRuntime) {
     let alloc = rt.alloc();
     let mut notes = Text::new(alloc);
-    let (objects, mut links): (_, LinkOps) = eight_objects(&rt, alloc, TENS);
+    let (objects, mut links): (_, LinkOps) = eight_objects(alloc, TENS).expect(&rt, "memory");
     write_edits(&rt, &mut notes, &mut links, &objects);
     assert!(rt; notes.has_words(EDITS));
 }
@@ -290,7 +290,7 @@ fn write_pairs<L: LinkedListOps>(
 fn two_rings_of_one_table(rt: HostRuntime) {
     let alloc = rt.alloc();
     let mut notes = Text::new(alloc);
-    let (objects, mut links): (_, LinkOps) = eight_objects(&rt, alloc, TENS);
+    let (objects, mut links): (_, LinkOps) = eight_objects(alloc, TENS).expect(&rt, "memory");
     write_pairs(&rt, &mut notes, &mut links, &objects);
     assert!(rt;
         notes.has_words(
@@ -303,7 +303,7 @@ fn two_rings_of_one_table(rt: HostRuntime) {
 #[test]
 fn a_ring_is_printed(rt: HostRuntime) {
     let alloc = rt.alloc();
-    let (objects, mut links): (_, LinkOps) = eight_objects(&rt, alloc, TENS);
+    let (objects, mut links): (_, LinkOps) = eight_objects(alloc, TENS).expect(&rt, "memory");
     let ring = opened(&rt, &mut links, 7);
     put_back(&mut links, &ring, 0);
     put_back(&mut links, &ring, 1);
@@ -343,7 +343,7 @@ fn write_cursors<L: LinkedListOps>(
 fn a_ring_by_cursors(rt: HostRuntime) {
     let alloc = rt.alloc();
     let mut notes = Text::new(alloc);
-    let (objects, mut links): (_, LinkOps) = eight_objects(&rt, alloc, TENS);
+    let (objects, mut links): (_, LinkOps) = eight_objects(alloc, TENS).expect(&rt, "memory");
     write_cursors(&rt, &mut notes, &mut links, &objects);
     assert!(rt; notes.has_words("10 30 40 20 20,  0 2 3 30 40 50 50,  yes none yes"));
 }
@@ -388,11 +388,11 @@ fn write_taken_over<L: LinkedListOps>(
 fn two_rings_by_cursors(rt: HostRuntime) {
     let alloc = rt.alloc();
     let mut notes = Text::new(alloc);
-    let (objects, mut links): (_, LinkOps) = eight_objects(&rt, alloc, TENS);
+    let (objects, mut links): (_, LinkOps) = eight_objects(alloc, TENS).expect(&rt, "memory");
     write_kept(&rt, &mut notes, &mut links, &objects);
-    let (objects, mut links): (_, LinkOps) = eight_objects(&rt, alloc, TENS);
+    let (objects, mut links): (_, LinkOps) = eight_objects(alloc, TENS).expect(&rt, "memory");
     write_taken_over(&rt, &mut notes, &mut links, &objects, true);
-    let (objects, mut links): (_, LinkOps) = eight_objects(&rt, alloc, TENS);
+    let (objects, mut links): (_, LinkOps) = eight_objects(alloc, TENS).expect(&rt, "memory");
     write_taken_over(&rt, &mut notes, &mut links, &objects, false);
     assert!(rt; notes.has_words("10 10,  10 30 40 20 20,  10 30 40 20 20,"));
 }

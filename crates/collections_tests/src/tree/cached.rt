@@ -7,13 +7,13 @@ ghost use Rattle.ic_link_ops.specs.Tables.{IsCovered};
 ghost use Rattle.ic_rbtree_cached.specs.Ends.{ShowsCached, ShowsCachedSome};
 ghost use Rattle.ic_rbtree_cached.specs.Tree.{ends_of};
 
-use crate::fixtures::{eight_objects, reference};
-use crate::notes::{same, write_object, write_places};
+use crate::notes::{write_object, write_places};
 use crate::tree::trees::OwnKey;
 use ic_link_ops::LinkOps;
 use ic_link_ops::rbtree::RBTreeOps;
 use ic_rbtree_cached::RBTreeCached;
 use ic_test_support::notes::Text;
+use ic_test_support::objects::{TENS, eight_objects, reference};
 use ic_unsafe_ref::{Objects, UnsafeRef};
 
 // Puts the object in where its key belongs, and notes the first member and the last one.
@@ -69,12 +69,12 @@ fn write_split<L: RBTreeOps>(notes: &mut Text, tree: &mut RBTreeCached<OwnKey>, 
 fn ends(rt: HostRuntime) {
     let alloc = rt.alloc();
     let mut notes = Text::new(alloc);
-    let (objects, mut links) = eight_objects(&rt, alloc);
+    let (objects, mut links) = eight_objects(alloc, TENS).expect(&rt, "memory");
     let mut tree = RBTreeCached::new(OwnKey);
     write_inserted(&mut notes, &mut tree, &mut links, &objects, reference(2));
     write_inserted(&mut notes, &mut tree, &mut links, &objects, reference(4));
     write_inserted(&mut notes, &mut tree, &mut links, &objects, reference(1));
     write_split(&mut notes, &mut tree, &mut links);
     write_taken(&mut notes, &mut tree, &mut links);
-    same(&rt, alloc, &notes, "2 2 2 4 1 4  1 2 4 4 1 4 none  1 4 2 2");
+    assert!(rt; notes.has_words("2 2 2 4 1 4  1 2 4 4 1 4 none  1 4 2 2"));
 }

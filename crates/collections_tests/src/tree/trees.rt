@@ -8,9 +8,9 @@ ghost use Rattle.ic_link_ops.specs.PlacedObjects.{ShowsPlaced};
 ghost use Rattle.ic_rbtree.specs.PlainTrees.{plain_table, PlainShows, PlainShowsSome};
 ghost use Rattle.ic_rbtree.specs.Tree.{root_of};
 
-use crate::fixtures::{eight_objects, reference};
 use ic_link_ops::rbtree::LinkOps;
 use ic_rbtree::{KeyAdapter, RBTree};
+use ic_test_support::objects::{TENS, eight_objects, reference};
 use ic_test_support::tables::are_placed;
 use ic_unsafe_ref::Objects;
 use std::alloc::Global;
@@ -62,7 +62,7 @@ pub(crate) fn tree_of(rt: &impl Abort, alloc: Global, members: usize) -> TreeFix
     ensures placed { (q : Place) → index_of q < 8 → is_placed result.objects q ≡ true }
     ensures shown { ShowsPlaced (PlainShows result.links (root_of result.tree)) result.objects }
 {
-    let (objects, mut links) = eight_objects(rt, alloc);
+    let (objects, mut links) = eight_objects(alloc, TENS).expect(rt, "memory");
     let tree = filled(&mut links, members);
     assert!(rt; links.covers() == 8);
     assert!(rt; are_placed(&links, &objects));

@@ -12,13 +12,14 @@ ghost use Rattle.ic_augmented.specs.Summed.{links_of, sums_of};
 ghost use Rattle.keyed_tests.specs.Ready.{AreIntervals};
 
 use super::empty_tree;
-use crate::keyed::{OwnKey, reference};
+use crate::keyed::OwnKey;
 use ic_augmented::{
     Greatest, Summed, first_overlap, insert_fresh, next_overlap, refresh, remove, set_value,
 };
 use ic_link_ops::LinkValues;
 use ic_link_ops::rbtree::RBTreeOps;
 use ic_rbtree::RBTree;
+use ic_test_support::objects::reference;
 use ic_unsafe_ref::{Place, UnsafeRef};
 use std::process::Abort;
 

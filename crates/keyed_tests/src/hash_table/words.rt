@@ -42,7 +42,7 @@ fn found_again<A: HashAdapter<Value = u64>, L: SinglyLinkedListOps, B: Buckets +
 fn a_table_over_words(rt: HostRuntime) {
     let alloc = rt.alloc();
     let mut notes = Text::new(alloc);
-    let (objects, mut links): (_, LinkOps) = eight_objects(&rt, alloc, NUMBERS);
+    let (objects, mut links): (_, LinkOps) = eight_objects(alloc, NUMBERS).expect(&rt, "memory");
     let mut words: [u64; 4] = [0, 7, 20, 1_099_511_627_776];
     let found = found_again(OwnKey, &mut words[..], &mut links, &objects, &10);
     if let Some(found) = found {
