@@ -124,8 +124,8 @@ fn timed_hash_find<
     sum
 }
 
-/// A hash table of these places by the keys beside their links, with as many buckets as members: finds keys, and returns a checksum. Without
-/// memory there is none.
+/// A hash table of these places by the keys beside their links: finds keys, and returns a checksum. As in the other programs, it has as many
+/// buckets as members, rounded up to a power of two. Without memory there is none.
 #[tactic(auto, using(ic_hash_table::proofs::Callers::new_held))]
 pub fn on_hash<L: SinglyLinkedListOps + LinkValues<u64>>(
     watch: &mut Watch<'_>,
@@ -135,7 +135,7 @@ pub fn on_hash<L: SinglyLinkedListOps + LinkValues<u64>>(
 ) -> Option<u64>
     requires covered { All (λ place. index_of place < (L.table links.old).extent.places) order.now }
 {
-    let count = order.len().clamp(1, 4_294_967_296);
+    let count = order.len().clamp(1, 2_147_483_648).next_power_of_two();
     let buckets = empty_buckets(watch.rt.alloc(), count).ok()?;
     let mut table = HashTable::new(ByProduct, buckets);
     fill(&mut table, links, order);
