@@ -1,5 +1,5 @@
 -- What stands at the members of a tree while the first of them leaves.
-use Rattle.std.proofs.Common.{◌≡◌, drop, IfSome, Option, Some, None, List, [], ◌∷◌, subst, sym}
+use Rattle.std.proofs.Common.{◌≡◌, drop, IfSome, Option, Some, None, List, [], ◌∷◌, subst}
 use Rattle.ic_unsafe_ref.specs.declared.place.Place.{Place}
 use Rattle.ic_unsafe_ref.specs.Objects.{Objects}
 use Rattle.ic_link_ops.specs.PlacedObjects.{ArePlaced}

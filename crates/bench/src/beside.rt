@@ -23,6 +23,7 @@ use crate::keyed::{
 };
 use crate::random::Random;
 use crate::room::{Size, Watch, value_at};
+use crate::work::TreeWork;
 use ic_link_ops::LinkValues;
 use ic_link_ops::rbtree::RBTreeOps;
 use ic_rbtree::RBTree;
@@ -219,7 +220,7 @@ fn remove_again<L: RBTreeOps + LinkValues<u64> + Drop>(
 
 // Does the work, if it is one that only reads, and returns where it ended or what it added up.
 fn read<L: RBTreeOps + LinkValues<u64>>(
-    name: &str,
+    work: TreeWork,
     tree: &RBTree<ByValue>,
     links: &L,
     objects: &Objects<u64>,
@@ -227,18 +228,18 @@ fn read<L: RBTreeOps + LinkValues<u64>>(
 ) -> u64
     requires sorted { ShowsSorted (λ v. v) (Shows L.node (L.table links.now) (root_of tree.now)) (L.values links.now) }
 {
-    match name {
-        "find" => timed_find(tree, links, links, size),
-        "lower_bound" => timed_lower_bound(tree, links, links, size),
-        "tree_iter" => timed_tree_iter(tree, links, links, size.rounds()),
-        "tree_step" => value_at(objects, timed_tree_step(tree, links, size.operations)),
+    match work {
+        TreeWork::Find => timed_find(tree, links, links, size),
+        TreeWork::LowerBound => timed_lower_bound(tree, links, links, size),
+        TreeWork::Iter => timed_tree_iter(tree, links, links, size.rounds()),
+        TreeWork::Step => value_at(objects, timed_tree_step(tree, links, size.operations)),
         _ => 0,
     }
 }
 
 // Does the work, if it is one that edits.
 fn edit<L: RBTreeOps + LinkValues<u64> + Drop>(
-    name: &str,
+    work: TreeWork,
     tree: &mut RBTree<ByValue>,
     links: L,
     size: Size,
@@ -246,17 +247,17 @@ fn edit<L: RBTreeOps + LinkValues<u64> + Drop>(
     requires sorted { ShowsSorted (λ v. v) (Shows L.node (L.table links) (root_of tree.old)) (L.values links) }
     ensures sorted { ShowsSorted (λ v. v) (Shows L.node (L.table result) (root_of tree.new)) (L.values result) }
 {
-    match name {
-        "turn" => timed_turn(tree, links, size),
-        "queue" => timed_queue(tree, links, size),
+    match work {
+        TreeWork::Turn => timed_turn(tree, links, size),
+        TreeWork::Queue => timed_queue(tree, links, size),
         _ => links,
     }
 }
 
-/// A tree of these objects by the keys beside the links of their places, inserted in this order: does the work with this name on it, and
-/// returns a checksum. Removals are of these places.
+/// A tree of these objects by the keys beside the links of their places, inserted in this order: does the work on it, and returns a
+/// checksum. Removals are of these places.
 pub fn on_keyed<L: RBTreeOps + LinkValues<u64> + Drop>(
-    name: &str,
+    work: TreeWork,
     watch: &mut Watch<'_>,
     links: L,
     objects: &Objects<u64>,
@@ -269,19 +270,19 @@ pub fn on_keyed<L: RBTreeOps + LinkValues<u64> + Drop>(
     requires distinct { AllPairs (λ a b. a ≢ b) places.now }
 {
     let mut tree = RBTree::new(ByValue);
-    if name == "insert" {
+    if let TreeWork::Insert = work {
         let links = insert_again(watch, &mut tree, links, order, size.rounds());
         return hash(&tree, &links, &links);
     }
-    if name == "remove" {
+    if let TreeWork::Remove = work {
         let rounds = size.operations / (places.len() as u64).max(1);
         let links = remove_again(watch, &mut tree, links, order, places, rounds);
         return hash(&tree, &links, &links);
     }
     let links = timed_insert(&mut tree, links, order);
     let start = watch.start();
-    let end = read(name, &tree, &links, objects, size);
-    let links = edit(name, &mut tree, links, size);
+    let end = read(work, &tree, &links, objects, size);
+    let links = edit(work, &mut tree, links, size);
     watch.stop(start);
     hash(&tree, &links, &links).wrapping_add(end)
 }

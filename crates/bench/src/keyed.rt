@@ -20,6 +20,7 @@ ghost use Rattle.bench.specs.Picks.{IsAmong};
 use crate::parts::{timed_rebuild, timed_split};
 use crate::random::Random;
 use crate::room::{Size, Watch, value_at};
+use crate::work::TreeWork;
 use ic_link_ops::rbtree::RBTreeOps;
 use ic_rbtree::{Bound, KeyAdapter, RBTree};
 use ic_unsafe_ref::{Objects, Place, UnsafeRef, Values};
@@ -397,8 +398,8 @@ pub(crate) fn hash<L: RBTreeOps, O: Values<u64>>(
 }
 
 // Does the work, and returns where it ended or what it added up.
-fn work<L: RBTreeOps>(
-    name: &str,
+fn do_work<L: RBTreeOps>(
+    work: TreeWork,
     tree: &mut RBTree<ByValue>,
     links: &mut L,
     objects: &Objects<u64>,
@@ -407,26 +408,26 @@ fn work<L: RBTreeOps>(
     requires sorted { ShowsSorted (λ v. v) (Shows L.node (L.table links.old) (root_of tree.old)) objects.now }
     ensures sorted { ShowsSorted (λ v. v) (Shows L.node (L.table links.new) (root_of tree.new)) objects.now }
 {
-    match name {
-        "find" => return timed_find(&*tree, &*links, objects, size),
-        "lower_bound" => return timed_lower_bound(&*tree, &*links, objects, size),
-        "tree_iter" => return timed_tree_iter(&*tree, &*links, objects, size.rounds()),
-        "tree_step" => {
+    match work {
+        TreeWork::Find => return timed_find(&*tree, &*links, objects, size),
+        TreeWork::LowerBound => return timed_lower_bound(&*tree, &*links, objects, size),
+        TreeWork::Iter => return timed_tree_iter(&*tree, &*links, objects, size.rounds()),
+        TreeWork::Step => {
             let end = timed_tree_step(&*tree, &*links, size.operations);
             return value_at(objects, end);
         }
-        "turn" => timed_turn(tree, links, objects, size),
-        "split" => timed_split(tree, links, objects, size),
-        "rebuild" => timed_rebuild(tree, links, objects, size.rounds()),
-        _ => {}
+        TreeWork::Turn => timed_turn(tree, links, objects, size),
+        TreeWork::Split => timed_split(tree, links, objects, size),
+        TreeWork::Rebuild => timed_rebuild(tree, links, objects, size.rounds()),
+        TreeWork::Insert | TreeWork::Remove | TreeWork::Queue => {}
     }
     0
 }
 
-/// A tree of these objects by their keys, inserted in this order: does the work with this name on it, and returns a checksum. Removals
+/// A tree of these objects by their keys, inserted in this order: does the work on it, and returns a checksum. Removals
 /// are of these places.
 pub fn on_tree<L: RBTreeOps>(
-    name: &str,
+    work: TreeWork,
     watch: &mut Watch<'_>,
     links: &mut L,
     objects: &Objects<u64>,
@@ -440,18 +441,18 @@ pub fn on_tree<L: RBTreeOps>(
     requires distinct { AllPairs (λ a b. a ≢ b) places.now }
 {
     let mut tree = RBTree::new(ByValue);
-    if name == "insert" {
+    if let TreeWork::Insert = work {
         insert_again(watch, &mut tree, links, objects, order, size.rounds());
         return hash(&tree, &*links, objects);
     }
-    if name == "remove" {
+    if let TreeWork::Remove = work {
         let rounds = size.operations / (places.len() as u64).max(1);
         remove_again(watch, &mut tree, links, objects, order, places, rounds);
         return hash(&tree, &*links, objects);
     }
     timed_insert(&mut tree, links, objects, order);
     let start = watch.start();
-    let end = work(name, &mut tree, links, objects, size);
+    let end = do_work(work, &mut tree, links, objects, size);
     watch.stop(start);
     hash(&tree, &*links, objects).wrapping_add(end)
 }

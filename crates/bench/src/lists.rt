@@ -16,7 +16,8 @@ ghost use Rattle.ic_link_ops.specs.Tables.{IsCovered};
 ghost use Rattle.ic_chain.specs.LentLists.{SameLoans};
 
 use crate::random::Random;
-use crate::room::{Size, Watch, value_at};
+use crate::room::{Size, Watch, hash_members, value_at};
+use crate::work::{Links, ListWork};
 use ic_chain::LentList;
 use ic_link_ops::LentTable;
 use ic_link_ops::linked_list::{Link, LinkOps, LinkedListOps};
@@ -202,21 +203,13 @@ pub(crate) fn hash<L: LinkedListOps>(
 ) -> u64
     requires shown { ShowsSome L.neighbors (L.table links.now) list.now }
 {
-    let mut hash = 0_u64;
-    let mut cursor = list.front(links);
-    for _member in 0..members {
-        hash = hash
-            .wrapping_mul(31)
-            .wrapping_add(value_at(objects, cursor.get_ptr()));
-        cursor.move_next();
-    }
-    hash
+    hash_members(list.front(links), objects, members)
 }
 
 // Does the work, and returns where it ended or what it added up.
 #[inline(always)]
-fn work<L: LinkedListOps>(
-    name: &str,
+fn do_work<L: LinkedListOps>(
+    work: ListWork,
     list: &mut LinkedList<u64>,
     links: &mut L,
     objects: &Objects<u64>,
@@ -228,13 +221,12 @@ fn work<L: LinkedListOps>(
     ensures shown { ShowsSome L.neighbors (L.table links.new) list.new }
     ensures extent { (L.table links.new).extent ≡ (L.table links.old).extent }
 {
-    match name {
-        "pair" => pair(list, links, size.operations),
-        "touch" => touch(list, links, order, size.operations),
-        "splice" => splice(list, links, order, size.operations),
-        "step" => return value_at(objects, step(&*list, &*links, size.operations)),
-        "iter" => return iter(&*list, &*links, objects, size.rounds()),
-        _ => {}
+    match work {
+        ListWork::Pair => pair(list, links, size.operations),
+        ListWork::Touch => touch(list, links, order, size.operations),
+        ListWork::Splice => splice(list, links, order, size.operations),
+        ListWork::Step => return value_at(objects, step(&*list, &*links, size.operations)),
+        ListWork::Iter => return iter(&*list, &*links, objects, size.rounds()),
     }
     0
 }
@@ -242,7 +234,7 @@ fn work<L: LinkedListOps>(
 // The work on a list and its links that are lent together.
 #[inline(always)]
 fn work_on_lent<L: LinkedListOps>(
-    name: &str,
+    work: ListWork,
     lent: &mut LentList<'_, DoublyLinked, u64, L>,
     objects: &Objects<u64>,
     order: &[Place],
@@ -254,13 +246,13 @@ fn work_on_lent<L: LinkedListOps>(
     ensures extent { (L.table lent.new.links.now).extent ≡ (L.table lent.old.links.now).extent }
     ensures same { SameLoans lent.old lent.new }
 {
-    work(name, &mut lent.list, lent.links, objects, order, size)
+    do_work(work, &mut lent.list, lent.links, objects, order, size)
 }
 
 // Lends the list together with its links, and does the work.
 #[inline(always)]
 fn lend_and_work<L: LinkedListOps>(
-    name: &str,
+    work: ListWork,
     list: &mut LinkedList<u64>,
     links: &mut L,
     objects: &Objects<u64>,
@@ -273,13 +265,13 @@ fn lend_and_work<L: LinkedListOps>(
     ensures extent { (L.table links.new).extent ≡ (L.table links.old).extent }
 {
     let mut lent = list.lend(links);
-    work_on_lent(name, &mut lent, objects, order, size)
+    work_on_lent(work, &mut lent, objects, order, size)
 }
 
 // The work over links that are lent.
 #[inline(never)]
 fn timed_links(
-    name: &str,
+    work: ListWork,
     list: &mut LinkedList<u64>,
     links: &mut [Link],
     objects: &Objects<u64>,
@@ -292,12 +284,12 @@ fn timed_links(
     ensures shown { ShowsSome neighbors_of (table_of links.new) list.new }
 {
     let mut links = LentTable::new(links);
-    lend_and_work(name, list, &mut links, objects, order, size)
+    lend_and_work(work, list, &mut links, objects, order, size)
 }
 
 // The work over a lent table.
 fn lent(
-    name: &str,
+    work: ListWork,
     list: &mut LinkedList<u64>,
     table: &mut LinkOps,
     objects: &Objects<u64>,
@@ -308,13 +300,13 @@ fn lent(
     requires members { All (HasMember (PlainShows table.old list.old)) order.now }
     ensures { PlainShowsSome table.new list.new }
 {
-    timed_links(name, list, table.lend(), objects, order, size)
+    timed_links(work, list, table.lend(), objects, order, size)
 }
 
 // The work over the table that is handed in.
 #[inline(never)]
 fn timed_table(
-    name: &str,
+    work: ListWork,
     list: &mut LinkedList<u64>,
     table: &mut LinkOps,
     objects: &Objects<u64>,
@@ -325,13 +317,13 @@ fn timed_table(
     requires members { All (HasMember (PlainShows table.old list.old)) order.now }
     ensures { PlainShowsSome table.new list.new }
 {
-    work(name, list, table, objects, order, size)
+    do_work(work, list, table, objects, order, size)
 }
 
 // The work over the table that is handed in, or over a lent one.
 fn over_either(
-    name: &str,
-    is_lent: bool,
+    work: ListWork,
+    over: Links,
     list: &mut LinkedList<u64>,
     table: &mut LinkOps,
     objects: &Objects<u64>,
@@ -342,17 +334,16 @@ fn over_either(
     requires members { All (HasMember (PlainShows table.old list.old)) order.now }
     ensures { PlainShowsSome table.new list.new }
 {
-    if is_lent {
-        lent(name, list, table, objects, order, size)
-    } else {
-        timed_table(name, list, table, objects, order, size)
+    match over {
+        Links::Lent => lent(work, list, table, objects, order, size),
+        Links::Table => timed_table(work, list, table, objects, order, size),
     }
 }
 
-/// A list of these objects in this order: does the work with this name on it, and returns a checksum.
+/// A list of these objects in this order: does the work on it, and returns a checksum.
 pub fn on_list(
-    name: &str,
-    is_lent: bool,
+    work: ListWork,
+    over: Links,
     watch: &mut Watch<'_>,
     links: &mut LinkOps,
     objects: &Objects<u64>,
@@ -367,7 +358,7 @@ pub fn on_list(
         return 0;
     }
     let start = watch.start();
-    let end = over_either(name, is_lent, &mut list, links, objects, order, size);
+    let end = over_either(work, over, &mut list, links, objects, order, size);
     watch.stop(start);
     hash(&list, &*links, objects, size.members).wrapping_add(end)
 }

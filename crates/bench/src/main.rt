@@ -24,56 +24,15 @@ mod random;
 mod room;
 mod singly;
 mod sort;
+mod work;
 mod workloads;
 mod xor;
 
 use lines::copy_lines;
 use room::{Size, Watch};
 use std::{env, io};
+use work::{WORKLOADS, Workload, named};
 use workloads::checksum;
-
-const WORKLOADS: [&str; 40] = [
-    "pair",
-    "pair-lent",
-    "touch",
-    "touch-lent",
-    "splice",
-    "splice-lent",
-    "step",
-    "step-lent",
-    "iter",
-    "iter-lent",
-    "singly",
-    "singly-lent",
-    "xor",
-    "xor-lent",
-    "sort",
-    "sort-keyed",
-    "sort-counted",
-    "hash_find",
-    "find",
-    "find-keyed",
-    "lower_bound",
-    "lower_bound-keyed",
-    "insert",
-    "insert-keyed",
-    "fresh",
-    "fresh-ends",
-    "remove",
-    "remove-keyed",
-    "turn",
-    "turn-keyed",
-    "queue",
-    "queue-keyed",
-    "queue-ends",
-    "split",
-    "rebuild",
-    "tree_step",
-    "tree_step-keyed",
-    "tree_iter",
-    "tree_iter-keyed",
-    "world",
-];
 
 // Each workload for a moment: prints its checksum.
 fn each(rt: &HostRuntime) -> io::Result<()> {
@@ -81,9 +40,9 @@ fn each(rt: &HostRuntime) -> io::Result<()> {
         members: 1_000,
         operations: 10_000,
     };
-    for name in &WORKLOADS {
+    for (name, workload) in &WORKLOADS {
         let mut watch = Watch { rt, nanos: 0 };
-        if let Some(checksum) = checksum(name, &mut watch, size) {
+        if let Some(checksum) = checksum(*workload, &mut watch, size) {
             println!(rt; "{name}: {checksum}")?;
         }
     }
@@ -91,9 +50,9 @@ fn each(rt: &HostRuntime) -> io::Result<()> {
 }
 
 // One workload: prints the nanoseconds that it took, and its checksum.
-fn one(rt: &HostRuntime, name: &str, size: Size) -> io::Result<()> {
+fn one(rt: &HostRuntime, workload: Workload, size: Size) -> io::Result<()> {
     let mut watch = Watch { rt, nanos: 0 };
-    match checksum(name, &mut watch, size) {
+    match checksum(workload, &mut watch, size) {
         Some(checksum) => println!(rt; "{} {checksum}", watch.nanos),
         None => eprintln!(rt; "no memory"),
     }
@@ -109,7 +68,10 @@ fn main(rt: HostRuntime) -> io::Result<()> {
                 members: members.parse().unwrap_or(1_000),
                 operations: operations.parse().unwrap_or(100_000),
             };
-            one(&rt, name.as_str(), size)
+            match named(name.as_str()) {
+                Some(workload) => one(&rt, workload, size),
+                None => each(&rt),
+            }
         }
         _ => each(&rt),
     }

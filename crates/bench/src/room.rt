@@ -9,9 +9,12 @@ ghost use Rattle.std.specs.Prelude.{◌≡◌, ◌≢◌, ◌<◌, true, All, Al
 ghost use Rattle.std.specs.Bool.{OnTrue};
 ghost use Rattle.ic_unsafe_ref.specs.Places.{index_of};
 ghost use Rattle.ic_unsafe_ref.specs.Objects.{is_placed};
+ghost use Rattle.ic_cursors.specs.Cursor.{IsStanding};
 ghost use Rattle.bench.specs.Picks.{IsAmong};
 
 use crate::random::Random;
+use ic_cursors::{Cursor, CursorOps};
+use ic_link_ops::LinkOps;
 use ic_unsafe_ref::{Objects, Place, UnsafeRef};
 use std::alloc::{AllocError, Global};
 use std::time::Instant;
@@ -168,4 +171,22 @@ pub fn value_at(objects: &Objects<u64>, place: Option<Place>) -> u64 {
         }
     }
     0
+}
+
+/// What the members are and in which order they stand, as one number. The cursor is on the first of them.
+pub fn hash_members<C: CursorOps<L>, L: LinkOps>(
+    mut cursor: Cursor<'_, C, L>,
+    objects: &Objects<u64>,
+    members: u64,
+) -> u64
+    requires stands { IsStanding C.StandsAt cursor }
+{
+    let mut hash = 0_u64;
+    for _member in 0..members {
+        hash = hash
+            .wrapping_mul(31)
+            .wrapping_add(value_at(objects, cursor.get_ptr()));
+        cursor.move_next();
+    }
+    hash
 }

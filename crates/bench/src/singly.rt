@@ -14,7 +14,8 @@ ghost use Rattle.ic_link_ops.specs.SinglyLinkedList.{ShowsSome};
 ghost use Rattle.ic_link_ops.specs.Tables.{IsCovered};
 ghost use Rattle.ic_chain.specs.LentLists.{SameLoans};
 
-use crate::room::{Size, Watch, value_at};
+use crate::room::{Size, Watch, hash_members};
+use crate::work::Links;
 use ic_chain::LentList;
 use ic_link_ops::LentTable;
 use ic_link_ops::singly_linked_list::{Link, LinkOps, SinglyLinkedListOps};
@@ -151,26 +152,6 @@ fn timed_singly_table(
     turn(list, table, order, rounds);
 }
 
-// What the members are and in which order they stand, as one number.
-fn hash<L: SinglyLinkedListOps>(
-    list: &SinglyLinkedList<u64>,
-    links: &L,
-    objects: &Objects<u64>,
-    members: u64,
-) -> u64
-    requires shown { ShowsSome L.successor (L.table links.now) list.now }
-{
-    let mut hash = 0_u64;
-    let mut cursor = list.front(links);
-    for _member in 0..members {
-        hash = hash
-            .wrapping_mul(31)
-            .wrapping_add(value_at(objects, cursor.get_ptr()));
-        cursor.move_next();
-    }
-    hash
-}
-
 // The work over a lent table.
 fn lent(list: &mut SinglyLinkedList<u64>, table: &mut LinkOps, order: &[Place], rounds: u64)
     requires covered { All (λ place. index_of place < (plain.table no_word table.old).extent.places) order.now }
@@ -180,9 +161,16 @@ fn lent(list: &mut SinglyLinkedList<u64>, table: &mut LinkOps, order: &[Place], 
     timed_singly_links(list, table.lend(), order, rounds);
 }
 
+// What the members are and in which order they stand, as one number.
+fn hash(list: &SinglyLinkedList<u64>, links: &LinkOps, objects: &Objects<u64>, members: u64) -> u64
+    requires shown { ShowsSome (successor_of next_word_of has_word) (plain.table no_word links.now) list.now }
+{
+    hash_members(list.front(links), objects, members)
+}
+
 /// A list of these objects in this order: does the work on it, and returns a checksum.
 pub fn on_singly(
-    is_lent: bool,
+    over: Links,
     watch: &mut Watch<'_>,
     links: &mut LinkOps,
     objects: &Objects<u64>,
@@ -194,10 +182,9 @@ pub fn on_singly(
     let mut list = SinglyLinkedList::new();
     push_all(&mut list, links, order);
     let start = watch.start();
-    if is_lent {
-        lent(&mut list, links, order, size.rounds());
-    } else {
-        timed_singly_table(&mut list, links, order, size.rounds());
+    match over {
+        Links::Lent => lent(&mut list, links, order, size.rounds()),
+        Links::Table => timed_singly_table(&mut list, links, order, size.rounds()),
     }
     watch.stop(start);
     hash(&list, &*links, objects, size.members)

@@ -14,7 +14,8 @@ ghost use Rattle.ic_link_ops.specs.XorLinkedList.{ShowsSome};
 ghost use Rattle.ic_link_ops.specs.Tables.{IsCovered};
 ghost use Rattle.ic_chain.specs.LentLists.{SameLoans};
 
-use crate::room::{Size, Watch, value_at};
+use crate::room::{Size, Watch, hash_members};
+use crate::work::Links;
 use ic_chain::LentList;
 use ic_link_ops::LentTable;
 use ic_link_ops::xor_linked_list::{Link, LinkOps, XorLinkedListOps};
@@ -108,28 +109,15 @@ fn fill<L: XorLinkedListOps>(list: &mut XorLinkedList<u64>, links: &mut L, order
 }
 
 // What the members are and in which order they stand, as one number.
-fn hash<L: XorLinkedListOps>(
-    list: &XorLinkedList<u64>,
-    links: &L,
-    objects: &Objects<u64>,
-    members: u64,
-) -> u64
-    requires shown { ShowsSome L.linked L.Joins (L.table links.now) list.now }
+fn hash(list: &XorLinkedList<u64>, links: &LinkOps, objects: &Objects<u64>, members: u64) -> u64
+    requires shown { ShowsSome (plain.linked_by has_word) (XorJoins next_word_of) (plain.table no_word links.now) list.now }
 {
-    let mut hash = 0_u64;
-    let mut cursor = list.front(links);
-    for _member in 0..members {
-        hash = hash
-            .wrapping_mul(31)
-            .wrapping_add(value_at(objects, cursor.get_ptr()));
-        cursor.move_next();
-    }
-    hash
+    hash_members(list.front(links), objects, members)
 }
 
 /// A list of these objects in this order: does the work on it, and returns a checksum.
 pub fn on_xor(
-    is_lent: bool,
+    over: Links,
     watch: &mut Watch<'_>,
     links: &mut LinkOps,
     objects: &Objects<u64>,
@@ -141,10 +129,9 @@ pub fn on_xor(
     let mut list = XorLinkedList::new();
     fill(&mut list, links, order);
     let start = watch.start();
-    if is_lent {
-        lent(&mut list, links, size.operations);
-    } else {
-        timed_xor_table(&mut list, links, size.operations);
+    match over {
+        Links::Lent => lent(&mut list, links, size.operations),
+        Links::Table => timed_xor_table(&mut list, links, size.operations),
     }
     watch.stop(start);
     hash(&list, &*links, objects, size.members)

@@ -1,4 +1,4 @@
-use Rattle.std.proofs.Common.{is_some, sym, ap, subst, ◌∙◌}
+use Rattle.std.proofs.Common.{is_some, sym, ap, subst}
 use Rattle.ic_unsafe_ref.specs.declared.place.Place.{Place}
 use Rattle.ic_unsafe_ref.proofs.Placing.{exchanged_puts, put_there, put_others}
 use Rattle.ic_link_ops.specs.RedBlackTree.{Shows}
