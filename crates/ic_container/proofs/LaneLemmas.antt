@@ -4,7 +4,7 @@ use Rattle.ic_unsafe_ref.specs.declared.place.Place.{Place}
 use Rattle.ic_unsafe_ref.specs.Objects.{Objects, Places, Frees, object_at, with_object}
 use Rattle.ic_unsafe_ref.proofs.Placing.{puts_other, put_there, put_others}
 use Rattle.ic_link_ops.specs.Chains.{Ends, no_members}
-use Rattle.ic_link_ops.specs.DoublyEntries.{DoublyLinkOps, PlainShows, is_linked, members_of, plain_table}
+use Rattle.ic_link_ops.specs.DoublyEntries.{DoublyLinkOps, PlainShows, is_linked, plain_table}
 use Rattle.ic_link_ops.specs.Positions.{HasMember}
 use Rattle.ic_link_ops.specs.Sequences.{first}
 use Rattle.ic_link_ops.specs.Tables.{IsUnlinked}
@@ -13,7 +13,7 @@ use Rattle.ic_pool.specs.Pooled.{Grows}
 use Rattle.ic_container.specs.Holds.{list_rows}
 use Rattle.ic_container.specs.Lanes.{Lanes, lane, lane_at, lanes_of, in_lane, IsFirst, IsLaned, IsEmpty, IsUnchanged, LaneJoins, LaneLeaves, LaneMoves, Pushes, Goes, TakesFirst, TakesOut, Renews}
 use Rattle.ic_container.specs.Rows.{Stays, home_or, home_of}
-use Rattle.ic_container.proofs.HoldsLemmas.{list_reading, list_off, holds_changed, holds_freed, holds_grown, holds_new, holds_none, holds_off, holds_transferred, left, new_joined, new_off, none_stand, object_stands, rows_grown, rows_seen, transferred}
+use Rattle.ic_container.proofs.HoldsLemmas.{list_reading, list_off, holds_freed, holds_grown, holds_new, holds_none, holds_transferred, left, new_joined, new_off, none_stand, object_stands, rows_grown, rows_seen, transferred}
 use Rattle.ic_container.proofs.RowLemmas.{back_seen, leaves_seen, member_home, no_front, puts_back}
 
 module _ {T A : Type 0} (objects : Objects T) (links : DoublyLinkOps A) (lanes : List Ends) where

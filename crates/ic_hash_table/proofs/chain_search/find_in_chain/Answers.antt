@@ -5,7 +5,6 @@ use Rattle.ic_link_ops.proofs.Walks.{few_places}
 use Rattle.ic_hash_table.specs.Searches.{matches}
 use Rattle.ic_hash_table.proofs.ChainWalks.{passed_none, passed_more, stops_there, stops_last, done_length, done_fewer, rest_placed}
 use Rattle.ic_hash_table.proofs.chain_search.find_in_chain.Goals as goal
-use Rattle.ic_hash_table.proofs.chain_search.find_in_chain.Goals.{After-next-current}
 
 pub loop-current-init : goal.loop-current-init
 loop-current-init g c = record {

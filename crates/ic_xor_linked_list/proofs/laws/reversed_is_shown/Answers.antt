@@ -1,4 +1,4 @@
-use Rattle.std.proofs.Common.{refl, ap}
+use Rattle.std.proofs.Common.{ap}
 use Rattle.ic_link_ops.proofs.XorLists.{joined_symmetric}
 use Rattle.ic_link_ops.proofs.ShownLists.{shows_reversed}
 use Rattle.ic_xor_linked_list.proofs.laws.reversed_is_shown.Goals as goal

@@ -1,7 +1,7 @@
 use Rattle.std.proofs.Common.{◌≡◌, ◌+◌, sym, ap, ◌∙◌, arith}
 use Rattle.ic_unsafe_ref.specs.Places.{word_of}
 use Rattle.ic_link_ops.specs.declared.color.Color.TheVariants.{Red, Black}
-use Rattle.ic_link_ops.specs.TreeWords.{linked_below, one_if_black, parts_at}
+use Rattle.ic_link_ops.specs.TreeWords.{linked_below, parts_at}
 use Rattle.ic_link_ops.proofs.TreeWordLemmas.{parts_below}
 use Rattle.ic_link_ops.proofs.tree_word.TreeWord.below.Goals as goal
 use Rattle.ic_link_ops.proofs.tree_word.TreeWord.below.Goals.{in-Red, in-Black}
