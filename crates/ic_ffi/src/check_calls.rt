@@ -8,37 +8,16 @@
 
 ghost use Rattle.std.specs.Prelude.{◌≡◌, ◌≢◌};
 ghost use Rattle.ic_check.specs.Checked.{IsShown, ShowsNone};
-ghost use Rattle.ic_ffi.specs.Answers.{IsStatus};
-ghost use Rattle.ic_ffi.specs.Doubly as doubly;
-ghost use Rattle.ic_ffi.specs.Singly as singly;
-ghost use Rattle.ic_ffi.specs.Tree.{ShowsTree};
+ghost use Rattle.ic_raw.specs.Answers.{IsStatus};
+ghost use Rattle.ic_raw.specs.Doubly as doubly;
+ghost use Rattle.ic_raw.specs.Singly as singly;
+ghost use Rattle.ic_raw.specs.Tree.{ShowsTree};
 
-use crate::list_calls::list_of;
-use crate::marked_tree::MarkedTree;
-use crate::stack_calls::stack_of;
-use crate::status::{BROKEN, OK};
-use crate::table::RawTable;
-use crate::tree_calls::tree_of;
-use crate::words::{RawEnds, RawFront, RawOne, RawRoot, RawThree, RawTwo};
-use ic_check::{TellsLinks, check, check_tree};
-use ic_link_ops::Words;
-use ic_unsafe_ref::Place;
+use ic_raw::{RawEnds, RawFront, RawOne, RawRoot, RawThree, RawTwo, check_calls};
 
-impl<W: Words> TellsLinks for RawTable<'_, W> {
-    #[inline]
-    fn covered_places(&self) -> usize {
-        self.places()
-    }
-
-    #[inline]
-    fn tells_linked(&self, place: Place) -> bool {
-        self.is_linked(place)
-    }
-}
-
-/// Hands out how many members the words show for a doubly linked list, or returns [`BROKEN`] where they show no list. O(n).
+/// Hands out how many members the words show for a doubly linked list, or returns [`BROKEN`](crate::BROKEN) where they show no list. O(n).
 ///
-/// It writes nothing else. Where it returns [`OK`], each call does what it says of a list that is shown.
+/// It writes nothing else. Where it returns [`OK`](crate::OK), each call does what it says of a list that is shown.
 #[unsafe(no_mangle)]
 pub extern "C" fn ic_list_check(table: &mut [RawTwo], list: &RawEnds, members: &mut u64) -> u32
     ensures shown { result ≡ 0 → IsShown (doubly.ShowsList table.old list.now) members.new }
@@ -48,17 +27,12 @@ pub extern "C" fn ic_list_check(table: &mut [RawTwo], list: &RawEnds, members: &
     ensures why { result ≢ 0 → result ≡ 5 }
     ensures status { IsStatus result }
 {
-    let links = RawTable::new(table);
-    let Some(count) = check(&list_of(list), &links) else {
-        return BROKEN;
-    };
-    *members = count as u64;
-    OK
+    check_calls::check_list(table, list, members)
 }
 
-/// Hands out how many members the words show for a singly linked list, or returns [`BROKEN`] where they show no list. O(n).
+/// Hands out how many members the words show for a singly linked list, or returns [`BROKEN`](crate::BROKEN) where they show no list. O(n).
 ///
-/// It writes nothing else. Where it returns [`OK`], each call does what it says of a list that is shown.
+/// It writes nothing else. Where it returns [`OK`](crate::OK), each call does what it says of a list that is shown.
 #[unsafe(no_mangle)]
 pub extern "C" fn ic_stack_check(table: &mut [RawOne], list: &RawFront, members: &mut u64) -> u32
     ensures shown { result ≡ 0 → IsShown (singly.ShowsList table.old list.now) members.new }
@@ -68,17 +42,12 @@ pub extern "C" fn ic_stack_check(table: &mut [RawOne], list: &RawFront, members:
     ensures why { result ≢ 0 → result ≡ 5 }
     ensures status { IsStatus result }
 {
-    let links = RawTable::new(table);
-    let Some(count) = check(&stack_of(list), &links) else {
-        return BROKEN;
-    };
-    *members = count as u64;
-    OK
+    check_calls::check_stack(table, list, members)
 }
 
-/// Hands out how many members the words show for a tree, or returns [`BROKEN`] where they show no red-black tree. O(n).
+/// Hands out how many members the words show for a tree, or returns [`BROKEN`](crate::BROKEN) where they show no red-black tree. O(n).
 ///
-/// It writes nothing else, and requires no keys. Where it returns [`OK`], each call does what it says of a tree that is shown.
+/// It writes nothing else, and requires no keys. Where it returns [`OK`](crate::OK), each call does what it says of a tree that is shown.
 #[unsafe(no_mangle)]
 pub extern "C" fn ic_tree_check(table: &mut [RawThree], tree: &RawRoot, members: &mut u64) -> u32
     ensures shown { result ≡ 0 → IsShown (ShowsTree table.old tree.now) members.new }
@@ -88,10 +57,5 @@ pub extern "C" fn ic_tree_check(table: &mut [RawThree], tree: &RawRoot, members:
     ensures why { result ≢ 0 → result ≡ 5 }
     ensures status { IsStatus result }
 {
-    let links = MarkedTree::new(table);
-    let Some(count) = check_tree(&tree_of(tree), &links) else {
-        return BROKEN;
-    };
-    *members = count as u64;
-    OK
+    check_calls::check_tree(table, tree, members)
 }

@@ -9,25 +9,16 @@
 ghost use Rattle.std.specs.Prelude.{◌≡◌, ◌≢◌, List, None};
 ghost use Rattle.ic_unsafe_ref.specs.declared.place.Place.{Place};
 ghost use Rattle.ic_link_ops.specs.Sequences.{at_front, at_back};
-ghost use Rattle.ic_ffi.specs.declared.gap.Side.TheVariants.{Before};
-ghost use Rattle.ic_ffi.specs.Answers.{IsStatus, refusal};
-ghost use Rattle.ic_ffi.specs.Fills.{run_faults};
-ghost use Rattle.ic_ffi.specs.Doubly as doubly;
-ghost use Rattle.ic_ffi.specs.Doubly.{ends_of, words_of};
-ghost use Rattle.ic_ffi.specs.Singly as singly;
-ghost use Rattle.ic_ffi.specs.Singly.{front_of, word_of_front};
-ghost use Rattle.ic_ffi.specs.Xor as xor;
+ghost use Rattle.ic_raw.specs.declared.gap.Side.TheVariants.{Before};
+ghost use Rattle.ic_raw.specs.Answers.{IsStatus, refusal};
+ghost use Rattle.ic_raw.specs.Fills.{run_faults};
+ghost use Rattle.ic_raw.specs.Doubly as doubly;
+ghost use Rattle.ic_raw.specs.Doubly.{ends_of, words_of};
+ghost use Rattle.ic_raw.specs.Singly as singly;
+ghost use Rattle.ic_raw.specs.Singly.{front_of, word_of_front};
+ghost use Rattle.ic_raw.specs.Xor as xor;
 
-use crate::fill::{fill, gap_behind_last_of_xor};
-use crate::gap::Side;
-use crate::list::gap_at;
-use crate::list_calls::{list_of, write_back};
-use crate::stack::gap_after;
-use crate::stack_calls::{self, stack_of};
-use crate::status::OK;
-use crate::table::RawTable;
-use crate::words::{RawEnds, RawFront, RawOne, RawTwo};
-use crate::xor_calls;
+use ic_raw::{RawEnds, RawFront, RawOne, RawTwo, fill_calls};
 
 /// Puts `count` places behind all members, in the order of their numbers: `first`, `first + 1` and so on. O(count).
 ///
@@ -49,18 +40,7 @@ pub extern "C" fn ic_list_fill(
     ensures why { result ≢ 0 → result ≡ refusal (run_faults (doubly.fault_of table.old) first count) }
     ensures status { IsStatus result }
 {
-    if count == 0 {
-        return OK;
-    }
-    let mut links = RawTable::new(table);
-    let mut edited = list_of(&*list);
-    let gap = gap_at(&links, &edited, Side::Before, None);
-    let status = fill(&mut links, &mut edited, gap, first, count);
-    if status != OK {
-        return status;
-    }
-    write_back(list, edited);
-    OK
+    fill_calls::fill_list(table, list, first, count)
 }
 
 /// Puts `count` places in front of all members, in the order of their numbers: `first`, `first + 1` and so on. O(count).
@@ -83,18 +63,7 @@ pub extern "C" fn ic_stack_fill(
     ensures why { result ≢ 0 → result ≡ refusal (run_faults (singly.fault_of table.old) first count) }
     ensures status { IsStatus result }
 {
-    if count == 0 {
-        return OK;
-    }
-    let mut links = RawTable::new(table);
-    let mut edited = stack_of(&*list);
-    let gap = gap_after(&links, &edited, None);
-    let status = fill(&mut links, &mut edited, gap, first, count);
-    if status != OK {
-        return status;
-    }
-    stack_calls::write_back(list, edited);
-    OK
+    fill_calls::fill_stack(table, list, first, count)
 }
 
 /// Puts `count` places behind all members, in the order of their numbers: `first`, `first + 1` and so on. O(count).
@@ -117,16 +86,5 @@ pub extern "C" fn ic_xor_fill(
     ensures why { result ≢ 0 → result ≡ refusal (run_faults (xor.fault_of table.old) first count) }
     ensures status { IsStatus result }
 {
-    if count == 0 {
-        return OK;
-    }
-    let mut links = RawTable::new(table);
-    let mut edited = xor_calls::list_of(&*list);
-    let gap = gap_behind_last_of_xor(&links, &edited);
-    let status = fill(&mut links, &mut edited, gap, first, count);
-    if status != OK {
-        return status;
-    }
-    xor_calls::write_back(list, edited);
-    OK
+    fill_calls::fill_xor_list(table, list, first, count)
 }

@@ -10,38 +10,18 @@
 //! ic_hash_find(links, 64, keys, 64, buckets, 16, hash(30), 30, &found); // IC_OK, and found is 7
 //! ```
 
-ghost use Rattle.std.specs.Prelude.{◌≡◌, ◌≢◌, ◌<◌, ◌≤◌, ◌↔◌, ◌⊎◌, ◌∷◌, ◌++◌, [], ℕ, List, Some, length, None};
+ghost use Rattle.std.specs.Prelude.{◌≡◌, ◌≢◌, ◌≤◌, ◌↔◌, ◌⊎◌, ◌∷◌, ◌++◌, [], ℕ, List, Some, length, None};
 ghost use Rattle.ic_unsafe_ref.specs.declared.place.Place.{Place};
 ghost use Rattle.ic_link_ops.specs.NumberedCollections.{with_at};
 ghost use Rattle.ic_link_ops.specs.Sequences.{at_front, IsMember};
 ghost use Rattle.ic_hash_table.specs.Searches.{Finds};
-ghost use Rattle.ic_ffi.specs.Answers.{IsStatus, HandsOut, refusal};
-ghost use Rattle.ic_ffi.specs.Hash.{slot_of, chain_of, buckets_fault, ChangesOnlyChain, HoldsChains, has_key, NamesKey};
-ghost use Rattle.ic_ffi.specs.Keys.{key_of, keys_fault};
-ghost use Rattle.ic_ffi.specs.Singly.{ShowsList, FreeIn, StandsIn, front_of, word_of_front, fault_at, fault_of, Inserted, Removed};
-ghost use Rattle.ic_ffi.specs.Words.{place_of};
+ghost use Rattle.ic_raw.specs.Answers.{IsStatus, HandsOut, refusal};
+ghost use Rattle.ic_raw.specs.Hash.{slot_of, chain_of, buckets_fault, ChangesOnlyChain, HoldsChains, has_key, NamesKey};
+ghost use Rattle.ic_raw.specs.Keys.{key_of, keys_fault};
+ghost use Rattle.ic_raw.specs.Singly.{ShowsList, FreeIn, StandsIn, front_of, word_of_front, fault_at, fault_of, Inserted, Removed};
+ghost use Rattle.ic_raw.specs.Words.{place_of};
 
-use crate::chain::{look_from, place_before};
-use crate::number::{place_in, place_of};
-use crate::stack;
-use crate::stack_calls::{ic_stack_push_front, stack_of, write_back};
-use crate::status::{NULL, OK, OUT_OF_RANGE};
-use crate::table::RawTable;
-use crate::words::{RawFront, RawOne};
-use ic_link_ops::singly_linked_list::SinglyLinkedListOps;
-use ic_unsafe_ref::Place;
-
-// The bucket where a hash leads, if there is any bucket.
-#[inline]
-fn slot(buckets: &[RawFront], hash: u64) -> Option<usize>
-    ensures slot { (i : ℕ) → result ≡ Some i → (i ≡ slot_of buckets.now hash) × (i < length buckets.now) }
-    ensures none { (result ≡ None) ↔ (length buckets.now ≡ 0) }
-{
-    if buckets.is_empty() {
-        return None;
-    }
-    Some((hash % buckets.len() as u64) as usize)
-}
+use ic_raw::{RawFront, RawOne, hash_calls};
 
 /// Puts a place in front of the members of its chain, which is that in bucket `hash % buckets`. O(1).
 ///
@@ -69,32 +49,7 @@ pub extern "C" fn ic_hash_insert(
     ensures why { result ≢ 0 → result ≡ refusal (buckets_fault buckets.old ∷ fault_of table.old (place_of place) ∷ []) }
     ensures status { IsStatus result }
 {
-    let Some(at) = slot(&*buckets, hash) else {
-        return OUT_OF_RANGE;
-    };
-    ic_stack_push_front(table, &mut buckets[at], place)
-}
-
-// Takes a member out of a list, wherever it stands there.
-#[inline]
-fn remove_from(table: &mut [RawOne], list: &mut RawFront, member: Place) -> u32
-    ensures removed { (front back : List Place) → Removed table.old table.new list.old list.new result member front back }
-    ensures member { (s : List Place) → ShowsList table.old list.old s → result ≡ 0 → IsMember member s }
-    ensures stands { result ≡ 0 → StandsIn table.old (Some member) }
-    ensures words { result ≡ 0 → list.new ≡ word_of_front (front_of list.new) }
-    ensures refused { result ≢ 0 → (table.new ≡ table.old) × (list.new ≡ list.old) }
-    ensures why { result ≢ 0 → result ≡ refusal (fault_at table.old (Some member) ∷ []) }
-    ensures other { result ≢ 4 }
-    ensures status { IsStatus result }
-{
-    let mut links = RawTable::new(table);
-    let mut edited = stack_of(&*list);
-    let Some(before) = place_before(&links, edited.first(), member) else {
-        return links.refusal_of(member);
-    };
-    stack::remove(&mut links, &mut edited, before, member);
-    write_back(list, edited);
-    OK
+    hash_calls::insert(table, buckets, hash, place)
 }
 
 /// Takes a place out of its chain, wherever it stands there, or returns [`NULL`](crate::NULL) at [`NONE`](crate::NONE). One reading for each
@@ -124,13 +79,7 @@ pub extern "C" fn ic_hash_remove(
     ensures why { result ≢ 0 → result ≢ 4 → result ≡ refusal (buckets_fault buckets.old ∷ fault_at table.old (place_of place) ∷ []) }
     ensures status { IsStatus result }
 {
-    let Some(member) = place_of(place) else {
-        return NULL;
-    };
-    let Some(at) = slot(&*buckets, hash) else {
-        return OUT_OF_RANGE;
-    };
-    remove_from(table, &mut buckets[at], member)
+    hash_calls::remove(table, buckets, hash, place)
 }
 
 /// Hands out the first member of a chain with this key, or returns [`NULL`](crate::NULL) where there is none. It writes nothing else. One
@@ -156,14 +105,7 @@ pub extern "C" fn ic_hash_find(
     ensures why { result ≢ 0 → result ≢ 4 → result ≡ refusal (keys_fault keys.now (length table.old) ∷ buckets_fault buckets.now ∷ []) }
     ensures status { IsStatus result }
 {
-    let links = RawTable::new(table);
-    if keys.len() < links.places() {
-        return OUT_OF_RANGE;
-    }
-    let Some(at) = slot(buckets, hash) else {
-        return OUT_OF_RANGE;
-    };
-    look_from(&links, keys, key, place_in(buckets[at].head), found)
+    hash_calls::find(table, keys, buckets, hash, key, found)
 }
 
 /// Hands out the next member behind the member `at` with the key of that one, or returns [`NULL`](crate::NULL) where there is none, or at
@@ -190,21 +132,5 @@ pub extern "C" fn ic_hash_next_equal(
         → result ≡ refusal (keys_fault keys.now (length table.old) ∷ fault_at table.old (place_of at) ∷ []) }
     ensures status { IsStatus result }
 {
-    let Some(member) = place_of(at) else {
-        return NULL;
-    };
-    let links = RawTable::new(table);
-    if keys.len() < links.places() {
-        return OUT_OF_RANGE;
-    }
-    if !links.is_linked(member) {
-        return links.refusal_of(member);
-    }
-    look_from(
-        &links,
-        keys,
-        keys[member.index()],
-        links.next(member),
-        found,
-    )
+    hash_calls::next_equal(table, keys, at, found)
 }

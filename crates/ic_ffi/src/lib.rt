@@ -10,42 +10,26 @@
 //! ic_tree_insert(nodes, 64, keys, 64, &tree, 7);  // in the order of keys[0 .. 63]
 //! ```
 //!
+//! Here each has its C name alone: what it does is in the module of `ic_raw` of the same name.
+//!
 //! No call requires anything of its arguments. Each tests what it reads and writes by, returns a status, and leaves all as it was
 //! where the status is not [`OK`]. It is that of the first fault: of the members that are named, in their order, of the keys, of the
 //! place to insert, or else [`BROKEN`]. [`NULL`] says that no place was named where one is needed, or that a call has looked and found none.
 #![tactic(auto)]
 
-mod chain;
 mod check_calls;
-mod fill;
 mod fill_calls;
-mod gap;
 mod hash_calls;
-mod list;
 mod list_calls;
-mod marked_tree;
 mod move_calls;
-mod moving;
-mod nodes;
-mod number;
-mod ring;
 mod ring_calls;
-mod search;
 mod search_calls;
 mod sort_calls;
-mod stack;
 mod stack_calls;
-mod status;
-mod table;
-mod tree;
 mod tree_calls;
-mod tree_clear;
-mod whole;
-mod words;
 mod xor_calls;
-mod xor_list;
 
-pub use gap::{Gap, Side};
-pub use status::{BROKEN, LINKED, NONE, NOT_LINKED, NULL, OK, OUT_OF_RANGE};
-pub use table::RawTable;
-pub use words::{RawEnds, RawFront, RawOne, RawRoot, RawThree, RawTwo};
+pub use ic_raw::{
+    BROKEN, LINKED, NONE, NOT_LINKED, NULL, OK, OUT_OF_RANGE, RawEnds, RawFront, RawOne, RawRoot,
+    RawThree, RawTwo,
+};

@@ -8,239 +8,16 @@
 //! ic_list_pop_front(links, 64, &list, &first); // IC_OK, and first is 7
 //! ```
 
-ghost use Rattle.std.specs.Prelude.{◌≡◌, ◌≢◌, ◌↔◌, ◌++◌, ◌∷◌, [], List, Some, None, true, false};
+ghost use Rattle.std.specs.Prelude.{◌≡◌, ◌≢◌, ◌↔◌, ◌∷◌, [], List, Some, None};
 ghost use Rattle.ic_unsafe_ref.specs.declared.place.Place.{Place};
 ghost use Rattle.ic_link_ops.specs.Sequences.{Cut, at_front, at_back, IsAfter, IsBefore};
 ghost use Rattle.ic_link_ops.specs.Chains.{no_members};
-ghost use Rattle.ic_ffi.specs.declared.gap.Side.TheVariants.{After, Before};
-ghost use Rattle.ic_ffi.specs.Gaps.{IsBeside};
-ghost use Rattle.ic_ffi.specs.Words.{place_of};
-ghost use Rattle.ic_ffi.specs.Doubly.{ShowsList, FreeIn, StandsIn, TellsGap, IsEnd, end_on, table_of, ends_of, words_of, fault_at, fault_of, Inserted, Removed, Popped, Replaced, Spliced, Split, Cleared};
-ghost use Rattle.ic_ffi.specs.Answers.{IsStatus, refusal};
+ghost use Rattle.ic_raw.specs.declared.gap.Side.TheVariants.{After, Before};
+ghost use Rattle.ic_raw.specs.Words.{place_of};
+ghost use Rattle.ic_raw.specs.Doubly.{ShowsList, FreeIn, StandsIn, TellsGap, table_of, ends_of, words_of, fault_at, fault_of, Inserted, Removed, Popped, Replaced, Spliced, Split, Cleared};
+ghost use Rattle.ic_raw.specs.Answers.{IsStatus, refusal};
 
-use crate::gap::Side;
-use crate::number::{number_of, place_in, place_of};
-use crate::status::{BROKEN, NONE, NULL, OK};
-use crate::table::RawTable;
-use crate::words::{RawEnds, RawTwo};
-use crate::{list, whole};
-use ic_linked_list::LinkedList;
-use ic_unsafe_ref::Place;
-
-// The list of its two words.
-#[inline]
-pub(crate) fn list_of(words: &RawEnds) -> list::List
-    ensures { result ≡ ends_of words.now }
-{
-    LinkedList::from_ends(place_in(words.head), place_in(words.tail))
-}
-
-// Writes the ends of the list as its two words.
-#[inline]
-pub(crate) fn write_back(words: &mut RawEnds, list: list::List)
-    ensures set { ends_of words.new ≡ list }
-    ensures words { words.new ≡ words_of (ends_of words.new) }
-{
-    words.set(list.first(), list.last());
-}
-
-// Puts the place with that number into the gap beside another one.
-#[inline]
-fn insert_at(table: &mut [RawTwo], list: &mut RawEnds, side: Side, at: u32, place: u32) -> u32
-    ensures inserted { (cut : Cut) (p : Place) → IsBeside side cut (place_of at) → place_of place ≡ Some p
-        → Inserted table.old table.new list.old list.new result cut p }
-    ensures free { (p : Place) → place_of place ≡ Some p → result ≡ 0 → FreeIn table.old p }
-    ensures none { place_of place ≡ None → result ≢ 0 }
-    ensures stands { result ≡ 0 → StandsIn table.old (place_of at) }
-    ensures told { result ≡ 0 → TellsGap side (table_of table.old) (ends_of list.old) (place_of at) }
-    ensures words { result ≡ 0 → list.new ≡ words_of (ends_of list.new) }
-    ensures refused { result ≢ 0 → (table.new ≡ table.old) × (list.new ≡ list.old) }
-    ensures why { result ≢ 0 → result ≡ refusal (fault_at table.old (place_of at) ∷ fault_of table.old (place_of place) ∷ []) }
-    ensures status { IsStatus result }
-{
-    let mut links = RawTable::new(table);
-    let mut edited = list_of(&*list);
-    if !list::insert(&mut links, &mut edited, side, place_of(at), place_of(place)) {
-        return links.refusal(at, place);
-    }
-    write_back(list, edited);
-    OK
-}
-
-// Takes the member at an end off, and hands its number out.
-#[inline]
-fn pop(table: &mut [RawTwo], list: &mut RawEnds, side: Side, popped: &mut u32) -> u32
-    ensures popped { (front back : List Place) (p : Place) → IsEnd side front back
-        → Popped table.old table.new list.old list.new result popped.new p front back }
-    ensures null { (result ≡ 4) ↔ (end_on side (ends_of list.old) ≡ None) }
-    ensures stands { result ≡ 0 → StandsIn table.old (end_on side (ends_of list.old)) }
-    ensures outer { result ≡ 0 → TellsGap side (table_of table.old) (ends_of list.old) None }
-    ensures inner { result ≡ 0 → TellsGap side (table_of table.old) (ends_of list.old) (end_on side (ends_of list.old)) }
-    ensures words { result ≡ 0 → list.new ≡ words_of (ends_of list.new) }
-    ensures refused { result ≢ 0 → (table.new ≡ table.old) × (list.new ≡ list.old) × (popped.new ≡ popped.old) }
-    ensures why { result ≢ 0 → result ≢ 4 → result ≡ 5 }
-{
-    let mut links = RawTable::new(table);
-    let mut edited = list_of(&*list);
-    let Some(member) = list::pop(&mut links, &mut edited, side) else {
-        return refusal_to_pop(&*list, side);
-    };
-    write_back(list, edited);
-    *popped = number_of(member);
-    OK
-}
-
-// Why no member is popped: there is none, or its words tell of none.
-#[cold]
-#[inline(never)]
-fn refusal_to_pop(list: &RawEnds, side: Side) -> u32
-    ensures null { (result ≡ 4) ↔ (end_on side (ends_of list.now) ≡ None) }
-    ensures why { result ≢ 4 → result ≡ 5 }
-    ensures refused { result ≢ 0 }
-{
-    let word = match side {
-        Side::After => list.head,
-        Side::Before => list.tail,
-    };
-    match place_in(word) {
-        None => NULL,
-        Some(_) => BROKEN,
-    }
-}
-
-// Puts all of the given list into the gap beside a place of any list, or says why not.
-#[cold]
-#[inline(never)]
-fn splice_any(
-    table: &mut [RawTwo],
-    list: &mut RawEnds,
-    at: u32,
-    given: &mut RawEnds,
-    side: Side,
-) -> u32
-    ensures spliced { (cut : Cut) (t : List Place) → IsBeside side cut (place_of at)
-        → Spliced table.old table.new list.old list.new result given.old cut t }
-    ensures emptied { result ≡ 0 → given.new ≡ words_of no_members }
-    ensures stands { result ≡ 0 → StandsIn table.old (place_of at) }
-    ensures told { result ≡ 0 → TellsGap side (table_of table.old) (ends_of list.old) (place_of at) }
-    ensures front { result ≡ 0 → TellsGap After (table_of table.old) (ends_of given.old) None }
-    ensures back { result ≡ 0 → TellsGap Before (table_of table.old) (ends_of given.old) None }
-    ensures apart { result ≡ 0 → (p : Place) → (ends_of given.old).head ≡ Some p → (ends_of list.old).head ≢ Some p }
-    ensures words { result ≡ 0 → list.new ≡ words_of (ends_of list.new) }
-    ensures refused { result ≢ 0 → (table.new ≡ table.old) × (list.new ≡ list.old) × (given.new ≡ given.old) }
-    ensures why { result ≢ 0 → result ≡ refusal (fault_at table.old (place_of at) ∷ []) }
-    ensures status { IsStatus result }
-{
-    let mut links = RawTable::new(table);
-    let mut edited = list_of(&*list);
-    let other = list_of(&*given);
-    if !list::splice(&mut links, &mut edited, side, place_of(at), other) {
-        return links.refusal_at(at);
-    }
-    write_back(list, edited);
-    given.set(None, None);
-    OK
-}
-
-// Puts all of the given list into the gap beside a place.
-#[inline(always)]
-fn splice_at(
-    table: &mut [RawTwo],
-    list: &mut RawEnds,
-    at: u32,
-    given: &mut RawEnds,
-    side: Side,
-) -> u32
-    ensures spliced { (cut : Cut) (t : List Place) → IsBeside side cut (place_of at)
-        → Spliced table.old table.new list.old list.new result given.old cut t }
-    ensures emptied { result ≡ 0 → given.new ≡ words_of no_members }
-    ensures stands { result ≡ 0 → StandsIn table.old (place_of at) }
-    ensures told { result ≡ 0 → TellsGap side (table_of table.old) (ends_of list.old) (place_of at) }
-    ensures front { result ≡ 0 → TellsGap After (table_of table.old) (ends_of given.old) None }
-    ensures back { result ≡ 0 → TellsGap Before (table_of table.old) (ends_of given.old) None }
-    ensures apart { result ≡ 0 → (p : Place) → (ends_of given.old).head ≡ Some p → (ends_of list.old).head ≢ Some p }
-    ensures words { result ≡ 0 → list.new ≡ words_of (ends_of list.new) }
-    ensures refused { result ≢ 0 → (table.new ≡ table.old) × (list.new ≡ list.old) × (given.new ≡ given.old) }
-    ensures why { result ≢ 0 → result ≡ refusal (fault_at table.old (place_of at) ∷ []) }
-    ensures status { IsStatus result }
-{
-    let mut links = RawTable::new(table);
-    let mut edited = list_of(&*list);
-    let other = list_of(&*given);
-    if list::splice_at_end(&mut links, &mut edited, side, place_of(at), other) {
-        write_back(list, edited);
-        given.set(None, None);
-        return OK;
-    }
-    splice_any(links.entries, list, at, given, side)
-}
-
-// Cuts any list at the gap beside a place, and hands out the part on that side of it, or says why not.
-#[cold]
-#[inline(never)]
-fn split_any(
-    table: &mut [RawTwo],
-    list: &mut RawEnds,
-    at: u32,
-    rest: &mut RawEnds,
-    side: Side,
-) -> u32
-    ensures split { (cut : Cut) → IsBeside side cut (place_of at) → ends_of rest.old ≡ no_members
-        → Split side table.old table.new list.old list.new result rest.new cut }
-    ensures empty { result ≡ 0 → ends_of rest.old ≡ no_members }
-    ensures stands { result ≡ 0 → StandsIn table.old (place_of at) }
-    ensures told { result ≡ 0 → TellsGap side (table_of table.old) (ends_of list.old) (place_of at) }
-    ensures words { result ≡ 0 → list.new ≡ words_of (ends_of list.new) }
-    ensures rest { result ≡ 0 → rest.new ≡ words_of (ends_of rest.new) }
-    ensures refused { result ≢ 0 → (table.new ≡ table.old) × (list.new ≡ list.old) × (rest.new ≡ rest.old) }
-    ensures why { result ≢ 0 → result ≡ refusal (fault_at table.old (place_of at) ∷ []) }
-    ensures status { IsStatus result }
-{
-    let mut links = RawTable::new(table);
-    let mut edited = list_of(&*list);
-    if rest.is_empty() {
-        if let Some(gap) = list::gap_at(&links, &edited, side, place_of(at)) {
-            let part = list::split(&mut links, &mut edited, side, gap);
-            write_back(list, edited);
-            write_back(rest, part);
-            return OK;
-        }
-    }
-    links.refusal_at(at)
-}
-
-// Cuts the list at the gap beside a place, and hands out the part on that side of it.
-#[inline(always)]
-fn split_at(
-    table: &mut [RawTwo],
-    list: &mut RawEnds,
-    at: u32,
-    rest: &mut RawEnds,
-    side: Side,
-) -> u32
-    ensures split { (cut : Cut) → IsBeside side cut (place_of at) → ends_of rest.old ≡ no_members
-        → Split side table.old table.new list.old list.new result rest.new cut }
-    ensures empty { result ≡ 0 → ends_of rest.old ≡ no_members }
-    ensures stands { result ≡ 0 → StandsIn table.old (place_of at) }
-    ensures told { result ≡ 0 → TellsGap side (table_of table.old) (ends_of list.old) (place_of at) }
-    ensures words { result ≡ 0 → list.new ≡ words_of (ends_of list.new) }
-    ensures rest { result ≡ 0 → rest.new ≡ words_of (ends_of rest.new) }
-    ensures refused { result ≢ 0 → (table.new ≡ table.old) × (list.new ≡ list.old) × (rest.new ≡ rest.old) }
-    ensures why { result ≢ 0 → result ≡ refusal (fault_at table.old (place_of at) ∷ []) }
-    ensures status { IsStatus result }
-{
-    let mut links = RawTable::new(table);
-    let mut edited = list_of(&*list);
-    if rest.is_empty() {
-        if let Some(gap) = list::gap_inside(&links, side, place_of(at)) {
-            let part = list::split(&mut links, &mut edited, side, gap);
-            write_back(list, edited);
-            write_back(rest, part);
-            return OK;
-        }
-    }
-    split_any(links.entries, list, at, rest, side)
-}
+use ic_raw::{NONE, RawEnds, RawTwo, Side, list_calls};
 
 /// Puts a place in front of all members. O(1).
 ///
@@ -257,24 +34,7 @@ pub extern "C" fn ic_list_push_front(table: &mut [RawTwo], list: &mut RawEnds, p
     ensures why { result ≢ 0 → result ≡ refusal (fault_of table.old (place_of place) ∷ []) }
     ensures status { IsStatus result }
 {
-    insert_at(table, list, Side::After, NONE, place)
-}
-
-// Puts a place behind all members of any list, or says why not.
-#[cold]
-#[inline(never)]
-fn push_back_any(table: &mut [RawTwo], list: &mut RawEnds, place: u32) -> u32
-    ensures inserted { (s : List Place) (p : Place) → place_of place ≡ Some p
-        → Inserted table.old table.new list.old list.new result (at_back s) p }
-    ensures free { (p : Place) → place_of place ≡ Some p → result ≡ 0 → FreeIn table.old p }
-    ensures none { place_of place ≡ None → result ≢ 0 }
-    ensures told { result ≡ 0 → TellsGap Before (table_of table.old) (ends_of list.old) None }
-    ensures words { result ≡ 0 → list.new ≡ words_of (ends_of list.new) }
-    ensures refused { result ≢ 0 → (table.new ≡ table.old) × (list.new ≡ list.old) }
-    ensures why { result ≢ 0 → result ≡ refusal (fault_of table.old (place_of place) ∷ []) }
-    ensures status { IsStatus result }
-{
-    insert_at(table, list, Side::Before, NONE, place)
+    list_calls::insert_at(table, list, Side::After, NONE, place)
 }
 
 /// Puts a place behind all members. O(1).
@@ -292,34 +52,10 @@ pub extern "C" fn ic_list_push_back(table: &mut [RawTwo], list: &mut RawEnds, pl
     ensures why { result ≢ 0 → result ≡ refusal (fault_of table.old (place_of place) ∷ []) }
     ensures status { IsStatus result }
 {
-    let mut links = RawTable::new(table);
-    let mut edited = list_of(&*list);
-    if list::push_behind_last(&mut links, &mut edited, place_of(place)) {
-        list.set_last(edited.last());
-        return OK;
-    }
-    push_back_any(links.entries, list, place)
+    list_calls::push_back(table, list, place)
 }
 
-// Takes the first member off any list, or says why not.
-#[cold]
-#[inline(never)]
-fn pop_front_any(table: &mut [RawTwo], list: &mut RawEnds, popped: &mut u32) -> u32
-    ensures popped { (s : List Place) (p : Place) → Popped table.old table.new list.old list.new result popped.new p [] s }
-    ensures empty { ShowsList table.old list.old [] → result ≡ 4 }
-    ensures null { (result ≡ 4) ↔ ((ends_of list.old).head ≡ None) }
-    ensures stands { result ≡ 0 → StandsIn table.old (ends_of list.old).head }
-    ensures outer { result ≡ 0 → TellsGap After (table_of table.old) (ends_of list.old) None }
-    ensures inner { result ≡ 0 → TellsGap After (table_of table.old) (ends_of list.old) (ends_of list.old).head }
-    ensures words { result ≡ 0 → list.new ≡ words_of (ends_of list.new) }
-    ensures refused { result ≢ 0 → (table.new ≡ table.old) × (list.new ≡ list.old) × (popped.new ≡ popped.old) }
-    ensures why { result ≢ 0 → result ≢ 4 → result ≡ 5 }
-    ensures status { IsStatus result }
-{
-    pop(table, list, Side::After, popped)
-}
-
-/// Takes the first member off and hands it out, or returns [`NULL`] where there is none. O(1).
+/// Takes the first member off and hands it out, or returns [`NULL`](crate::NULL) where there is none. O(1).
 #[unsafe(no_mangle)]
 pub extern "C" fn ic_list_pop_front(
     table: &mut [RawTwo],
@@ -337,17 +73,10 @@ pub extern "C" fn ic_list_pop_front(
     ensures why { result ≢ 0 → result ≢ 4 → result ≡ 5 }
     ensures status { IsStatus result }
 {
-    let mut links = RawTable::new(table);
-    let mut edited = list_of(&*list);
-    if let Some(first) = list::pop_before_second(&mut links, &mut edited) {
-        list.set_first(edited.first());
-        *popped = number_of(first);
-        return OK;
-    }
-    pop_front_any(links.entries, list, popped)
+    list_calls::pop_front(table, list, popped)
 }
 
-/// Takes the last member off and hands it out, or returns [`NULL`] where there is none. O(1).
+/// Takes the last member off and hands it out, or returns [`NULL`](crate::NULL) where there is none. O(1).
 #[unsafe(no_mangle)]
 pub extern "C" fn ic_list_pop_back(
     table: &mut [RawTwo],
@@ -365,10 +94,10 @@ pub extern "C" fn ic_list_pop_back(
     ensures why { result ≢ 0 → result ≢ 4 → result ≡ 5 }
     ensures status { IsStatus result }
 {
-    pop(table, list, Side::Before, popped)
+    list_calls::pop(table, list, Side::Before, popped)
 }
 
-/// Puts a place behind the member `at`, at [`NONE`] in front of all. O(1).
+/// Puts a place behind the member `at`, at [`NONE`](crate::NONE) in front of all. O(1).
 ///
 /// The place has to be one of the table, and not linked.
 #[unsafe(no_mangle)]
@@ -389,10 +118,10 @@ pub extern "C" fn ic_list_insert_after(
     ensures why { result ≢ 0 → result ≡ refusal (fault_at table.old (place_of at) ∷ fault_of table.old (place_of place) ∷ []) }
     ensures status { IsStatus result }
 {
-    insert_at(table, list, Side::After, at, place)
+    list_calls::insert_at(table, list, Side::After, at, place)
 }
 
-/// Puts a place in front of the member `at`, at [`NONE`] behind all. O(1).
+/// Puts a place in front of the member `at`, at [`NONE`](crate::NONE) behind all. O(1).
 ///
 /// The place has to be one of the table, and not linked.
 #[unsafe(no_mangle)]
@@ -413,37 +142,10 @@ pub extern "C" fn ic_list_insert_before(
     ensures why { result ≢ 0 → result ≡ refusal (fault_at table.old (place_of at) ∷ fault_of table.old (place_of place) ∷ []) }
     ensures status { IsStatus result }
 {
-    insert_at(table, list, Side::Before, at, place)
+    list_calls::insert_at(table, list, Side::Before, at, place)
 }
 
-// Takes any member off, or says why not.
-#[cold]
-#[inline(never)]
-fn remove_any(table: &mut [RawTwo], list: &mut RawEnds, at: u32) -> u32
-    ensures removed { (front back : List Place) (p : Place) → place_of at ≡ Some p
-        → Removed table.old table.new list.old list.new result p front back }
-    ensures null { (result ≡ 4) ↔ (place_of at ≡ None) }
-    ensures stands { result ≡ 0 → StandsIn table.old (place_of at) }
-    ensures before { result ≡ 0 → TellsGap Before (table_of table.old) (ends_of list.old) (place_of at) }
-    ensures behind { result ≡ 0 → TellsGap After (table_of table.old) (ends_of list.old) (place_of at) }
-    ensures words { result ≡ 0 → list.new ≡ words_of (ends_of list.new) }
-    ensures refused { result ≢ 0 → (table.new ≡ table.old) × (list.new ≡ list.old) }
-    ensures why { result ≢ 0 → result ≢ 4 → result ≡ refusal (fault_at table.old (place_of at) ∷ []) }
-    ensures status { IsStatus result }
-{
-    let Some(member) = place_of(at) else {
-        return NULL;
-    };
-    let mut links = RawTable::new(table);
-    let mut edited = list_of(&*list);
-    if !list::remove(&mut links, &mut edited, member) {
-        return links.refusal_at(at);
-    }
-    write_back(list, edited);
-    OK
-}
-
-/// Takes the member `at` off, or returns [`NULL`] at [`NONE`]. O(1).
+/// Takes the member `at` off, or returns [`NULL`](crate::NULL) at [`NONE`](crate::NONE). O(1).
 #[unsafe(no_mangle)]
 pub extern "C" fn ic_list_remove(table: &mut [RawTwo], list: &mut RawEnds, at: u32) -> u32
     ensures removed { (front back : List Place) (p : Place) → place_of at ≡ Some p
@@ -457,17 +159,10 @@ pub extern "C" fn ic_list_remove(table: &mut [RawTwo], list: &mut RawEnds, at: u
     ensures why { result ≢ 0 → result ≢ 4 → result ≡ refusal (fault_at table.old (place_of at) ∷ []) }
     ensures status { IsStatus result }
 {
-    let Some(member) = place_of(at) else {
-        return NULL;
-    };
-    let mut links = RawTable::new(table);
-    if list::remove_between(&mut links, &mut list_of(&*list), member) {
-        return OK;
-    }
-    remove_any(links.entries, list, at)
+    list_calls::remove(table, list, at)
 }
 
-/// Puts a place where the member `at` is, which is unlinked then, or returns [`NULL`] at [`NONE`]. O(1).
+/// Puts a place where the member `at` is, which is unlinked then, or returns [`NULL`](crate::NULL) at [`NONE`](crate::NONE). O(1).
 ///
 /// The place has to be one of the table, and not linked.
 #[unsafe(no_mangle)]
@@ -490,21 +185,12 @@ pub extern "C" fn ic_list_replace(
     ensures why { result ≢ 0 → result ≢ 4 → result ≡ refusal (fault_at table.old (place_of at) ∷ fault_of table.old (place_of place) ∷ []) }
     ensures status { IsStatus result }
 {
-    let Some(member) = place_of(at) else {
-        return NULL;
-    };
-    let mut links = RawTable::new(table);
-    let mut edited = list_of(&*list);
-    if !list::replace(&mut links, &mut edited, member, place_of(place)) {
-        return links.refusal(at, place);
-    }
-    write_back(list, edited);
-    OK
+    list_calls::replace(table, list, at, place)
 }
 
-/// Puts all of the given list behind the member `at`, at [`NONE`] in front of all, and leaves the given one empty. O(1).
+/// Puts all of the given list behind the member `at`, at [`NONE`](crate::NONE) in front of all, and leaves the given one empty. O(1).
 ///
-/// A list that begins with the same member, as the list itself, is [`BROKEN`].
+/// A list that begins with the same member, as the list itself, is [`BROKEN`](crate::BROKEN).
 #[unsafe(no_mangle)]
 pub extern "C" fn ic_list_splice_after(
     table: &mut [RawTwo],
@@ -525,12 +211,12 @@ pub extern "C" fn ic_list_splice_after(
     ensures why { result ≢ 0 → result ≡ refusal (fault_at table.old (place_of at) ∷ []) }
     ensures status { IsStatus result }
 {
-    splice_at(table, list, at, given, Side::After)
+    list_calls::splice_at(table, list, at, given, Side::After)
 }
 
-/// Puts all of the given list in front of the member `at`, at [`NONE`] behind all, and leaves the given one empty. O(1).
+/// Puts all of the given list in front of the member `at`, at [`NONE`](crate::NONE) behind all, and leaves the given one empty. O(1).
 ///
-/// A list that begins with the same member, as the list itself, is [`BROKEN`].
+/// A list that begins with the same member, as the list itself, is [`BROKEN`](crate::BROKEN).
 #[unsafe(no_mangle)]
 pub extern "C" fn ic_list_splice_before(
     table: &mut [RawTwo],
@@ -551,12 +237,12 @@ pub extern "C" fn ic_list_splice_before(
     ensures why { result ≢ 0 → result ≡ refusal (fault_at table.old (place_of at) ∷ []) }
     ensures status { IsStatus result }
 {
-    splice_at(table, list, at, given, Side::Before)
+    list_calls::splice_at(table, list, at, given, Side::Before)
 }
 
 /// Puts all of the given list behind all members, and leaves the given one empty. O(1).
 ///
-/// A list that begins with the same member, as the list itself, is [`BROKEN`].
+/// A list that begins with the same member, as the list itself, is [`BROKEN`](crate::BROKEN).
 #[unsafe(no_mangle)]
 pub extern "C" fn ic_list_append(
     table: &mut [RawTwo],
@@ -574,12 +260,12 @@ pub extern "C" fn ic_list_append(
     ensures why { result ≢ 0 → result ≡ 5 }
     ensures status { IsStatus result }
 {
-    splice_at(table, list, NONE, given, Side::Before)
+    list_calls::splice_at(table, list, NONE, given, Side::Before)
 }
 
-/// Hands out what stands behind the member `at`, at [`NONE`] all of the list. O(1).
+/// Hands out what stands behind the member `at`, at [`NONE`](crate::NONE) all of the list. O(1).
 ///
-/// Where `rest` is not empty, it returns [`BROKEN`].
+/// Where `rest` is not empty, it returns [`BROKEN`](crate::BROKEN).
 #[unsafe(no_mangle)]
 pub extern "C" fn ic_list_split_after(
     table: &mut [RawTwo],
@@ -598,12 +284,12 @@ pub extern "C" fn ic_list_split_after(
     ensures why { result ≢ 0 → result ≡ refusal (fault_at table.old (place_of at) ∷ []) }
     ensures status { IsStatus result }
 {
-    split_at(table, list, at, rest, Side::After)
+    list_calls::split_at(table, list, at, rest, Side::After)
 }
 
-/// Hands out what stands in front of the member `at`, at [`NONE`] all of the list. O(1).
+/// Hands out what stands in front of the member `at`, at [`NONE`](crate::NONE) all of the list. O(1).
 ///
-/// Where `rest` is not empty, it returns [`BROKEN`].
+/// Where `rest` is not empty, it returns [`BROKEN`](crate::BROKEN).
 #[unsafe(no_mangle)]
 pub extern "C" fn ic_list_split_before(
     table: &mut [RawTwo],
@@ -622,12 +308,12 @@ pub extern "C" fn ic_list_split_before(
     ensures why { result ≢ 0 → result ≡ refusal (fault_at table.old (place_of at) ∷ []) }
     ensures status { IsStatus result }
 {
-    split_at(table, list, at, rest, Side::Before)
+    list_calls::split_at(table, list, at, rest, Side::Before)
 }
 
 /// Takes all members off, which are unlinked then. O(n).
 ///
-/// Where the places do not lead from the first member to the last, and back, it returns [`BROKEN`].
+/// Where the places do not lead from the first member to the last, and back, it returns [`BROKEN`](crate::BROKEN).
 #[unsafe(no_mangle)]
 pub extern "C" fn ic_list_clear(table: &mut [RawTwo], list: &mut RawEnds) -> u32
     ensures cleared { (s : List Place) → Cleared table.old table.new list.old list.new result s }
@@ -637,10 +323,5 @@ pub extern "C" fn ic_list_clear(table: &mut [RawTwo], list: &mut RawEnds) -> u32
     ensures why { result ≢ 0 → result ≡ 5 }
     ensures status { IsStatus result }
 {
-    let mut links = RawTable::new(table);
-    if !whole::clear_list(&mut links, &mut list_of(&*list)) {
-        return BROKEN;
-    }
-    list.set(None, None);
-    OK
+    list_calls::clear(table, list)
 }

@@ -11,18 +11,13 @@ ghost use Rattle.std.specs.Prelude.{◌≡◌, ◌≢◌, ◌↔◌, ◌⊎◌, 
 ghost use Rattle.ic_unsafe_ref.specs.declared.place.Place.{Place};
 ghost use Rattle.ic_link_ops.specs.Sequences.{IsDisjoint, last};
 ghost use Rattle.ic_link_ops.specs.Tables.{IsUnlinked, ChangesOnly};
-ghost use Rattle.ic_ffi.specs.declared.gap.Side.TheVariants.{After, Before};
-ghost use Rattle.ic_ffi.specs.Answers.{IsStatus, IsAccepted, refusal};
-ghost use Rattle.ic_ffi.specs.Doubly.{table_of, FreeIn, fault_at, fault_of};
-ghost use Rattle.ic_ffi.specs.Ring.{IsCircle, IsTold, Makes, MakesTwo, own_on, put_in};
-ghost use Rattle.ic_ffi.specs.Words.{place_of, is_linked_two};
+ghost use Rattle.ic_raw.specs.declared.gap.Side.TheVariants.{After, Before};
+ghost use Rattle.ic_raw.specs.Answers.{IsStatus, IsAccepted, refusal};
+ghost use Rattle.ic_raw.specs.Doubly.{table_of, FreeIn, fault_at, fault_of};
+ghost use Rattle.ic_raw.specs.Ring.{IsCircle, IsTold, Makes, MakesTwo};
+ghost use Rattle.ic_raw.specs.Words.{place_of, is_linked_two};
 
-use crate::gap::Side;
-use crate::number::place_of;
-use crate::ring;
-use crate::status::{NULL, OK};
-use crate::table::{RawTable, refusal_at_end};
-use crate::words::RawTwo;
+use ic_raw::{RawTwo, Side, ring_calls};
 
 /// Makes a place the head of a ring with no members. O(1).
 ///
@@ -37,36 +32,7 @@ pub extern "C" fn ic_ring_init(table: &mut [RawTwo], head: u32) -> u32
     ensures why { result ≢ 0 → result ≡ refusal (fault_of table.old (place_of head) ∷ []) }
     ensures status { IsStatus result }
 {
-    let mut links = RawTable::new(table);
-    let Some(_) = ring::close(&mut links, place_of(head)) else {
-        return refusal_at_end(links.entries, head);
-    };
-    OK
-}
-
-// Puts a place in beside one that stands in a ring.
-#[inline]
-fn insert(table: &mut [RawTwo], side: Side, at: u32, place: u32) -> u32
-    ensures inserted { (h p : Place) (r : List Place) → place_of at ≡ Some h → place_of place ≡ Some p → FreeIn table.old p
-        → IsCircle (table_of table.old) (h ∷ r)
-        → IsAccepted result (Makes (table_of table.old) (table_of table.new) (p ∷ h ∷ r) (put_in side h p r)) }
-    ensures free { (p : Place) → place_of place ≡ Some p → result ≡ 0 → FreeIn table.old p }
-    ensures none { place_of place ≡ None → result ≢ 0 }
-    ensures null { (result ≡ 4) ↔ (place_of at ≡ None) }
-    ensures told { (h : Place) → place_of at ≡ Some h → result ≡ 0
-        → (x : Place × Place) × IsTold (table_of table.old) x.0 x.1 × (own_on side x ≡ h) }
-    ensures refused { result ≢ 0 → table.new ≡ table.old }
-    ensures why { result ≢ 0 → result ≢ 4 → result ≡ refusal (fault_at table.old (place_of at) ∷ fault_of table.old (place_of place) ∷ []) }
-    ensures status { IsStatus result }
-{
-    let Some(member) = place_of(at) else {
-        return NULL;
-    };
-    let mut links = RawTable::new(table);
-    if !ring::insert(&mut links, side, member, place_of(place)) {
-        return links.refusal(at, place);
-    }
-    OK
+    ring_calls::init(table, head)
 }
 
 /// Puts a place behind one that stands in a ring: behind a head it is the first member. O(1).
@@ -85,7 +51,7 @@ pub extern "C" fn ic_ring_insert_after(table: &mut [RawTwo], at: u32, place: u32
     ensures why { result ≢ 0 → result ≢ 4 → result ≡ refusal (fault_at table.old (place_of at) ∷ fault_of table.old (place_of place) ∷ []) }
     ensures status { IsStatus result }
 {
-    insert(table, Side::After, at, place)
+    ring_calls::insert(table, Side::After, at, place)
 }
 
 /// Puts a place in front of one that stands in a ring: in front of a head it is the last member. O(1).
@@ -104,7 +70,7 @@ pub extern "C" fn ic_ring_insert_before(table: &mut [RawTwo], at: u32, place: u3
     ensures why { result ≢ 0 → result ≢ 4 → result ≡ refusal (fault_at table.old (place_of at) ∷ fault_of table.old (place_of place) ∷ []) }
     ensures status { IsStatus result }
 {
-    insert(table, Side::Before, at, place)
+    ring_calls::insert(table, Side::Before, at, place)
 }
 
 /// Takes a place out of its ring, whichever that is. O(1).
@@ -121,14 +87,7 @@ pub extern "C" fn ic_ring_remove(table: &mut [RawTwo], place: u32) -> u32
     ensures why { result ≢ 0 → result ≢ 4 → result ≡ refusal (fault_at table.old (place_of place) ∷ []) }
     ensures status { IsStatus result }
 {
-    let Some(member) = place_of(place) else {
-        return NULL;
-    };
-    let mut links = RawTable::new(table);
-    if !ring::remove(&mut links, member) {
-        return links.refusal_at(place);
-    }
-    OK
+    ring_calls::remove(table, place)
 }
 
 /// Two places that stand in rings exchange what stands behind them. So two rings become one, and one becomes two. O(1).
@@ -150,15 +109,5 @@ pub extern "C" fn ic_ring_exchange(table: &mut [RawTwo], one: u32, other: u32) -
     ensures why { result ≢ 0 → result ≢ 4 → result ≡ refusal (fault_at table.old (place_of one) ∷ fault_at table.old (place_of other) ∷ []) }
     ensures status { IsStatus result }
 {
-    let Some(first) = place_of(one) else {
-        return NULL;
-    };
-    let Some(second) = place_of(other) else {
-        return NULL;
-    };
-    let mut links = RawTable::new(table);
-    if !ring::exchange(&mut links, first, second) {
-        return links.refusal_at_both(one, other);
-    }
-    OK
+    ring_calls::exchange(table, one, other)
 }

@@ -14,17 +14,12 @@ ghost use Rattle.std.specs.Prelude.{◌≡◌, ◌≢◌, ◌≤◌, ◌⊎◌, 
 ghost use Rattle.ic_unsafe_ref.specs.declared.place.Place.{Place};
 ghost use Rattle.ic_rbtree.specs.Borders.{Finds, IsLowerBorder, IsUpperBorder};
 ghost use Rattle.ic_rbtree.specs.declared.keys.key_adapter.Bound.TheVariants.{Included};
-ghost use Rattle.ic_ffi.specs.Answers.{IsStatus, HandsOut, refusal};
-ghost use Rattle.ic_ffi.specs.Keys.{against, keys_fault, IsTarget, InsertedInOrder};
-ghost use Rattle.ic_ffi.specs.Tree.{ShowsTree, FreeIn, StandsIn, NamesLinked, root_in, word_of_root, fault_of};
-ghost use Rattle.ic_ffi.specs.Words.{place_of};
+ghost use Rattle.ic_raw.specs.Answers.{IsStatus, HandsOut, refusal};
+ghost use Rattle.ic_raw.specs.Keys.{against, keys_fault, InsertedInOrder};
+ghost use Rattle.ic_raw.specs.Tree.{ShowsTree, FreeIn, StandsIn, NamesLinked, root_in, word_of_root, fault_of};
+ghost use Rattle.ic_raw.specs.Words.{place_of};
 
-use crate::number::place_of;
-use crate::search::{self, Target};
-use crate::status::OK;
-use crate::table::RawTable;
-use crate::tree_calls::tree_of;
-use crate::words::{RawRoot, RawThree};
+use ic_raw::{RawRoot, RawThree, Target, search_calls};
 
 /// Puts a place in behind all members with no greater key than its own. O(log n).
 ///
@@ -47,36 +42,7 @@ pub extern "C" fn ic_tree_insert(
     ensures why { result ≢ 0 → result ≡ refusal (keys_fault keys.now (length table.old) ∷ fault_of table.old (place_of place) ∷ []) }
     ensures status { IsStatus result }
 {
-    let mut links = RawTable::new(table);
-    let mut edited = tree_of(&*tree);
-    if !search::insert(&mut links, &mut edited, keys, place_of(place)) {
-        return search::refusal_of(&links, keys, place);
-    }
-    tree.set(edited.root());
-    OK
-}
-
-// Hands out the member that is searched.
-#[inline]
-fn look_for(
-    table: &mut [RawThree],
-    keys: &[u64],
-    tree: &RawRoot,
-    key: u64,
-    target: Target,
-    found: &mut u32,
-) -> u32
-    ensures found { (s : List Place) → length table.old ≤ length keys.now → ShowsTree table.old tree.now s
-        → HandsOut (IsTarget target (against key keys.now) s) result found.new }
-    ensures linked { result ≡ 0 → NamesLinked table.old found.new }
-    ensures refused { result ≢ 0 → found.new ≡ found.old }
-    ensures same { table.new ≡ table.old }
-    ensures looked { (result ≡ 0) ⊎ (result ≡ 4) → (length table.old ≤ length keys.now) × StandsIn table.old (root_in tree.now) }
-    ensures why { result ≢ 0 → result ≢ 4 → result ≡ refusal (keys_fault keys.now (length table.old) ∷ []) }
-    ensures status { IsStatus result }
-{
-    let links = RawTable::new(table);
-    search::look(&links, &tree_of(tree), keys, key, target, found)
+    search_calls::insert(table, keys, tree, place)
 }
 
 /// Hands out the first member with this key, or returns [`NULL`](crate::NULL) where there is none. It writes nothing else. O(log n).
@@ -100,7 +66,7 @@ pub extern "C" fn ic_tree_find(
     ensures why { result ≢ 0 → result ≢ 4 → result ≡ refusal (keys_fault keys.now (length table.old) ∷ []) }
     ensures status { IsStatus result }
 {
-    look_for(table, keys, tree, key, Target::Equal, found)
+    search_calls::look_for(table, keys, tree, key, Target::Equal, found)
 }
 
 /// Hands out the first member with a key of at least `key`, or returns [`NULL`](crate::NULL) where there is none. It writes nothing
@@ -125,7 +91,7 @@ pub extern "C" fn ic_tree_lower_bound(
     ensures why { result ≢ 0 → result ≢ 4 → result ≡ refusal (keys_fault keys.now (length table.old) ∷ []) }
     ensures status { IsStatus result }
 {
-    look_for(table, keys, tree, key, Target::AtLeast, found)
+    search_calls::look_for(table, keys, tree, key, Target::AtLeast, found)
 }
 
 /// Hands out the last member with a key of at most `key`, or returns [`NULL`](crate::NULL) where there is none. It writes nothing
@@ -150,5 +116,5 @@ pub extern "C" fn ic_tree_upper_bound(
     ensures why { result ≢ 0 → result ≢ 4 → result ≡ refusal (keys_fault keys.now (length table.old) ∷ []) }
     ensures status { IsStatus result }
 {
-    look_for(table, keys, tree, key, Target::AtMost, found)
+    search_calls::look_for(table, keys, tree, key, Target::AtMost, found)
 }

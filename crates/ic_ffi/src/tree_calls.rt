@@ -8,56 +8,17 @@
 //! ic_tree_remove(links, 64, &tree, 7);               // IC_OK
 //! ```
 
-ghost use Rattle.std.specs.Prelude.{◌≡◌, ◌≢◌, ◌↔◌, ◌⊎◌, ◌∷◌, [], List, Option, Some, None};
+ghost use Rattle.std.specs.Prelude.{◌≡◌, ◌≢◌, ◌↔◌, ◌⊎◌, ◌∷◌, [], List, Some, None};
 ghost use Rattle.ic_unsafe_ref.specs.declared.place.Place.{Place};
 ghost use Rattle.ic_link_ops.specs.declared.side.Side.TheVariants.{Left, Right};
 ghost use Rattle.ic_link_ops.specs.Sequences.{Cut, join, first, last, IsAfter, IsBefore};
-ghost use Rattle.ic_link_ops.specs.Frames.{across};
-ghost use Rattle.ic_rbtree.specs.Sides.{IsBeside};
-ghost use Rattle.ic_rbtree.specs.Tree.{root_of};
-ghost use Rattle.ic_ffi.specs.Answers.{IsStatus, IsFound, refusal};
-ghost use Rattle.ic_ffi.specs.Words.{place_of};
-ghost use Rattle.ic_ffi.specs.Tree.{ShowsTree, IsHole, TellsHole, FreeIn, StandsIn, NamesLinked, root_in, word_of_root, table_of, fault_at, fault_of, Inserted, Removed, Replaced};
+ghost use Rattle.ic_raw.specs.Answers.{IsStatus, IsFound, refusal};
+ghost use Rattle.ic_raw.specs.Words.{place_of};
+ghost use Rattle.ic_raw.specs.Tree.{ShowsTree, IsHole, TellsHole, FreeIn, StandsIn, NamesLinked, root_in, word_of_root, table_of, fault_at, fault_of, Inserted, Removed, Replaced};
+ghost use Rattle.ic_raw.specs.WholeTree.{Cleared};
 
-use crate::number::{place_in, place_of};
-use crate::status::{NULL, OK};
-use crate::table::RawTable;
-use crate::tree;
-use crate::words::{RawRoot, RawThree};
 use ic_link_ops::Side;
-use ic_rbtree::RBTree;
-
-// The tree of its word.
-#[inline]
-pub(crate) fn tree_of(words: &RawRoot) -> tree::Tree
-    ensures { root_of result ≡ root_in words.now }
-{
-    RBTree::from_root((), place_in(words.root))
-}
-
-// Puts the place with that number in on this side of a member, at none as the only one.
-#[inline]
-fn insert_at(table: &mut [RawThree], tree: &mut RawRoot, side: Side, at: u32, place: u32) -> u32
-    ensures inserted { (cut : Cut) (p : Place) → IsHole side (table_of table.old) (place_of at) cut → place_of place ≡ Some p
-        → Inserted table.old table.new tree.old tree.new result cut p }
-    ensures free { (p : Place) → place_of place ≡ Some p → result ≡ 0 → FreeIn table.old p }
-    ensures none { place_of place ≡ None → result ≢ 0 }
-    ensures stands { result ≡ 0 → StandsIn table.old (place_of at) }
-    ensures root { result ≡ 0 → StandsIn table.old (root_in tree.old) }
-    ensures told { result ≡ 0 → TellsHole side (table_of table.old) (root_in tree.old) (place_of at) }
-    ensures words { result ≡ 0 → tree.new ≡ word_of_root (root_in tree.new) }
-    ensures refused { result ≢ 0 → (table.new ≡ table.old) × (tree.new ≡ tree.old) }
-    ensures why { result ≢ 0 → result ≡ refusal (fault_at table.old (place_of at) ∷ fault_of table.old (place_of place) ∷ []) }
-    ensures status { IsStatus result }
-{
-    let mut links = RawTable::new(table);
-    let mut edited = tree_of(&*tree);
-    if !tree::insert(&mut links, &mut edited, side, place_of(at), place_of(place)) {
-        return links.refusal(at, place);
-    }
-    tree.set(edited.root());
-    OK
-}
+use ic_raw::{RawRoot, RawThree, tree_calls};
 
 /// Puts a place in as the left child of the member `at`, in front of it, at [`NONE`](crate::NONE) as the only member. O(log n).
 ///
@@ -82,7 +43,7 @@ pub extern "C" fn ic_tree_insert_left(
     ensures why { result ≢ 0 → result ≡ refusal (fault_at table.old (place_of at) ∷ fault_of table.old (place_of place) ∷ []) }
     ensures status { IsStatus result }
 {
-    insert_at(table, tree, Side::Left, at, place)
+    tree_calls::insert_at(table, tree, Side::Left, at, place)
 }
 
 /// Puts a place in as the right child of the member `at`, behind it, at [`NONE`](crate::NONE) as the only member. O(log n).
@@ -108,7 +69,7 @@ pub extern "C" fn ic_tree_insert_right(
     ensures why { result ≢ 0 → result ≡ refusal (fault_at table.old (place_of at) ∷ fault_of table.old (place_of place) ∷ []) }
     ensures status { IsStatus result }
 {
-    insert_at(table, tree, Side::Right, at, place)
+    tree_calls::insert_at(table, tree, Side::Right, at, place)
 }
 
 /// Takes the member `at` off, or returns [`NULL`](crate::NULL) at [`NONE`](crate::NONE). O(log n).
@@ -124,16 +85,7 @@ pub extern "C" fn ic_tree_remove(table: &mut [RawThree], tree: &mut RawRoot, at:
     ensures why { result ≢ 0 → result ≢ 4 → result ≡ refusal (fault_at table.old (place_of at) ∷ []) }
     ensures status { IsStatus result }
 {
-    let Some(member) = place_of(at) else {
-        return NULL;
-    };
-    let mut links = RawTable::new(table);
-    let mut edited = tree_of(&*tree);
-    if !tree::remove(&mut links, &mut edited, member) {
-        return links.refusal_at(at);
-    }
-    tree.set(edited.root());
-    OK
+    tree_calls::remove(table, tree, at)
 }
 
 /// Puts a place where the member `at` is, which is unlinked then, or returns [`NULL`](crate::NULL) at [`NONE`](crate::NONE). O(1).
@@ -158,33 +110,7 @@ pub extern "C" fn ic_tree_replace(
     ensures why { result ≢ 0 → result ≢ 4 → result ≡ refusal (fault_at table.old (place_of at) ∷ fault_of table.old (place_of place) ∷ []) }
     ensures status { IsStatus result }
 {
-    let Some(member) = place_of(at) else {
-        return NULL;
-    };
-    let mut links = RawTable::new(table);
-    let mut edited = tree_of(&*tree);
-    if !tree::replace(&mut links, &mut edited, member, place_of(place)) {
-        return links.refusal(at, place);
-    }
-    tree.set(edited.root());
-    OK
-}
-
-// Hands out the member on this side of another one, from none the outermost one on the other side.
-#[inline(always)]
-fn step_at(table: &mut [RawThree], tree: &RawRoot, side: Side, at: u32, found: &mut u32) -> u32
-    ensures found { (cut : Cut) (member : Option Place) → IsBeside side cut (place_of at) → IsBeside (across side) cut member
-        → ShowsTree table.old tree.now (join cut) → IsFound member result found.new }
-    ensures linked { result ≡ 0 → NamesLinked table.old found.new }
-    ensures refused { result ≢ 0 → found.new ≡ found.old }
-    ensures same { table.new ≡ table.old }
-    ensures looked { (result ≡ 0) ⊎ (result ≡ 4) → StandsIn table.old (place_of at) × StandsIn table.old (root_in tree.now) }
-    ensures stands { result ≡ 0 → StandsIn table.old (place_of at) }
-    ensures why { result ≢ 0 → result ≢ 4 → result ≡ refusal (fault_at table.old (place_of at) ∷ []) }
-    ensures status { IsStatus result }
-{
-    let links = RawTable::new(table);
-    tree::step(&links, &tree_of(tree), side, at, found)
+    tree_calls::replace(table, tree, at, place)
 }
 
 /// Hands out the member behind the member `at`, from [`NONE`](crate::NONE) the first one, or returns [`NULL`](crate::NULL) where
@@ -206,7 +132,7 @@ pub extern "C" fn ic_tree_next(
     ensures why { result ≢ 0 → result ≢ 4 → result ≡ refusal (fault_at table.old (place_of at) ∷ []) }
     ensures status { IsStatus result }
 {
-    step_at(table, tree, Side::Right, at, found)
+    tree_calls::step_at(table, tree, Side::Right, at, found)
 }
 
 /// Hands out the member in front of the member `at`, from [`NONE`](crate::NONE) the last one, or returns [`NULL`](crate::NULL) where
@@ -228,5 +154,21 @@ pub extern "C" fn ic_tree_prev(
     ensures why { result ≢ 0 → result ≢ 4 → result ≡ refusal (fault_at table.old (place_of at) ∷ []) }
     ensures status { IsStatus result }
 {
-    step_at(table, tree, Side::Left, at, found)
+    tree_calls::step_at(table, tree, Side::Left, at, found)
+}
+
+/// Takes all members off, which are unlinked then. O(n).
+///
+/// Where steps from the first member on do not lead through linked places to an end, as many as the table has places at most, it
+/// returns [`BROKEN`](crate::BROKEN).
+#[unsafe(no_mangle)]
+pub extern "C" fn ic_tree_clear(table: &mut [RawThree], tree: &mut RawRoot) -> u32
+    ensures cleared { (s : List Place) → Cleared table.old table.new tree.old tree.new result s }
+    ensures root { result ≡ 0 → StandsIn table.old (root_in tree.old) }
+    ensures emptied { result ≡ 0 → tree.new ≡ word_of_root None }
+    ensures refused { result ≢ 0 → (table.new ≡ table.old) × (tree.new ≡ tree.old) }
+    ensures why { result ≢ 0 → result ≡ 5 }
+    ensures status { IsStatus result }
+{
+    tree_calls::clear(table, tree)
 }

@@ -8,139 +8,23 @@
 //! ic_xor_insert_between(links, 64, &list, 7, 8, 9); // IC_OK: 7, 8, 9
 //! ```
 
-ghost use Rattle.std.specs.Prelude.{◌≡◌, ◌≢◌, ◌↔◌, ◌++◌, ◌∷◌, [], List, reverse, Option, Some, None, true, false};
+ghost use Rattle.std.specs.Prelude.{◌≡◌, ◌≢◌, ◌↔◌, ◌∷◌, [], List, reverse, Some, None};
 ghost use Rattle.ic_unsafe_ref.specs.declared.place.Place.{Place};
-ghost use Rattle.ic_link_ops.specs.Sequences.{Cut, join, at_front, at_back, first, last, IsAfter, IsBefore, IsDisjoint};
+ghost use Rattle.ic_link_ops.specs.Sequences.{Cut, at_front, at_back, last, IsAfter, IsBefore};
 ghost use Rattle.ic_link_ops.specs.Tables.{Table};
 ghost use Rattle.ic_link_ops.specs.Chains.{no_members};
-ghost use Rattle.ic_ffi.specs.declared.words.RawOne.{RawOne};
-ghost use Rattle.ic_ffi.specs.Words.{place_in, place_of, is_linked_one};
-ghost use Rattle.ic_ffi.specs.Tables.{member_fault, place_fault};
-ghost use Rattle.ic_ffi.specs.Doubly.{ends_of, words_of};
-ghost use Rattle.ic_ffi.specs.Singly.{table_of, lent_table};
-ghost use Rattle.ic_ffi.specs.Xor.{Shows, ShowsList, FreeIn, StandsIn, TellsGap, TellsMemberBehind, TellsMemberBefore, TellsEnds, LeadsThrough, fault_at, fault_of, Inserted, Removed, Popped, Replaced, Spliced, Split, Cleared};
-ghost use Rattle.ic_ffi.specs.Answers.{IsStatus, refusal};
+ghost use Rattle.ic_raw.specs.declared.words.RawOne.{RawOne};
+ghost use Rattle.ic_raw.specs.Words.{place_of};
+ghost use Rattle.ic_raw.specs.Doubly.{ends_of, words_of};
+ghost use Rattle.ic_raw.specs.Singly.{table_of};
+ghost use Rattle.ic_raw.specs.Xor.{Shows, ShowsList, FreeIn, StandsIn, TellsGap, TellsMemberBehind, TellsMemberBefore, TellsEnds, LeadsThrough, fault_at, fault_of, Inserted, Removed, Popped, Replaced, Spliced, Split, Cleared};
+ghost use Rattle.ic_raw.specs.Answers.{IsStatus, refusal};
 
-use crate::number::{number_of, place_in, place_of};
-use crate::status::{BROKEN, NULL, OK};
-use crate::table::{RawTable, refusal_at_end};
-use crate::words::{RawEnds, RawOne};
-use crate::xor_list;
-use ic_link_ops::xor_linked_list::XorLinkedListOps;
-use ic_unsafe_ref::Place;
-use ic_xor_linked_list::XorLinkedList;
-use std::mem;
-
-// The list of its two words.
-#[inline]
-pub(crate) fn list_of(words: &RawEnds) -> xor_list::List
-    ensures { result ≡ ends_of words.now }
-{
-    XorLinkedList::from_ends(place_in(words.head), place_in(words.tail))
-}
-
-// Writes the ends of the list as its two words.
-#[inline]
-pub(crate) fn write_back(words: &mut RawEnds, list: xor_list::List)
-    ensures set { ends_of words.new ≡ list }
-    ensures words { words.new ≡ words_of (ends_of words.new) }
-{
-    words.set(list.first(), list.last());
-}
-
-// Why a place does not go in at two members: by the first fault of the three, or as [`BROKEN`].
-#[cold]
-#[inline(never)]
-fn refusal_with_both(links: &RawTable<'_, RawOne>, one: u32, other: u32, place: u32) -> u32
-    ensures refusal { result ≡ refusal (member_fault is_linked_one (lent_table links.now) (place_of one)
-        ∷ member_fault is_linked_one (lent_table links.now) (place_of other)
-        ∷ place_fault is_linked_one (lent_table links.now) (place_of place) ∷ []) }
-    ensures refused { (result ≢ 0) × (result ≢ 4) }
-    ensures status { IsStatus result }
-{
-    let fault = links.member_fault(place_of(one));
-    if fault != OK {
-        return fault;
-    }
-    links.refusal(other, place)
-}
-
-// Puts the place between two neighbors, and says whether it could. Always inlined, as the edit itself is.
-#[inline(always)]
-fn put(
-    table: &mut [RawOne],
-    list: &mut RawEnds,
-    before: Option<Place>,
-    place: Option<Place>,
-    behind: Option<Place>,
-) -> bool
-    ensures inserted { (cut : Cut) (p : Place) → IsAfter cut before → IsBefore cut behind → place ≡ Some p
-        → ShowsList table.old list.old (join cut) → FreeIn table.old p
-        → (result ≡ true) × Inserted table.old table.new list.old list.new 0 cut p }
-    ensures free { result ≡ true → (p : Place) × (place ≡ Some p) × FreeIn table.old p }
-    ensures told { result ≡ true → TellsGap (table_of table.old) (ends_of list.old) before behind }
-    ensures before { result ≡ true → StandsIn table.old before }
-    ensures behind { result ≡ true → StandsIn table.old behind }
-    ensures words { result ≡ true → list.new ≡ words_of (ends_of list.new) }
-    ensures refused { result ≡ false → (table.new ≡ table.old) × (list.new ≡ list.old) }
-{
-    let mut links = RawTable::new(table);
-    let mut edited = list_of(&*list);
-    if !xor_list::insert(&mut links, &mut edited, before, place, behind) {
-        return false;
-    }
-    write_back(list, edited);
-    true
-}
-
-// Whether `end` is a linked place with a linked neighbor, as both ends of a list of two members or more are. Where calls know that, what they
-// test and write besides is little. What they do rests on their own tests.
-#[inline(always)]
-fn has_neighbor(table: &mut [RawOne], end: Option<Place>) -> bool
-    ensures kept { table.new ≡ table.old }
-{
-    let Some(end) = end else {
-        return false;
-    };
-    let links = RawTable::new(table);
-    if !links.is_linked(end) {
-        return false;
-    }
-    let Some(neighbor) = links.next(end, None) else {
-        return false;
-    };
-    links.is_linked(neighbor)
-}
-
-// Puts a place between the two neighbors that these words name, one of which is none, or says why not.
-#[cold]
-#[inline(never)]
-fn put_any(table: &mut [RawOne], list: &mut RawEnds, place: u32, before: u64, behind: u64) -> u32
-    ensures inserted { (cut : Cut) (p : Place) → IsAfter cut (place_in before) → IsBefore cut (place_in behind) → place_of place ≡ Some p
-        → Inserted table.old table.new list.old list.new result cut p }
-    ensures free { (p : Place) → place_of place ≡ Some p → result ≡ 0 → FreeIn table.old p }
-    ensures none { place_of place ≡ None → result ≢ 0 }
-    ensures told { result ≡ 0 → TellsGap (table_of table.old) (ends_of list.old) (place_in before) (place_in behind) }
-    ensures words { result ≡ 0 → list.new ≡ words_of (ends_of list.new) }
-    ensures refused { result ≢ 0 → (table.new ≡ table.old) × (list.new ≡ list.old) }
-    ensures why { result ≢ 0 → result ≡ refusal (fault_of table.old (place_of place) ∷ []) }
-    ensures status { IsStatus result }
-{
-    if !put(
-        table,
-        list,
-        place_in(before),
-        place_of(place),
-        place_in(behind),
-    ) {
-        return refusal_at_end(table, place);
-    }
-    OK
-}
+use ic_raw::{RawEnds, RawOne, xor_calls};
 
 /// Puts a place in front of all members. O(1).
 ///
-/// The place has to be one of the table, and not linked. Where the first member is none of the table, it returns [`BROKEN`].
+/// The place has to be one of the table, and not linked. Where the first member is none of the table, it returns [`BROKEN`](crate::BROKEN).
 #[unsafe(no_mangle)]
 pub extern "C" fn ic_xor_push_front(table: &mut [RawOne], list: &mut RawEnds, place: u32) -> u32
     ensures inserted { (s : List Place) (p : Place) → place_of place ≡ Some p
@@ -153,17 +37,12 @@ pub extern "C" fn ic_xor_push_front(table: &mut [RawOne], list: &mut RawEnds, pl
     ensures why { result ≢ 0 → result ≡ refusal (fault_of table.old (place_of place) ∷ []) }
     ensures status { IsStatus result }
 {
-    let word = list.head;
-    let first = place_in(word);
-    if has_neighbor(table, first) && put(table, list, None, place_of(place), first) {
-        return OK;
-    }
-    put_any(table, list, place, 0, word)
+    xor_calls::push_front(table, list, place)
 }
 
 /// Puts a place behind all members. O(1).
 ///
-/// The place has to be one of the table, and not linked. Where the last member is none of the table, it returns [`BROKEN`].
+/// The place has to be one of the table, and not linked. Where the last member is none of the table, it returns [`BROKEN`](crate::BROKEN).
 #[unsafe(no_mangle)]
 pub extern "C" fn ic_xor_push_back(table: &mut [RawOne], list: &mut RawEnds, place: u32) -> u32
     ensures inserted { (s : List Place) (p : Place) → place_of place ≡ Some p
@@ -176,80 +55,12 @@ pub extern "C" fn ic_xor_push_back(table: &mut [RawOne], list: &mut RawEnds, pla
     ensures why { result ≢ 0 → result ≡ refusal (fault_of table.old (place_of place) ∷ []) }
     ensures status { IsStatus result }
 {
-    let word = list.tail;
-    let last = place_in(word);
-    if has_neighbor(table, last) && put(table, list, last, place_of(place), None) {
-        return OK;
-    }
-    put_any(table, list, place, word, 0)
+    xor_calls::push_back(table, list, place)
 }
 
-// Takes the member behind `before` off, and says whether it could.
-#[inline]
-fn take(table: &mut [RawOne], list: &mut RawEnds, before: Option<Place>, member: Place) -> bool
-    ensures removed { (front back : List Place) → before ≡ last front → ShowsList table.old list.old (front ++ member ∷ back)
-        → (result ≡ true) × Removed table.old table.new list.old list.new 0 member front back }
-    ensures stands { result ≡ true → StandsIn table.old (Some member) }
-    ensures before { result ≡ true → StandsIn table.old before }
-    ensures told { result ≡ true → TellsMemberBehind (table_of table.old) (ends_of list.old) before (Some member) }
-    ensures words { result ≡ true → list.new ≡ words_of (ends_of list.new) }
-    ensures refused { result ≡ false → (table.new ≡ table.old) × (list.new ≡ list.old) }
-{
-    let mut links = RawTable::new(table);
-    let mut edited = list_of(&*list);
-    if !xor_list::remove(&mut links, &mut edited, before, member) {
-        return false;
-    }
-    write_back(list, edited);
-    true
-}
-
-// Takes the last member off, and says whether it could.
-#[inline]
-fn take_last(table: &mut [RawOne], list: &mut RawEnds, member: Place) -> bool
-    ensures removed { (front : List Place) → ShowsList table.old list.old (front ++ member ∷ [])
-        → (result ≡ true) × Removed table.old table.new list.old list.new 0 member front [] }
-    ensures stands { result ≡ true → StandsIn table.old (Some member) }
-    ensures told { result ≡ true → TellsMemberBefore (table_of table.old) (ends_of list.old) None (Some member) }
-    ensures words { result ≡ true → list.new ≡ words_of (ends_of list.new) }
-    ensures refused { result ≡ false → (table.new ≡ table.old) × (list.new ≡ list.old) }
-{
-    let mut links = RawTable::new(table);
-    let mut edited = list_of(&*list);
-    if !xor_list::remove_last(&mut links, &mut edited, member) {
-        return false;
-    }
-    write_back(list, edited);
-    true
-}
-
-// Takes the first member off any list, or says why not.
-#[cold]
-#[inline(never)]
-fn pop_front_any(table: &mut [RawOne], list: &mut RawEnds, popped: &mut u32) -> u32
-    ensures popped { (s : List Place) (p : Place) → Popped table.old table.new list.old list.new result popped.new p [] s }
-    ensures empty { ShowsList table.old list.old [] → result ≡ 4 }
-    ensures null { (result ≡ 4) ↔ ((ends_of list.old).head ≡ None) }
-    ensures stands { result ≡ 0 → StandsIn table.old (ends_of list.old).head }
-    ensures told { result ≡ 0 → TellsMemberBehind (table_of table.old) (ends_of list.old) None (ends_of list.old).head }
-    ensures words { result ≡ 0 → list.new ≡ words_of (ends_of list.new) }
-    ensures refused { result ≢ 0 → (table.new ≡ table.old) × (list.new ≡ list.old) × (popped.new ≡ popped.old) }
-    ensures why { result ≢ 0 → result ≢ 4 → result ≡ 5 }
-    ensures status { IsStatus result }
-{
-    let Some(member) = place_in(list.head) else {
-        return NULL;
-    };
-    if !take(table, list, None, member) {
-        return BROKEN;
-    }
-    *popped = number_of(member);
-    OK
-}
-
-/// Takes the first member off and hands it out, or returns [`NULL`] where there is none. O(1).
+/// Takes the first member off and hands it out, or returns [`NULL`](crate::NULL) where there is none. O(1).
 ///
-/// Where the words tell of no such member, it returns [`BROKEN`].
+/// Where the words tell of no such member, it returns [`BROKEN`](crate::BROKEN).
 #[unsafe(no_mangle)]
 pub extern "C" fn ic_xor_pop_front(
     table: &mut [RawOne],
@@ -266,19 +77,12 @@ pub extern "C" fn ic_xor_pop_front(
     ensures why { result ≢ 0 → result ≢ 4 → result ≡ 5 }
     ensures status { IsStatus result }
 {
-    let mut links = RawTable::new(table);
-    let mut edited = list_of(&*list);
-    if let Some(first) = xor_list::pop_before_others(&mut links, &mut edited) {
-        list.set_first(edited.first());
-        *popped = number_of(first);
-        return OK;
-    }
-    pop_front_any(links.entries, list, popped)
+    xor_calls::pop_front(table, list, popped)
 }
 
-/// Takes the last member off and hands it out, or returns [`NULL`] where there is none. O(1).
+/// Takes the last member off and hands it out, or returns [`NULL`](crate::NULL) where there is none. O(1).
 ///
-/// Where the words tell of no such member, it returns [`BROKEN`].
+/// Where the words tell of no such member, it returns [`BROKEN`](crate::BROKEN).
 #[unsafe(no_mangle)]
 pub extern "C" fn ic_xor_pop_back(table: &mut [RawOne], list: &mut RawEnds, popped: &mut u32) -> u32
     ensures popped { (s : List Place) (p : Place) → Popped table.old table.new list.old list.new result popped.new p s [] }
@@ -291,19 +95,12 @@ pub extern "C" fn ic_xor_pop_back(table: &mut [RawOne], list: &mut RawEnds, popp
     ensures why { result ≢ 0 → result ≢ 4 → result ≡ 5 }
     ensures status { IsStatus result }
 {
-    let Some(member) = place_in(list.tail) else {
-        return NULL;
-    };
-    if !take_last(table, list, member) {
-        return BROKEN;
-    }
-    *popped = number_of(member);
-    OK
+    xor_calls::pop_back(table, list, popped)
 }
 
-/// Puts a place between the neighbors `before` and `behind`, which are [`NONE`] beyond an end. O(1).
+/// Puts a place between the neighbors `before` and `behind`, which are [`NONE`](crate::NONE) beyond an end. O(1).
 ///
-/// The place has to be one of the table, and not linked. Where the words tell of no gap between the two, it returns [`BROKEN`].
+/// The place has to be one of the table, and not linked. Where the words tell of no gap between the two, it returns [`BROKEN`](crate::BROKEN).
 #[unsafe(no_mangle)]
 pub extern "C" fn ic_xor_insert_between(
     table: &mut [RawOne],
@@ -325,16 +122,12 @@ pub extern "C" fn ic_xor_insert_between(
         ∷ fault_of table.old (place_of place) ∷ []) }
     ensures status { IsStatus result }
 {
-    let (front, new, back) = (place_of(before), place_of(place), place_of(behind));
-    if !put(table, list, front, new, back) {
-        return refusal_with_both(&RawTable::new(table), before, behind, place);
-    }
-    OK
+    xor_calls::insert_between(table, list, before, place, behind)
 }
 
-/// Takes the member `at` off, in front of which `before` stands, or returns [`NULL`] at [`NONE`]. O(1).
+/// Takes the member `at` off, in front of which `before` stands, or returns [`NULL`](crate::NULL) at [`NONE`](crate::NONE). O(1).
 ///
-/// Where the words tell of no such member, it returns [`BROKEN`].
+/// Where the words tell of no such member, it returns [`BROKEN`](crate::BROKEN).
 #[unsafe(no_mangle)]
 pub extern "C" fn ic_xor_remove(
     table: &mut [RawOne],
@@ -354,19 +147,13 @@ pub extern "C" fn ic_xor_remove(
         → result ≡ refusal (fault_at table.old (place_of at) ∷ fault_at table.old (place_of before) ∷ []) }
     ensures status { IsStatus result }
 {
-    let Some(member) = place_of(at) else {
-        return NULL;
-    };
-    if !take(table, list, place_of(before), member) {
-        return RawTable::new(table).refusal_at_both(at, before);
-    }
-    OK
+    xor_calls::remove(table, list, before, at)
 }
 
-/// Puts a place where the member `at` is, in front of which `before` stands, or returns [`NULL`] at [`NONE`]. The member is
+/// Puts a place where the member `at` is, in front of which `before` stands, or returns [`NULL`](crate::NULL) at [`NONE`](crate::NONE). The member is
 /// unlinked then. O(1).
 ///
-/// The place has to be one of the table, and not linked. Where the words tell of no such member, it returns [`BROKEN`].
+/// The place has to be one of the table, and not linked. Where the words tell of no such member, it returns [`BROKEN`](crate::BROKEN).
 #[unsafe(no_mangle)]
 pub extern "C" fn ic_xor_replace(
     table: &mut [RawOne],
@@ -389,54 +176,13 @@ pub extern "C" fn ic_xor_replace(
         ∷ fault_of table.old (place_of place) ∷ []) }
     ensures status { IsStatus result }
 {
-    let Some(member) = place_of(at) else {
-        return NULL;
-    };
-    let mut links = RawTable::new(table);
-    let mut edited = list_of(&*list);
-    let (neighbor, new) = (place_of(before), place_of(place));
-    if !xor_list::replace(&mut links, &mut edited, neighbor, member, new) {
-        return refusal_with_both(&links, at, before, place);
-    }
-    write_back(list, edited);
-    OK
-}
-
-// Puts all of the given list between two neighbors, and says whether it could.
-#[inline]
-fn splice(
-    table: &mut [RawOne],
-    list: &mut RawEnds,
-    before: Option<Place>,
-    given: &mut RawEnds,
-    behind: Option<Place>,
-) -> bool
-    ensures spliced { (cut : Cut) (t : List Place) → IsAfter cut before → IsBefore cut behind → ShowsList table.old list.old (join cut)
-        → ShowsList table.old given.old t → IsDisjoint t (join cut)
-        → (result ≡ true) × Spliced table.old table.new list.old list.new 0 given.old cut t }
-    ensures emptied { result ≡ true → given.new ≡ words_of no_members }
-    ensures before { result ≡ true → StandsIn table.old before }
-    ensures behind { result ≡ true → StandsIn table.old behind }
-    ensures told { result ≡ true → TellsGap (table_of table.old) (ends_of list.old) before behind }
-    ensures ends { result ≡ true → TellsEnds (table_of table.old) (ends_of given.old) }
-    ensures apart { result ≡ true → (p : Place) → (ends_of given.old).head ≡ Some p → (ends_of list.old).head ≢ Some p }
-    ensures words { result ≡ true → list.new ≡ words_of (ends_of list.new) }
-    ensures refused { result ≡ false → (table.new ≡ table.old) × (list.new ≡ list.old) × (given.new ≡ given.old) }
-{
-    let mut links = RawTable::new(table);
-    let mut edited = list_of(&*list);
-    if !xor_list::splice(&mut links, &mut edited, before, list_of(&*given), behind) {
-        return false;
-    }
-    write_back(list, edited);
-    given.set(None, None);
-    true
+    xor_calls::replace(table, list, before, at, place)
 }
 
 /// Puts all of the given list between the neighbors `before` and `behind`, and leaves the given one empty. O(1).
 ///
 /// Where the words tell of no gap between the two or of no list that is given, and where both lists begin with the same member, it
-/// returns [`BROKEN`].
+/// returns [`BROKEN`](crate::BROKEN).
 #[unsafe(no_mangle)]
 pub extern "C" fn ic_xor_splice_between(
     table: &mut [RawOne],
@@ -458,15 +204,12 @@ pub extern "C" fn ic_xor_splice_between(
     ensures why { result ≢ 0 → result ≡ refusal (fault_at table.old (place_of before) ∷ fault_at table.old (place_of behind) ∷ []) }
     ensures status { IsStatus result }
 {
-    if !splice(table, list, place_of(before), given, place_of(behind)) {
-        return RawTable::new(table).refusal_at_both(before, behind);
-    }
-    OK
+    xor_calls::splice_between(table, list, before, given, behind)
 }
 
 /// Puts all of the given list behind all members, and leaves the given one empty. O(1).
 ///
-/// A list that begins with the same member, as the list itself, is [`BROKEN`], and so are two whose ends are none of the table.
+/// A list that begins with the same member, as the list itself, is [`BROKEN`](crate::BROKEN), and so are two whose ends are none of the table.
 #[unsafe(no_mangle)]
 pub extern "C" fn ic_xor_append(
     table: &mut [RawOne],
@@ -484,16 +227,12 @@ pub extern "C" fn ic_xor_append(
     ensures why { result ≢ 0 → result ≡ 5 }
     ensures status { IsStatus result }
 {
-    let last = place_in(list.tail);
-    if !splice(table, list, last, given, None) {
-        return BROKEN;
-    }
-    OK
+    xor_calls::append(table, list, given)
 }
 
 /// Cuts the list between the neighbors `before` and `behind`, and hands out what stands behind the cut. O(1).
 ///
-/// Where the words tell of no gap between the two, and where `rest` is not empty, it returns [`BROKEN`].
+/// Where the words tell of no gap between the two, and where `rest` is not empty, it returns [`BROKEN`](crate::BROKEN).
 #[unsafe(no_mangle)]
 pub extern "C" fn ic_xor_split_between(
     table: &mut [RawOne],
@@ -514,21 +253,12 @@ pub extern "C" fn ic_xor_split_between(
     ensures why { result ≢ 0 → result ≡ refusal (fault_at table.old (place_of before) ∷ fault_at table.old (place_of behind) ∷ []) }
     ensures status { IsStatus result }
 {
-    let mut links = RawTable::new(table);
-    let mut edited = list_of(&*list);
-    let mut part = XorLinkedList::new();
-    let (front, back) = (place_of(before), place_of(behind));
-    if !rest.is_empty() || !xor_list::split(&mut links, &mut edited, front, back, &mut part) {
-        return links.refusal_at_both(before, behind);
-    }
-    write_back(list, edited);
-    write_back(rest, part);
-    OK
+    xor_calls::split_between(table, list, before, behind, rest)
 }
 
 /// Takes all members off, which are unlinked then. O(n).
 ///
-/// Where the places do not lead from the first member to the last, it returns [`BROKEN`].
+/// Where the places do not lead from the first member to the last, it returns [`BROKEN`](crate::BROKEN).
 #[unsafe(no_mangle)]
 pub extern "C" fn ic_xor_clear(table: &mut [RawOne], list: &mut RawEnds) -> u32
     ensures cleared { (s : List Place) → Cleared table.old table.new list.old list.new result s }
@@ -538,21 +268,15 @@ pub extern "C" fn ic_xor_clear(table: &mut [RawOne], list: &mut RawEnds) -> u32
     ensures why { result ≢ 0 → result ≡ 5 }
     ensures status { IsStatus result }
 {
-    let mut links = RawTable::new(table);
-    if !xor_list::clear(&mut links, &list_of(&*list)) {
-        return BROKEN;
-    }
-    list.set(None, None);
-    OK
+    xor_calls::clear(table, list)
 }
 
-/// Turns the list round. O(1): it reads no table, and always returns [`OK`].
+/// Turns the list round. O(1): it reads no table, and always returns [`OK`](crate::OK).
 #[unsafe(no_mangle)]
 pub extern "C" fn ic_xor_reverse(list: &mut RawEnds) -> u32
     ensures ok { result ≡ 0 }
     ensures reversed { (t : Table RawOne) (s : List Place) → Shows t (ends_of list.old) s → Shows t (ends_of list.new) (reverse s) }
     ensures words { list.new ≡ record { head = list.old.tail; tail = list.old.head } }
 {
-    mem::swap(&mut list.head, &mut list.tail);
-    OK
+    xor_calls::reverse(list)
 }

@@ -1,9 +1,9 @@
 use Rattle.std.proofs.Common.{◌≡◌, [], ◌∷◌, subst}
 use Rattle.ic_link_ops.specs.Sequences.{at_back}
-use Rattle.ic_ffi.specs.declared.gap.Side.TheVariants.{Before}
-use Rattle.ic_ffi.specs.Answers.{refusal}
-use Rattle.ic_ffi.specs.Doubly.{TellsGap, table_of, ends_of, fault_at}
-use Rattle.ic_ffi.proofs.Numbers.{none_named}
+use Rattle.ic_raw.specs.declared.gap.Side.TheVariants.{Before}
+use Rattle.ic_raw.specs.Answers.{refusal}
+use Rattle.ic_raw.specs.Doubly.{TellsGap, table_of, ends_of, fault_at}
+use Rattle.ic_raw.proofs.Numbers.{none_named}
 use Rattle.ic_ffi.proofs.list_calls.ic_list_append.Goals as goal
 
 pub returns-clause-spliced : goal.returns-clause-spliced

@@ -1,10 +1,10 @@
 use Rattle.std.proofs.Common.{◌≡◌, [], ◌∷◌, subst}
 use Rattle.ic_link_ops.specs.Sequences.{at_front}
-use Rattle.ic_ffi.specs.declared.gap.Side.TheVariants.{After}
-use Rattle.ic_ffi.specs.Answers.{refusal}
-use Rattle.ic_ffi.specs.Words.{place_of}
-use Rattle.ic_ffi.specs.Doubly.{TellsGap, table_of, ends_of, fault_at, fault_of}
-use Rattle.ic_ffi.proofs.Numbers.{none_named}
+use Rattle.ic_raw.specs.declared.gap.Side.TheVariants.{After}
+use Rattle.ic_raw.specs.Answers.{refusal}
+use Rattle.ic_raw.specs.Words.{place_of}
+use Rattle.ic_raw.specs.Doubly.{TellsGap, table_of, ends_of, fault_at, fault_of}
+use Rattle.ic_raw.proofs.Numbers.{none_named}
 use Rattle.ic_ffi.proofs.list_calls.ic_list_push_front.Goals as goal
 
 pub returns-clause-inserted : goal.returns-clause-inserted

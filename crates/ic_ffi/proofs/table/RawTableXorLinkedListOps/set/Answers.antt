@@ -1,5 +1,0 @@
-use Rattle.ic_ffi.proofs.Entries.{changes_only}
-use Rattle.ic_ffi.proofs.table.RawTableXorLinkedListOps.set.Goals as goal
-
-pub returns-clause-frame : goal.returns-clause-frame
-returns-clause-frame g c = changes_only _ _ _ _ _ c.index.ensures.value

@@ -1,5 +1,0 @@
-use Rattle.ic_ffi.proofs.tree.hand_out.Goals as goal
-
-pub returns-then-tell-clause-linked : goal.returns-then-tell-clause-linked
-returns-then-tell-clause-linked c ok =
-    let told = c.tell.ensures.told c.if-tell.true in (told.0, told.2, told.3)

@@ -1,9 +1,0 @@
-use Rattle.std.proofs.Common.{refl}
-use Rattle.ic_ffi.proofs.Lists.{removed}
-use Rattle.ic_ffi.proofs.xor_list.take_out.Goals as goal
-
-pub returns-clause-removed : goal.returns-clause-removed
-returns-clause-removed c front back shown before behind =
-    let off = c.bypass.ensures in
-    let released = c.release_link.ensures in
-    (refl, removed front c.args.member back before behind shown off.shows off.extent off.others released.frame, released.released.is)

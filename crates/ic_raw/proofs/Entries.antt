@@ -1,0 +1,75 @@
+-- The words of a table as they are written.
+use Rattle.std.proofs.Common.{◌≡◌, ℕ, List, Bool, true, false, Option, slice_set, slice_index_or, ◌+◌, ◌%◌, nat_eq, eqb-true, eq-eqb, sym, ap, ◌∙◌, arith}
+use Rattle.std.proofs.lemmas.List.{length-set}
+use Rattle.ic_unsafe_ref.specs.declared.place.Place.{Place}
+use Rattle.ic_unsafe_ref.specs.PlaceWords.{IsWord}
+use Rattle.ic_unsafe_ref.specs.Places.{index_of, word_of, place_at}
+use Rattle.ic_unsafe_ref.proofs.PlaceLemmas.{place_at_word, word_at, word_fits}
+use Rattle.ic_link_ops.specs.PlainTables.{entry_at, table_with}
+use Rattle.ic_link_ops.specs.Tables.{ChangesOnly}
+use Rattle.ic_link_ops.specs.EntryLaws.{linked_in_range}
+use Rattle.ic_link_ops.proofs.EntryLemmas.{entry_same, entry_read, others_same}
+use Rattle.ic_raw.specs.Words.{number_in, place_in}
+
+-- a write at p changes only the entry of p
+pub changes_only : {E : Type 0} (d : E) {identity : List ℕ} (es : List E) (p : Place) (e : E) (i : ℕ) → i ≡ index_of p
+    → ChangesOnly (table_with d identity es) (table_with d identity (slice_set es i e)) p
+changes_only d {identity} es p e i at_p = record {
+  extent = ap (λ (n : ℕ). record { places = n; identity = identity }) (length-set es i e);
+  others = others_same d es p e i at_p;
+}
+
+-- the number that a word keeps is that of a place or 0, and so it is read as the number of the place that it names
+pub number_fits : (v : ℕ) → IsWord (number_in v)
+number_fits v = (omega arith, omega arith)
+
+pub number_read : (v : ℕ) → word_of (place_in v) ≡ number_in v
+number_read v = word_at (number_in v) (number_fits v)
+
+-- and a place is kept as it is
+pub place_kept : (p : Option Place) → place_in (word_of p) ≡ p
+place_kept p =
+    let fits = word_fits p in
+    let same : number_in (word_of p) ≡ word_of p = omega (arith, fits.0, fits.1) in
+    ap place_at same ∙ place_at_word p
+
+-- a word as a call writes it names its place: that of a place alone, and that of what is behind a linked one
+pub named : (v : ℕ) (place : Option Place) → v ≡ word_of place → place_in v ≡ place
+named v place e = ap place_in e ∙ place_kept place
+
+pub named_marked : (v : ℕ) (next : Option Place) → v ≡ word_of next + 1 → (nat_eq (v % 2) 1 ≡ true) × (place_in v ≡ next)
+named_marked v next e =
+    let fits = word_fits next in
+    let number : number_in v ≡ word_of next = omega (arith, e, fits.0, fits.1) in
+    let marked : v % 2 ≡ 1 = omega (arith, e, fits.0, fits.1) in
+    (eq-eqb (v % 2) 1 marked, ap place_at number ∙ place_at_word next)
+
+-- one comparison tells that a word is marked, and which place it names
+pub is_led : (v : ℕ) (next : Option Place) → number_in v + v % 2 ≡ word_of next + 1 → (nat_eq (v % 2) 1 ≡ true) × (place_in v ≡ next)
+is_led v next same =
+    let fits = word_fits next in
+    let marked : v % 2 ≡ 1 = omega (arith, same, fits.0, fits.1) in
+    let number : number_in v ≡ word_of next = omega (arith, same, fits.0, fits.1) in
+    (eq-eqb (v % 2) 1 marked, ap place_at number ∙ place_at_word next)
+
+pub leads : (v : ℕ) (next : Option Place) → nat_eq (v % 2) 1 ≡ true → next ≡ place_in v → number_in v + v % 2 ≡ word_of next + 1
+leads v next marked is =
+    let one : v % 2 ≡ 1 = eqb-true (v % 2) 1 marked in
+    let number : number_in v ≡ word_of next = sym (ap word_of is ∙ number_read v) in
+    omega (arith, one, number)
+
+-- two places with the same word are one
+pub one_word : (a b : Option Place) {v w : ℕ} → v ≡ word_of a → w ≡ word_of b → v ≡ w → a ≡ b
+one_word a b e f k = sym (place_at_word a) ∙ ap place_at (sym e ∙ k ∙ f) ∙ place_at_word b
+
+pub same_word : (a b : Option Place) {v w : ℕ} → v ≡ word_of a → w ≡ word_of b → nat_eq v w ≡ true → a ≡ b
+same_word a b {v} {w} e f k = one_word a b e f (eqb-true v w k)
+
+module _ {E : Type 0} (is_linked : E → Bool) (d : E) (starts : is_linked d ≡ false) where
+  -- A WRITE AT A LINKED PLACE CHANGES WHAT THE ENTRY SAYS as it changes what was read there
+  pub says_written : {R : Type 0} (says : E → R) (change : R → R) (es : List E) (p : Place) (old new beyond : E) (i : ℕ) → i ≡ index_of p
+      → is_linked (entry_at d es p) ≡ true → old ≡ slice_index_or es i beyond → says new ≡ change (says old)
+      → says (entry_at d (slice_set es i new) p) ≡ change (says (entry_at d es p))
+  says_written says change es p old new beyond i at_p linked read written =
+      let covered = linked_in_range is_linked d starts es (index_of p) linked in
+      ap says (entry_same d es p new i at_p covered) ∙ written ∙ ap (λ e. change (says e)) (sym (entry_read d es p old beyond i at_p covered read))

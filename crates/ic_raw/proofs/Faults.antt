@@ -1,0 +1,39 @@
+-- Why a call is refused, as it tests one place after another.
+use Rattle.std.proofs.Common.{◌≡◌, ◌≢◌, ℕ, zero, suc, Bool, cond, nat_lt, List, [], ◌∷◌, Option, Some, None, refl, sym, ap, subst, ◌∙◌}
+use Rattle.ic_unsafe_ref.specs.declared.place.Place.{Place}
+use Rattle.ic_unsafe_ref.specs.Places.{index_of}
+use Rattle.ic_link_ops.specs.PlainTables.{table_of}
+use Rattle.ic_link_ops.specs.Tables.{Table}
+use Rattle.ic_raw.specs.declared.table.RawTable.{RawTable}
+use Rattle.ic_raw.specs.Answers.{refusal}
+use Rattle.ic_raw.specs.Gaps.{Stands}
+use Rattle.ic_raw.specs.Tables.{raw_table, member_fault, place_fault}
+use Rattle.ic_raw.specs.Words.{place_of}
+use Rattle.ic_raw.proofs.Numbers.{none_named}
+
+-- by the first fault,
+pub by_first : {n m : ℕ} (faults : List ℕ) → n ≡ m → n ≢ 0 → n ≡ refusal (m ∷ faults)
+by_first {n = zero} faults e fault = absurd (fault refl)
+by_first {n = suc n} {m} faults e fault = ap (λ k. refusal (k ∷ faults)) e
+
+-- and where there is none by the others
+pub by_others : {n m : ℕ} (faults : List ℕ) → n ≡ m → n ≡ 0 → refusal faults ≡ refusal (m ∷ faults)
+by_others {n} {m} faults e none = ap (λ k. refusal (k ∷ faults)) (sym none ∙ e)
+
+-- what stands has no fault
+pub faultless : {W : Type 0} (is_linked : W → Bool) (t : Table W) (at : Option Place) → Stands is_linked t at → member_fault is_linked t at ≡ 0
+faultless is_linked t None stands = refl
+faultless is_linked t (Some p) stands = ap (λ b. cond b 0 (cond (nat_lt (index_of p) t.extent.places) 3 1)) (stands p refl)
+
+-- at an end a place has no fault but its own: that of the view is that of the words that were lent
+module _ {W : Type 0} (is_linked : W → Bool) (unlinked : W) (t : RawTable W) where
+  pub place_fault_back : (place : Option Place) → place_fault is_linked (raw_table unlinked t) place ≡ place_fault is_linked (table_of unlinked t.entries.now) place
+  place_fault_back None = refl
+  place_fault_back (Some p) = refl
+
+  pub end_fault : {es : List W} (place : Option Place) {n : ℕ} → t.entries.now ≡ es
+      → n ≡ refusal (member_fault is_linked (raw_table unlinked t) (place_of 4294967295) ∷ place_fault is_linked (raw_table unlinked t) place ∷ [])
+      → n ≡ refusal (place_fault is_linked (table_of unlinked es) place ∷ [])
+  end_fault place {n} e why =
+      let alone = subst (λ at. n ≡ refusal (member_fault is_linked (raw_table unlinked t) at ∷ place_fault is_linked (raw_table unlinked t) place ∷ [])) none_named why in
+      rw (← e) (alone ∙ ap (λ m. refusal (m ∷ [])) (place_fault_back place))

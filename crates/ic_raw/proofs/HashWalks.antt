@@ -1,0 +1,112 @@
+-- A walk along a chain of a hash table, with a bound on its steps.
+use Rattle.std.proofs.Common.{◌≡◌, ◌≢◌, ◌≤◌, ◌-◌, ℕ, inl, inr, Bool, true, false, Option, Some, None, List, [], ◌∷◌, ◌++◌, drop, length, length-append, append_assoc, refl, sym, ap, ◌∙◌, subst, arith}
+use Rattle.std.specs.List.{AllByRecursion}
+use Rattle.std.proofs.lemmas.Bool.Decides.{eqb_tells}
+use Rattle.ic_unsafe_ref.specs.declared.place.Place.{Place}
+use Rattle.ic_link_ops.specs.Sequences.{first, last, but_last, IsDistinct, IsMember}
+use Rattle.ic_link_ops.specs.Tables.{Table, IsCovered, IsLinked}
+use Rattle.ic_link_ops.specs.SinglyLinkedList.{Front, IsFollowed, list_from, successor_at}
+use Rattle.ic_link_ops.specs.PlainTables.{entry_at}
+use Rattle.ic_link_ops.proofs.Chains.{chain_cut}
+use Rattle.ic_link_ops.proofs.Clearing.{next_between, releases_all}
+use Rattle.ic_link_ops.proofs.SequenceLemmas.{distinct_right, first_is, same_gap, last_of_push, but_last_of_push, split_member}
+use Rattle.ic_link_ops.proofs.ShownLists.{shows_middle}
+use Rattle.ic_link_ops.proofs.SinglyLists.{shown_length}
+use Rattle.ic_hash_table.specs.Searches.{is_place, Finds}
+use Rattle.ic_hash_table.proofs.ChainWalks.{HasPassed, passed_none, passed_more}
+use Rattle.ic_hash_table.proofs.FoundMembers.{place_absent}
+use Rattle.ic_raw.specs.declared.words.RawOne.{RawOne}
+use Rattle.ic_raw.specs.declared.table.RawTable.{RawTable}
+use Rattle.ic_raw.specs.Hash.{has_key, NamesKey}
+use Rattle.ic_raw.specs.Keys.{key_of}
+use Rattle.ic_raw.specs.Singly.{Shows, lent_table, successor}
+use Rattle.ic_raw.specs.Tables.{raw_entries}
+use Rattle.ic_raw.specs.Words.{is_linked_one, no_word, HasNumber}
+use Rattle.ic_raw.proofs.Singly.{behind_any}
+
+-- THE WALK HAS COME to `current`, past members of s that fail a test, of which `before` is the last. No more members are left than steps
+pub record Comes (is : Place → Bool) (t : Table RawOne) (s : List Place) (before current : Option Place) (left : ℕ) : Type 0 where
+  pub passed : HasPassed (IsFollowed successor) is t s before current
+  pub few : length passed.walk.rest ≤ left
+
+-- another key than that which is searched
+pub other_key : (keys : List ℕ) (key : ℕ) (p : Place) → key_of keys p ≢ key → has_key keys key p ≡ false
+other_key keys key p other = elim (eqb_tells (key_of keys p) key) [ inl e ↦ absurd (other e.1) | inr n ↦ n.0 ]
+
+none_left : (w : List Place) → length w ≤ 0 → first w ≡ None
+none_left [] few = refl
+none_left (x ∷ w) few = absurd (omega (arith, few))
+
+module _ {is : Place → Bool} {t : Table RawOne} {s : List Place} where
+  pub comes_first : {front : Option Place} → ((q : Place) → is_linked_one (t.entry q) ≡ true → IsCovered t q) → Shows t (list_from front) s
+      → Comes is t s None front t.extent.places
+  comes_first covered shown =
+      let k = passed_none shown.chain shown.head in record {
+        passed = k.0;
+        few = omega (arith, k.1, ap length k.0.walk.parts, length-append k.0.walk.done k.0.walk.rest, shown_length t covered _ s shown);
+      }
+
+  module _ {before : Option Place} {p : Place} {left : ℕ} (k : Comes is t s before (Some p) left) where
+    -- a member is linked,
+    pub comes_linked : is_linked_one (t.entry p) ≡ true
+    comes_linked = (next_between k.passed.walk).linked
+
+    -- and in front of it stand those that fail
+    pub comes_parts : s ≡ k.passed.walk.done ++ p ∷ drop 1 k.passed.walk.rest
+    comes_parts = k.passed.walk.parts ∙ ap (λ (l : List Place). k.passed.walk.done ++ l) (first_is k.passed.walk.rest k.passed.walk.at)
+
+    -- ONE MEMBER ON, which fails
+    pub comes_on : {next : Option Place} → IsDistinct s → is p ≡ false → next ≡ (successor_at successor t p).next → Comes is t s (Some p) next (left - 1)
+    comes_on d fails behind =
+        let more = passed_more d k.passed fails (behind ∙ (next_between k.passed.walk).next) in
+        record { passed = more.0; few = omega (arith, k.few, ap length {y = p ∷ more.0.walk.rest} more.1) }
+
+    -- THE FIRST MEMBER THAT PASSES
+    pub comes_found : is p ≡ true → Finds is s (Some p)
+    comes_found passes = (k.passed.walk.done, drop 1 k.passed.walk.rest, comes_parts, k.passed.passed, passes)
+
+  -- it is over where no step is left, and then all fail
+  pub comes_over : {before current : Option Place} {left : ℕ} → Comes is t s before current left → left ≤ 0 → current ≡ None
+  comes_over k over = k.passed.walk.at ∙ none_left k.passed.walk.rest (omega (arith, k.few, over))
+
+  pub comes_to_none : {before current : Option Place} {left : ℕ} → Comes is t s before current left → current ≡ None → Finds is s None
+  comes_to_none k over = subst (AllByRecursion (λ p. is p ≡ false)) (releases_all k.passed.walk over) k.passed.passed
+
+-- A PLACE IS WALKED TO: it is a member,
+module _ {t : Table RawOne} (member : Place) where
+  pub met : {s : List Place} {before : Option Place} {p : Place} {left : ℕ} → Comes (is_place member) t s before (Some p) left → p ≡ member → IsMember member s
+  met k same = subst (IsMember member) (sym (comes_parts k ∙ ap (λ (q : Place). k.passed.walk.done ++ q ∷ drop 1 k.passed.walk.rest) same)) (split_member k.passed.walk.done member (drop 1 k.passed.walk.rest))
+
+  -- behind the last of those in front of it,
+  pub met_behind : (ahead back : List Place) {before : Option Place} {p : Place} {left : ℕ} → IsDistinct (ahead ++ member ∷ back)
+      → Comes (is_place member) t (ahead ++ member ∷ back) before (Some p) left → p ≡ member → before ≡ last ahead
+  met_behind ahead back d k same =
+      let done = k.passed.walk.done in
+      let rest = drop 1 k.passed.walk.rest in
+      let whole : ahead ++ member ∷ back ≡ done ++ member ∷ rest = comes_parts k ∙ ap (λ (q : Place). done ++ q ∷ rest) same in
+      let one = append_assoc ahead (member ∷ []) back in
+      let other = append_assoc done (member ∷ []) rest in
+      let fronts = (same_gap (record { front = ahead ++ member ∷ []; back = back }) (record { front = done ++ member ∷ []; back = rest })
+      (subst IsDistinct (sym one) d) (one ∙ whole ∙ sym other) (last_of_push ahead member ∙ sym (last_of_push done member))).0 in
+      k.passed.keeps ∙ ap last (sym (but_last_of_push done member) ∙ ap but_last (sym fronts) ∙ but_last_of_push ahead member)
+
+  -- and no walk to it comes to an end
+  pub not_missed : (ahead back : List Place) {before current : Option Place} {left : ℕ} → Comes (is_place member) t (ahead ++ member ∷ back) before current left → current ≡ None → ⊥
+  not_missed ahead back k over = split_member ahead member back (place_absent member (ahead ++ member ∷ back) (comes_to_none k over))
+
+-- BEHIND A MEMBER stands a list of its own: no entry says what stands in front of its place
+pub shown_behind : {t : Table RawOne} {list : Front} (front : List Place) (p : Place) (back : List Place) → Shows t list (front ++ p ∷ back)
+    → Shows t (list_from (successor_at successor t p).next) back
+shown_behind {t} front p back shown =
+    let m = shows_middle front back shown in
+    record {
+      distinct = (distinct_right front (p ∷ back) shown.distinct).1;
+      chain = behind_any t.entry (Some p) None back None (chain_cut (IsFollowed successor) t.entry None front (p ∷ back) None shown.chain).1.1;
+      head = m.next;
+      tail = refl;
+    }
+
+-- what is named in the view is named among the words
+pub names_back : {words : List RawOne} (t : RawTable RawOne) (keys : List ℕ) (key number : ℕ) → raw_entries t ≡ words
+    → (q : Place) × IsLinked is_linked_one (lent_table t) q × (has_key keys key q ≡ true) × HasNumber q number → NamesKey words keys key number
+names_back t keys key number e names = (names.0, ap (λ fs. is_linked_one (entry_at no_word fs names.0)) (sym e) ∙ names.1, names.2, names.3)

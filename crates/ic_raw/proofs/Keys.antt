@@ -1,0 +1,139 @@
+-- Members that searches find.
+use Rattle.std.proofs.Common.{◌≡◌, ℕ, ◌+◌, ◌<◌, ◌≤◌, Bool, true, false, cond, Option, Some, None, List, [], ◌∷◌, length, refl, sym, ap, ◌∙◌, subst, arith}
+use Rattle.std.proofs.lemmas.Bool.{ltb-true, lt-ltb, le-ltb}
+use Rattle.std.specs.Ordering.{is_eq}
+use Rattle.std.specs.declared.cmp.Ordering.{Ordering}
+use Rattle.ic_unsafe_ref.specs.declared.place.Place.{Place}
+use Rattle.ic_unsafe_ref.specs.Objects.{is_placed, at_indexes}
+use Rattle.ic_unsafe_ref.specs.Places.{index_of}
+use Rattle.ic_unsafe_ref.proofs.IndexLemmas.{placed_in_range}
+use Rattle.ic_link_ops.specs.declared.side.Side.{Side}
+use Rattle.ic_link_ops.specs.declared.side.Side.TheVariants.{Left, Right}
+use Rattle.ic_link_ops.specs.Sequences.{Cut, join, first}
+use Rattle.ic_link_ops.specs.Frames.{child_on}
+use Rattle.ic_link_ops.specs.Tables.{Table, IsCovered}
+use Rattle.ic_link_ops.specs.RedBlackTree as trees
+use Rattle.ic_link_ops.specs.Trees.{Tree}
+use Rattle.ic_rbtree.specs.Closed.{AreIn}
+use Rattle.ic_rbtree.specs.Borders.{IsBorder, Finds, less_at, at_most_at, if_passes, equal_at}
+use Rattle.ic_rbtree.specs.Descents as descents
+use Rattle.ic_rbtree.specs.Comparing.{goes_left}
+use Rattle.ic_rbtree.specs.Descents.{gap_in, passed, side_of}
+use Rattle.ic_rbtree.specs.declared.keys.descent.Descent.{Descent}
+use Rattle.ic_rbtree.proofs.Gaps.{gap_join, gap_border}
+use Rattle.ic_rbtree.proofs.Sending.{Sent, sent_first, sent_on, sent_ends}
+use Rattle.ic_raw.specs.declared.words.RawThree.{RawThree}
+use Rattle.ic_raw.specs.declared.search.Way.{Way}
+use Rattle.ic_raw.specs.declared.search.Target.{Target}
+use Rattle.ic_raw.specs.declared.search.Target.TheVariants.{Equal, AtLeast, AtMost}
+use Rattle.ic_raw.specs.Gaps.{Stands}
+use Rattle.ic_raw.specs.Keys.{keys_fault, at_root, past, EndsIn, IsTarget}
+use Rattle.ic_raw.specs.Seen.{seen, seen_node, has_place}
+use Rattle.ic_raw.specs.Tree.{Shows, IsHole}
+use Rattle.ic_raw.specs.Words.{is_linked_three}
+use Rattle.ic_raw.proofs.Trees.{beside_stands, hole_told, seen_shows}
+
+-- each place of the table has a key
+pub keyed : (t : Table RawThree) (keys : List ℕ) → t.extent.places ≤ length keys → (p : Place) → has_place t p ≡ true → is_placed (at_indexes keys) p ≡ true
+keyed t keys enough p has = let covered = ltb-true (index_of p) t.extent.places has in placed_in_range keys p (omega (arith, covered, enough))
+
+-- ON THE WAY: the search has come to `here`, past so many members, as a descent with the same ends has
+pub record Comes (t : Table RawThree) (root : Option Place) (at : Place → Ordering) (equals : Side) (tree : Tree) (here : Option Place) (way : Way) (looks : ℕ) : Type 0 where
+  pub descent : Descent
+  pub sent : Sent seen_node (seen t) root at equals tree here descent 0 looks
+  pub parent : way.parent ≡ descent.parent
+  pub side : way.side ≡ descent.side
+  pub front : way.front ≡ descent.front
+  pub back : way.back ≡ descent.back
+
+module _ (t : Table RawThree) {root : Option Place} {at : Place → Ordering} {equals : Side} where
+  pub comes_first : {s : List Place} {way : Way} {here : Option Place} → way ≡ at_root → here ≡ root → (h : trees.Shows seen_node (seen t) root s) → Comes t root at equals h.tree here way 0
+  comes_first is top h = record {
+    descent = descents.at_root;
+    sent = subst (λ o. Sent seen_node (seen t) root at equals h.tree o descents.at_root 0 0) (sym top) (sent_first seen_node refl 0 h);
+    parent = ap (λ (w : Way). w.parent) is;
+    side = ap (λ (w : Way). w.side) is;
+    front = ap (λ (w : Way). w.front) is;
+    back = ap (λ (w : Way). w.back) is;
+  }
+
+  module _ {tree : Tree} {way : Way} {p : Place} {looks : ℕ} (x : Comes t root at equals tree (Some p) way looks) where
+    -- past one more member
+    pub comes_on : {next : Option Place} {way' : Way} {more : ℕ} {order : Ordering} (left : Bool) → way' ≡ past way p left → order ≡ at p → left ≡ goes_left equals order
+        → next ≡ child_on (side_of left) (seen_node ((seen t).entry p)) → more ≡ looks + 1 → Comes t root at equals tree next way' more
+    comes_on {next} {way'} {more} {order} left is there goes below counted = by left is (sent_on seen_node x.sent refl left refl there goes refl below counted) where
+      by : (left : Bool) → way' ≡ past way p left → Sent seen_node (seen t) root at equals tree next (passed x.descent p left (is_eq order)) 0 more → Comes t root at equals tree next way' more
+      by true e sent = record { descent = passed x.descent p true (is_eq order); sent = sent; parent = ap (λ (w : Way). w.parent) e; side = ap (λ (w : Way). w.side) e; front = ap (λ (w : Way). w.front) e ∙ x.front; back = ap (λ (w : Way). w.back) e }
+      by false e sent = record { descent = passed x.descent p false (is_eq order); sent = sent; parent = ap (λ (w : Way). w.parent) e; side = ap (λ (w : Way). w.side) e; front = ap (λ (w : Way). w.front) e; back = ap (λ (w : Way). w.back) e ∙ x.back }
+
+  -- at the end
+  pub comes_to_end : {tree : Tree} {here : Option Place} {way : Way} {looks : ℕ} → Comes t root at equals tree here way looks → here ≡ None → EndsIn t (gap_in (λ p. goes_left equals (at p)) tree) way
+  comes_to_end {tree} x none =
+      let ends = sent_ends seen_node x.sent none in
+      record {
+        hole = rw (x.parent, x.side) ends.hole;
+        front_is = x.front ∙ ends.front_is;
+        back_is = x.back ∙ ends.back_is;
+      }
+
+-- THE FOUND MEMBER is the one behind the gap, if its key is equal
+pub finds : {t : Table RawThree} {root : Option Place} {at : Place → Ordering} {s : List Place} (h : trees.Shows seen_node (seen t) root s) {way : Way} → EndsIn t (gap_in (at_most_at at) h.tree) way
+    → {result : Option Place} → result ≡ if_passes (equal_at at) way.back → Finds at s result
+finds {at = at} h ends is = record {
+  gap = gap_in (at_most_at at) h.tree;
+  same = gap_join (at_most_at at) h.tree ∙ h.held.order;
+  border = gap_border (at_most_at at) h.tree;
+  answer = is ∙ ap (if_passes (equal_at at)) ends.back_is;
+}
+
+-- all that a way keeps is in a set, and so it is past one more place of it
+pub past_within : (S : Place → Bool) (way : Way) (p : Place) (left : Bool) → S p ≡ true → AreIn S (way.parent ∷ way.front ∷ way.back ∷ [])
+    → AreIn S ((past way p left).parent ∷ (past way p left).front ∷ (past way p left).back ∷ [])
+past_within S way p true here ends = (here, (ends.1.0, (here, tt)))
+past_within S way p false here ends = (here, (here, (ends.1.1.0, tt)))
+
+-- there are too few keys, or enough
+pub lacking : (keys : List ℕ) (places : ℕ) → length keys < places → 1 ≡ keys_fault keys places
+lacking keys places few = ap (λ b. cond b 1 0) (sym (lt-ltb (length keys) places few))
+
+pub enough : (keys : List ℕ) (places : ℕ) → places ≤ length keys → 0 ≡ keys_fault keys places
+enough keys places all = ap (λ b. cond b 1 0) (sym (le-ltb (length keys) places all))
+
+-- a place that passes is the one that is tested
+passes : (test : Place → Bool) (o : Option Place) (q : Place) → if_passes test o ≡ Some q → o ≡ Some q
+passes test None q e = e
+passes test (Some p) q e = pick (test p) e where
+  pick : (b : Bool) → cond b (Some p) None ≡ Some q → Some p ≡ Some q
+  pick true e = e
+  pick false e = cc
+
+-- a member that is searched is linked
+pub target_stands : {t : Table RawThree} {root : Option Place} {s : List Place} (target : Target) (at : Place → Ordering) → Shows t root s → {position : Option Place} → IsTarget target at s position
+    → Stands is_linked_three t position
+target_stands {t} {root} Equal at shown f =
+    λ q is. beside_stands Left f.gap (subst (Shows t root) (sym f.same) shown) refl q (passes (equal_at at) (first f.gap.back) q (sym f.answer ∙ is))
+target_stands {t} {root} AtLeast at shown b = beside_stands Left b.gap (subst (Shows t root) (sym b.same) shown) b.before
+target_stands {t} {root} AtMost at shown b = beside_stands Right b.gap (subst (Shows t root) (sym b.same) shown) b.after
+
+-- A PLACE FITS into a gap where a search past equal keys ends
+pub record Fits (t : Table RawThree) (root : Option Place) (at : Place → Ordering) (s : List Place) (side : Side) (parent : Option Place) : Type 0 where
+  pub gap : Cut
+  pub same : join gap ≡ s
+  pub border : IsBorder (less_at at) gap
+  pub shown : Shows t root (join gap)
+  pub hole : IsHole side t parent gap
+
+pub fits : (t : Table RawThree) → ((q : Place) → is_linked_three (t.entry q) ≡ true → IsCovered t q) → {root parent : Option Place} {at : Place → Ordering} {s : List Place} (way : Way)
+    → Shows t root s → parent ≡ way.parent → ((s : List Place) (h : trees.Shows seen_node (seen t) root s) → EndsIn t (gap_in (less_at at) h.tree) way) → Fits t root at s way.side parent
+fits t law {root} {parent} {at} {s} way shown is ends =
+    let h = seen_shows t law shown in
+    let gap : Cut = gap_in (less_at at) h.tree in
+    let same : join gap ≡ s = gap_join (less_at at) h.tree ∙ h.held.order in
+    let shows = subst (Shows t root) (sym same) shown in
+    record {
+      gap = gap;
+      same = same;
+      border = gap_border (less_at at) h.tree;
+      shown = shows;
+      hole = subst (λ o. IsHole way.side t o gap) (sym is) (hole_told t law way.side way.parent gap shows (ends s h).hole);
+    }

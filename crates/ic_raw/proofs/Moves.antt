@@ -1,0 +1,150 @@
+-- Where a member goes that is moved: a gap of the others is one of all members.
+use Rattle.std.proofs.Common.{◌≡◌, ◌⊎◌, inl, inr, Option, Some, None, List, [], ◌∷◌, ◌++◌, drop, refl, sym, ap, subst, ◌∙◌, append_assoc, append-nil}
+use Rattle.ic_unsafe_ref.specs.declared.place.Place.{Place}
+use Rattle.ic_link_ops.specs.Sequences.{Cut, join, insert, first, last, IsAbsent, IsDistinct}
+use Rattle.ic_link_ops.specs.Chains.{Ends}
+use Rattle.ic_link_ops.proofs.SequenceLemmas.{none_not, some_same, absent_right, distinct_middle, last_not, gap_not, last_or-append, last_of_push}
+use Rattle.ic_raw.specs.declared.gap.Gap.{Gap}
+use Rattle.ic_raw.specs.declared.gap.Side.{Side}
+use Rattle.ic_raw.specs.declared.gap.Side.TheVariants.{After, Before}
+use Rattle.ic_raw.specs.Gaps.{IsApart, IsBeside, gap_of, outermost, toward}
+use Rattle.ic_raw.specs.Doubly.{IsEnd, end_on}
+use Rattle.ic_raw.proofs.Doubly.{first_kept, last_kept}
+
+-- the ends of a sequence
+abbrev pub ends : List Place → Ends
+ends s = record { head = first s; tail = last s }
+
+-- TWO CUTS OF ONE SEQUENCE: the front of one begins with that of the other
+pub two_cuts : (a b c d : List Place) → a ++ b ≡ c ++ d → ((m : List Place) × (a ≡ c ++ m) × (d ≡ m ++ b)) ⊎ ((m : List Place) × (c ≡ a ++ m) × (b ≡ m ++ d))
+two_cuts a b [] d e = inl (a, refl, sym e)
+two_cuts [] b (y ∷ c) d e = inr (y ∷ c, refl, e)
+two_cuts (x ∷ a) b (y ∷ c) d e =
+    let one : x ≡ y = some_same (ap first e) in
+    let other : y ≡ x = sym one in
+    elim (two_cuts a b c d (ap (λ (s : List Place). drop 1 s) e)) [
+      | inl r ↦ inl (r.0, (λ k. one k ∷ r.1 k), r.2)
+      | inr r ↦ inr (r.0, (λ k. other k ∷ r.1 k), r.2)
+    ]
+
+-- a gap with a place on both sides has one toward either
+pub toward_either : (side : Side) (gap : Gap) → (q : Place) × (gap.before ≡ Some q) → (q : Place) × (gap.behind ≡ Some q) → (q : Place) × (toward side gap ≡ Some q)
+toward_either After gap before behind = before
+toward_either Before gap before behind = behind
+
+-- where a member has one toward an end, that end is the same without it
+pub end_left : (side : Side) (front : List Place) (p : Place) (back : List Place) {q : Place} → Some q ≡ toward side (gap_of (record { front = front; back = back }))
+    → gap_of (outermost side (front ++ p ∷ back)) ≡ gap_of (outermost side (front ++ back))
+end_left After front p back e =
+    let starts : first (front ++ p ∷ back) ≡ first (front ++ back) = first_kept front (p ∷ back) e ∙ sym (first_kept front back e) in
+    (λ k. record { before = None; behind = starts k })
+end_left Before front p back f =
+    let ends : last (front ++ p ∷ back) ≡ last (front ++ back) = last_kept front p back f in
+    (λ k. record { before = ends k; behind = None })
+
+-- the outermost gap is beside none, and so is that in which the member at that end stands
+pub outermost_beside : (side : Side) (s : List Place) {at : Option Place} → at ≡ None → IsBeside side (outermost side s) at
+outermost_beside After s e = e
+outermost_beside Before s e = e
+
+pub outermost_whole : (side : Side) (s : List Place) → join (outermost side s) ≡ s
+outermost_whole After s = refl
+outermost_whole Before s = append-nil s
+
+pub end_beside : (side : Side) (front back : List Place) {at : Option Place} → IsEnd side front back → at ≡ None → IsBeside side (record { front = front; back = back }) at
+end_beside After front back end e = e ∙ ap last (sym end)
+end_beside Before front back end e = e ∙ ap first (sym end)
+
+-- the member at an end is beside the outermost gap there, and nowhere else
+pub stands_at_end : (side : Side) (front : List Place) (p : Place) (back : List Place) → IsDistinct (front ++ p ∷ back) → end_on side (ends (front ++ p ∷ back)) ≡ Some p
+    → IsEnd side front back
+stands_at_end After [] p back d e = refl
+stands_at_end After (x ∷ front) p back d e = absurd ((absent_right x front (p ∷ back) d.0).0 (some_same e))
+stands_at_end Before front p [] d e = refl
+stands_at_end Before front p (x ∷ back) d e =
+    absurd (last_not (Some x) back p (λ k. out.0 (sym (some_same k))) out.1 (sym (last_or-append None front (p ∷ x ∷ back)) ∙ e)) where
+      out : IsAbsent p (x ∷ back)
+      out = absent_right p front (x ∷ back) (distinct_middle front (x ∷ back) p d)
+
+pub end_inserted : (side : Side) (front : List Place) (p : Place) (back : List Place) → IsEnd side front back → insert (outermost side (front ++ back)) p ≡ front ++ p ∷ back
+end_inserted After front p back end = rw end refl
+end_inserted Before front p back end = rw (end, append-nil) refl
+
+-- a member at an end has none on that side
+pub not_inner : (side : Side) (front back : List Place) {q : Place} → IsEnd side front back → Some q ≡ toward side (gap_of (record { front = front; back = back })) → ⊥
+not_inner After front back {q} end e = none_not q (sym (e ∙ ap last end))
+not_inner Before front back {q} end e = none_not q (sym (e ∙ ap first end))
+
+-- a gap of all members that is beside `at`, where p is one of them
+pub record IsWhole (side : Side) (at : Option Place) (p : Place) (front back : List Place) (whole : Cut) : Type 0 where
+  pub same : join whole ≡ front ++ p ∷ back
+  pub beside : IsBeside side whole at
+
+-- where p stands, it is on a side of the gap that it is beside, and of the gaps beside itself
+pub own_gap : (side : Side) {at : Option Place} (p : Place) (front back : List Place) → IsBeside side (record { front = front; back = back }) at
+    → (whole : Cut) × IsWhole side at p front back whole × (IsApart (gap_of whole) p → ⊥)
+own_gap After p front back e = (record { front = front; back = p ∷ back }, record { same = refl; beside = e }, λ apart. apart.1 refl)
+own_gap Before p front back e =
+    (record { front = front ++ p ∷ []; back = back }, record { same = append_assoc front (p ∷ []) back; beside = e }, λ apart. apart.0 (last_of_push front p))
+
+pub gap_beside_itself : (side : Side) (p : Place) (front back : List Place) → (whole : Cut) × IsWhole side (Some p) p front back whole × (IsApart (gap_of whole) p → ⊥)
+gap_beside_itself After p front back = (
+  record { front = front ++ p ∷ []; back = back },
+  record { same = append_assoc front (p ∷ []) back; beside = sym (last_of_push front p) },
+  λ apart. apart.0 (last_of_push front p),
+)
+gap_beside_itself Before p front back = (record { front = front; back = p ∷ back }, record { same = refl; beside = refl }, λ apart. apart.1 refl)
+
+-- A GAP OF THE OTHERS is that in which p stands, or one of all members with the same two sides
+abbrev pub Goes : Side → Option Place → Place → (front back : List Place) → Cut → Type 0
+Goes side at p front back cut = (whole : Cut) × IsWhole side at p front back whole
+    × (((IsApart (gap_of whole) p → ⊥) × (insert cut p ≡ front ++ p ∷ back)) ⊎ (IsApart (gap_of whole) p × (gap_of whole ≡ gap_of cut)))
+
+-- what is on neither side of one gap is on neither side of the same one
+apart_of : (p : Place) (cut whole : Cut) → IsAbsent p (join cut) → gap_of whole ≡ gap_of cut → IsApart (gap_of whole) p
+apart_of p cut whole out same = subst (λ g. IsApart g p) (sym same) (gap_not cut.front cut.back refl refl out)
+
+behind_kept : (side : Side) (at : Option Place) (cut : Cut) (front : List Place) → IsBeside side cut at → last front ≡ last cut.front → IsBeside side (record { front = front; back = cut.back }) at
+behind_kept After at cut front e f = e ∙ sym f
+behind_kept Before at cut front e f = e
+
+ahead_kept : (side : Side) (at : Option Place) (cut : Cut) (back : List Place) → IsBeside side cut at → first back ≡ first cut.back → IsBeside side (record { front = cut.front; back = back }) at
+ahead_kept After at cut back e f = e
+ahead_kept Before at cut back e f = e ∙ sym f
+
+module _ (side : Side) {at : Option Place} (p : Place) (front back : List Place) (cut : Cut) (out : IsAbsent p (join cut)) (beside : IsBeside side cut at) where
+  goes_there : cut.front ≡ front → cut.back ≡ back → Goes side at p front back cut
+  goes_there e f =
+      let same : cut ≡ record { front = front; back = back } = (λ k. record { front = e k; back = f k }) in
+      let own = own_gap side p front back (subst (λ c. IsBeside side c at) same beside) in
+      (own.0, own.1, inl (own.2, (λ k. e k ++ p ∷ f k)))
+
+  goes_behind : (x : Place) (m : List Place) → cut.front ≡ front ++ x ∷ m → back ≡ x ∷ m ++ cut.back → Goes side at p front back cut
+  goes_behind x m e f =
+      let whole : Cut = record { front = front ++ p ∷ x ∷ m; back = cut.back } in
+      let ends : last whole.front ≡ last cut.front = last_or-append None front (p ∷ x ∷ m) ∙ sym (last_or-append None front (x ∷ m)) ∙ ap last (sym e) in
+      let same : gap_of whole ≡ gap_of cut = (λ k. record { before = ends k; behind = first cut.back }) in (
+        whole,
+        record { same = append_assoc front (p ∷ x ∷ m) cut.back ∙ ap (λ (s : List Place). front ++ p ∷ s) (sym f); beside = behind_kept side _ cut whole.front beside ends },
+        inr (apart_of p cut whole out same, same),
+      )
+
+  goes_ahead : (x : Place) (m : List Place) → front ≡ cut.front ++ x ∷ m → cut.back ≡ x ∷ m ++ back → Goes side at p front back cut
+  goes_ahead x m e f =
+      let whole : Cut = record { front = cut.front; back = x ∷ m ++ p ∷ back } in
+      let starts : first whole.back ≡ first cut.back = ap first (sym f) in
+      let same : gap_of whole ≡ gap_of cut = (λ k. record { before = last cut.front; behind = starts k }) in (
+        whole,
+        record { same = sym (append_assoc cut.front (x ∷ m) (p ∷ back)) ∙ ap (λ (s : List Place). s ++ p ∷ back) (sym e); beside = ahead_kept side _ cut whole.back beside starts },
+        inr (apart_of p cut whole out same, same),
+      )
+
+  pub goes : join cut ≡ front ++ back → Goes side at p front back cut
+  goes same = elim (two_cuts cut.front cut.back front back same) [ inl r ↦ behind r.0 r.1 r.2 | inr r ↦ ahead r.0 r.1 r.2 ] where
+    behind : (m : List Place) → cut.front ≡ front ++ m → back ≡ m ++ cut.back → Goes side at p front back cut
+    behind [] e f = goes_there (e ∙ append-nil front) (sym f)
+    behind (x ∷ m) e f = goes_behind x m e f
+
+    ahead : (m : List Place) → front ≡ cut.front ++ m → cut.back ≡ m ++ back → Goes side at p front back cut
+    ahead [] e f = goes_there (sym (e ∙ append-nil cut.front)) f
+    ahead (x ∷ m) e f = goes_ahead x m e f

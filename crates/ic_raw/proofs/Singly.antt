@@ -1,0 +1,91 @@
+-- What calls of a singly linked list read of what is shown, and of the places that lead to one another.
+use Rattle.std.proofs.Common.{◌≡◌, ◌≤◌, Option, Some, None, List, [], ◌∷◌, ◌++◌, length, true, refl, sym, ap, ◌∙◌, arith}
+use Rattle.ic_unsafe_ref.specs.declared.place.Place.{Place}
+use Rattle.ic_unsafe_ref.specs.Places.{index_of}
+use Rattle.ic_link_ops.specs.Sequences.{Cut, join, first_or, first, last, IsAbsent, IsDistinct, IsAfter}
+use Rattle.ic_link_ops.specs.Tables.{Table, IsCovered}
+use Rattle.ic_link_ops.specs.Chains.{IsChain}
+use Rattle.ic_link_ops.specs.EntryLaws.{linked_in_range}
+use Rattle.ic_link_ops.specs.SinglyLinkedList.{Front, IsFollowed, list_from, successor_at}
+use Rattle.ic_link_ops.proofs.SequenceLemmas.{first_of_back, first_or-append, last_of_push}
+use Rattle.ic_link_ops.proofs.Chains.{chain_glue, chain_one}
+use Rattle.ic_link_ops.proofs.ShownLists.{before_gap}
+use Rattle.ic_link_ops.proofs.SinglyLists.{followed_linked, followed_one}
+use Rattle.ic_raw.specs.declared.words.RawOne.{RawOne}
+use Rattle.ic_raw.specs.declared.table.RawTable.{RawTable}
+use Rattle.ic_raw.specs.declared.gap.Gap.{Gap}
+use Rattle.ic_raw.specs.Gaps.{gap_of}
+use Rattle.ic_raw.specs.Words.{no_word, is_linked_one}
+use Rattle.ic_raw.specs.Tables.{raw_entries}
+use Rattle.ic_raw.specs.Singly.{Shows, table_of, lent_table, successor, next_from}
+use Rattle.ic_raw.proofs.Views.{viewed}
+use Rattle.ic_raw.proofs.Lists.{kept}
+
+-- what has something behind it is linked
+pub law : (e : RawOne) (b a : Option Place) → IsFollowed successor e b a → is_linked_one e ≡ true
+law = followed_linked {s = successor} {linked = is_linked_one} (λ e. refl)
+
+-- and covered
+pub covered : (t : RawTable RawOne) (q : Place) → is_linked_one ((lent_table t).entry q) ≡ true → IsCovered (lent_table t) q
+covered t q on = linked_in_range is_linked_one no_word refl (raw_entries t) (index_of q) on
+
+-- the place before a gap leads to the one behind it
+pub next_shown : {t : Table RawOne} {list : Front} (front back : List Place) → Shows t list (front ++ back) → (at : Option Place) → at ≡ last front → next_from t list at ≡ first back
+next_shown front back shown None e = shown.head ∙ first_of_back front back e
+next_shown front back shown (Some q) e = (before_gap front back shown e).next
+
+-- what is found by a view of the words is found by what they show
+pub gap_viewed : (t : RawTable RawOne) {words : List RawOne} {list shown : Front} {at named : Option Place} {found : Option Gap}
+    → raw_entries t ≡ words → list ≡ shown → at ≡ named
+    → ((cut : Cut) → Shows (lent_table t) list (join cut) → IsAfter cut at → found ≡ Some (gap_of cut))
+    → (cut : Cut) → Shows (table_of words) shown (join cut) → IsAfter cut named → found ≡ Some (gap_of cut)
+gap_viewed t view same is finds cut shows after = finds cut (rw same (viewed no_word kept t view shows)) (is ∙ after)
+
+-- A CHAIN THAT ENDS COMES TO NO PLACE TWICE: from there it would go on the same way, and end as soon
+module _ (t : Place → RawOne) where
+  -- no entry says what stands in front of its place
+  pub behind_any : (b b' : Option Place) (w : List Place) (a : Option Place) → IsChain (IsFollowed successor) t b w a → IsChain (IsFollowed successor) t b' w a
+  behind_any b b' [] a c = tt
+  behind_any b b' (x ∷ w) a c = (record { linked = c.0.linked; next = c.0.next }, c.1)
+
+  not_ahead : (b b' : Option Place) (x : Place) (w rest : List Place) → IsChain (IsFollowed successor) t b (x ∷ w) None → IsChain (IsFollowed successor) t b' rest None
+      → length rest ≤ length w → IsAbsent x rest
+  not_ahead b b' x w [] c k few = tt
+  not_ahead b b' x w (y ∷ rest) c k few = (
+    (λ e.
+        let same : x ∷ w ≡ y ∷ rest = chain_one (IsFollowed successor) followed_one t b (x ∷ w) (y ∷ rest) (ap Some e) c (behind_any b' b (y ∷ rest) None k) in
+        omega (arith, ap length same, few)),
+    not_ahead b (Some y) x w rest c k.1 (omega (arith, few)),
+  )
+
+  pub ended_distinct : (b : Option Place) (w : List Place) → IsChain (IsFollowed successor) t b w None → IsDistinct w
+  ended_distinct b [] c = tt
+  ended_distinct b (x ∷ w) c = (not_ahead b (Some x) x w w c c.1 (omega arith), ended_distinct (Some x) w c.1)
+
+-- THE PLACES FROM `front` ON LEAD TO `at`: those that were walked
+pub record LeadsTo (t : Table RawOne) (front at : Place) : Type 0 where
+  pub walked : List Place
+  pub chain : IsChain (IsFollowed successor) t.entry None walked (Some at)
+  pub starts : Some front ≡ first_or walked (Some at)
+
+module _ {t : Table RawOne} {front at : Place} (leads : LeadsTo t front at) (linked : is_linked_one (t.entry at) ≡ true) where
+  -- what is walked, with `at` itself, in front of what stands behind
+  chain_on : (next : Option Place) → (successor_at successor t at).next ≡ next → IsChain (IsFollowed successor) t.entry None (leads.walked ++ at ∷ []) next
+  chain_on next behind =
+      chain_glue (IsFollowed successor) t.entry None leads.walked (at ∷ []) next leads.chain (record { linked = linked; next = behind }, tt)
+
+  starts_on : (next : Option Place) → Some front ≡ first_or (leads.walked ++ at ∷ []) next
+  starts_on next = leads.starts ∙ sym (first_or-append leads.walked (at ∷ []) next)
+
+  -- they lead on to what stands behind it,
+  pub leads_on : {next : Place} → (successor_at successor t at).next ≡ Some next → LeadsTo t front next
+  leads_on {next} behind = record { walked = leads.walked ++ at ∷ []; chain = chain_on (Some next) behind; starts = starts_on (Some next) }
+
+  -- and where nothing does, they are a list, which ends there
+  pub ends_there : (successor_at successor t at).next ≡ None → (s : List Place) × Shows t (list_from (Some front)) s × (Some at ≡ last s)
+  ends_there behind =
+      let chain = chain_on None behind in (
+        leads.walked ++ at ∷ [],
+        record { distinct = ended_distinct t.entry None (leads.walked ++ at ∷ []) chain; chain = chain; head = starts_on None; tail = refl },
+        sym (last_of_push leads.walked at),
+      )

@@ -1,0 +1,138 @@
+-- Trees that are walked from the first member on, while their members lose their marks.
+use Rattle.std.proofs.Common.{◌≡◌, ℕ, ◌≤◌, ◌-◌, ◌*◌, ◌/◌, ◌%◌, inl, inr, Option, Some, None, List, [], ◌∷◌, ◌++◌, length, drop, refl, sym, ap, ◌∙◌, subst, arith, append_assoc, append-nil}
+use Rattle.std.proofs.lemmas.Bool.{ltb-true}
+use Rattle.ic_unsafe_ref.specs.declared.place.Place.{Place}
+use Rattle.ic_unsafe_ref.specs.Places.{index_of, place_at}
+use Rattle.ic_unsafe_ref.proofs.PlaceLemmas.{same_or_not}
+use Rattle.ic_link_ops.specs.Sequences.{Cut, join, first, last, IsMember}
+use Rattle.ic_link_ops.specs.Tables.{Extent, Table, ChangesOnly}
+use Rattle.ic_link_ops.specs.Trees.{Tree, leaf, fork}
+use Rattle.ic_link_ops.specs.RedBlackTree.{Node, IsTree}
+use Rattle.ic_link_ops.proofs.SequenceLemmas.{first_is, fewer, gap_not, last_of_push, nothing_first, split_member}
+use Rattle.ic_link_ops.proofs.ShownTrees.{holds_linked, holds_length, root_member}
+use Rattle.ic_rbtree.specs.Closed.{IsIn}
+use Rattle.ic_raw.specs.declared.words.RawThree.{RawThree}
+use Rattle.ic_raw.specs.Seen.{seen, seen_node, has_place}
+use Rattle.ic_raw.specs.WholeTree.{IsSeen}
+use Rattle.ic_raw.specs.Words.{place_in}
+
+module _ {t : Table RawThree} {root : Option Place} where
+  -- what is seen stands in the table: each member,
+  member_in : {s : List Place} → IsSeen t root s → (o : Option Place) → ((q : Place) → o ≡ Some q → IsMember q s) → IsIn (has_place t) o
+  member_in shown None member = tt
+  member_in shown (Some q) member = holds_linked shown.held (member q refl)
+
+  -- the root,
+  pub root_in : {s : List Place} → IsSeen t root s → IsIn (has_place t) root
+  root_in shown = member_in shown root (λ q is out. root_member shown is out)
+
+  -- and what stands in front of a gap
+  pub before_in : (cut : Cut) {at : Option Place} → IsSeen t root (join cut) → at ≡ last cut.front → IsIn (has_place t) at
+  before_in cut {at} shown after = member_in shown at (λ q is out. (gap_not cut.front cut.back after refl out).0 is)
+
+  -- and so there are as many members as places at most
+  pub seen_length : {s : List Place} → IsSeen t root s → length s ≤ t.extent.places
+  seen_length shown = holds_length (seen t) (λ q on. ltb-true (index_of q) t.extent.places on) shown.held
+
+-- what is seen stays where all nodes say the same
+module _ (t u : Table RawThree) (same : (q : Place) → seen_node ((seen u).entry q) ≡ seen_node ((seen t).entry q)) where
+  tree_kept : (up : Option Place) (tree : Tree) → IsTree seen_node (seen t).entry up tree → IsTree seen_node (seen u).entry up tree
+  tree_kept up leaf h = tt
+  tree_kept up (fork c a p b) h = (
+    record {
+      linked = ap (λ n. n.linked) (same p) ∙ h.0.linked;
+      left = ap (λ n. n.left) (same p) ∙ h.0.left;
+      right = ap (λ n. n.right) (same p) ∙ h.0.right;
+      parent = ap (λ n. n.parent) (same p) ∙ h.0.parent;
+      color = ap (λ n. n.color) (same p) ∙ h.0.color;
+    },
+    tree_kept (Some p) a h.1,
+    tree_kept (Some p) b h.2,
+  )
+
+  pub seen_kept : {root : Option Place} {s : List Place} → IsSeen t root s → IsSeen u root s
+  seen_kept h = record {
+    tree = h.tree;
+    held = record { order = h.held.order; distinct = h.held.distinct; entries = tree_kept None h.tree h.held.entries };
+    starts = h.starts;
+    shape = h.shape;
+  }
+
+-- what the words w say at a place, in a table of this extent
+abbrev says : Extent → Place → RawThree → Node
+says x q w = seen_node ((seen (record { extent = x; entry = λ p. w })).entry q)
+
+unmarked_says : (x : Extent) (q : Place) (w : RawThree) → says x q (record w { left = w.left / 2 * 2 }) ≡ says x q w
+unmarked_says x q w =
+    let half : w.left / 2 * 2 / 8 ≡ w.left / 8 = omega arith in
+    let named : place_in (w.left / 2 * 2) ≡ place_in w.left = ap (λ n. place_at (n % 8589934592 * 8)) half in
+    rw named refl
+
+-- where a place loses its mark alone, all nodes say the same
+pub seen_unmarked : (t u : Table RawThree) (p : Place) → ChangesOnly t u p → u.entry p ≡ record (t.entry p) { left = (t.entry p).left / 2 * 2 }
+    → (q : Place) → seen_node ((seen u).entry q) ≡ seen_node ((seen t).entry q)
+seen_unmarked t u p only is q = elim (same_or_not q p) [
+  | inl e ↦
+      let here : says u.extent p (u.entry p) ≡ says t.extent p (t.entry p) = (λ k. says (only.extent k) p (is k)) ∙ unmarked_says t.extent p (t.entry p) in
+      subst (λ z. says u.extent z (u.entry z) ≡ says t.extent z (t.entry z)) (sym e) here
+  | inr n ↦ λ k. says (only.extent k) q (only.others q n k)
+]
+
+-- A WALK HAS COME TO `at`: the members `done` are in front of it, and the others fit into the steps that are left
+pub record HasComeTo (s : List Place) (at : Option Place) (left : ℕ) : Type 0 where
+  pub done : List Place
+  pub rest : List Place
+  pub parts : s ≡ done ++ rest
+  pub next : at ≡ first rest
+  pub few : length rest ≤ left
+
+unfoldable pub walk_starts : {s : List Place} {at : Option Place} {left : ℕ} → at ≡ first s → length s ≤ left → HasComeTo s at left
+walk_starts {s} next few = record { done = []; rest = s; parts = refl; next = next; few = few }
+
+module _ {s : List Place} {p : Place} {left : ℕ} (k : HasComeTo s (Some p) left) where
+  rest_is : k.rest ≡ p ∷ drop 1 k.rest
+  rest_is = first_is k.rest k.next
+
+  parts_are : s ≡ k.done ++ p ∷ drop 1 k.rest
+  parts_are = k.parts ∙ ap (λ (l : List Place). k.done ++ l) rest_is
+
+  -- there is a member,
+  pub walk_member : IsMember p s
+  walk_member = subst (IsMember p) (sym parts_are) (split_member k.done p (drop 1 k.rest))
+
+  -- behind which the rest stands, to which a step leads
+  walk_gap : (cut : Cut) × (s ≡ join cut) × (Some p ≡ last cut.front) × (cut.back ≡ drop 1 k.rest)
+  walk_gap = (
+    record { front = k.done ++ p ∷ []; back = drop 1 k.rest },
+    parts_are ∙ sym (append_assoc k.done (p ∷ []) (drop 1 k.rest)),
+    sym (last_of_push k.done p),
+    refl,
+  )
+
+  pub walk_goes_on : {t : Table RawThree} {root at : Option Place} → IsSeen t root s → ((cut : Cut) → IsSeen t root (join cut) → Some p ≡ last cut.front → at ≡ first cut.back)
+      → (k' : HasComeTo s at (left - 1)) × (k'.done ≡ k.done ++ p ∷ [])
+  unfolding walk_gap
+  walk_goes_on {t} {root} shown step =
+      let gap = walk_gap in
+      let less = fewer k.rest p k.next in
+      let few = k.few in (
+        record {
+          done = k.done ++ p ∷ [];
+          rest = drop 1 k.rest;
+          parts = gap.1;
+          next = step gap.0 (subst (IsSeen t root) gap.1 shown) gap.2;
+          few = omega (arith, less, few);
+        },
+        refl,
+      )
+
+-- at the end all are done
+pub walk_ends : {s : List Place} {at : Option Place} {left : ℕ} (k : HasComeTo s at left) → at ≡ None → k.done ≡ s
+walk_ends {s} {at} k none = sym (k.parts ∙ ap (λ (l : List Place). k.done ++ l) (nothing_first k.rest (sym none ∙ k.next)) ∙ append-nil k.done)
+
+-- where no step is left, none is
+pub walk_over : {s : List Place} {at : Option Place} {left : ℕ} → HasComeTo s at left → left ≡ 0 → at ≡ None
+walk_over k over = k.next ∙ none k.rest k.few over where
+  none : {left : ℕ} (rest : List Place) → length rest ≤ left → left ≡ 0 → first rest ≡ None
+  none [] few over = refl
+  none (x ∷ rest) few over = absurd (omega (arith, few, over))

@@ -1,0 +1,89 @@
+-- What holds of a view holds of the words that were lent.
+use Rattle.std.proofs.Common.{◌≡◌, Bool, List, [], refl, ap}
+use Rattle.std.specs.declared.cmp.Ordering.{Ordering}
+use Rattle.ic_unsafe_ref.specs.declared.place.Place.{Place}
+use Rattle.ic_link_ops.specs.Sequences.{Cut}
+use Rattle.ic_link_ops.specs.Tables.{Table, KeepsBeside, IsUnlinked}
+use Rattle.ic_link_ops.specs.PlainTables.{entry_at, table_of}
+use Rattle.ic_link_ops.specs.Edits.{Inserts, Removes, Replaces, Splices, Splits}
+use Rattle.ic_rbtree.specs.Ordered.{InsertsInOrder}
+use Rattle.ic_raw.specs.declared.table.RawTable.{RawTable}
+use Rattle.ic_raw.specs.Calls.{Clears}
+use Rattle.ic_raw.specs.Tables.{raw_entries, raw_table, IsFree}
+
+module _ {W : Type 0} (unlinked : W) where
+  pub frame_back : (a b : RawTable W) {s : List Place} → KeepsBeside (raw_table unlinked a) (raw_table unlinked b) s
+      → KeepsBeside (table_of unlinked (raw_entries a)) (table_of unlinked (raw_entries b)) s
+  frame_back a b f = record { extent = ap (λ e. record { places = e.places; identity = [] }) f.extent; others = f.others }
+
+  -- what is free among the words is free in the view
+  pub free_viewed : {is_linked : W → Bool} {es : List W} (t : RawTable W) {p : Place} → raw_entries t ≡ es → IsFree is_linked (table_of unlinked es) p
+      → IsFree is_linked (raw_table unlinked t) p
+  free_viewed {is_linked} {es} t {p} e free =
+      let same : IsFree is_linked (table_of unlinked (raw_entries t)) p = rw e free in record { covered = same.covered; unlinked = same.unlinked }
+
+  -- `kept`: a sequence stays where no entry changes
+  module _ {H : Type 0} {Shows : Table W → H → List Place → Type 0}
+      (kept : (t u : Table W) (h : H) (s : List Place) → Shows t h s → ((q : Place) → u.entry q ≡ t.entry q) → Shows u h s) where
+    -- what the words show the view shows
+    pub viewed : {es : List W} (t : RawTable W) {h : H} {s : List Place} → raw_entries t ≡ es → Shows (table_of unlinked es) h s → Shows (raw_table unlinked t) h s
+    viewed t e shown = kept _ _ _ _ shown (λ q. ap (λ es. entry_at unlinked es q) e)
+
+    -- and the other way round
+    pub shown_back : {es : List W} (t : RawTable W) {h : H} {s : List Place} → raw_entries t ≡ es → Shows (raw_table unlinked t) h s → Shows (table_of unlinked es) h s
+    shown_back t {h} {s} e shown =
+        let back : Shows (table_of unlinked (raw_entries t)) h s = kept _ _ _ _ shown (λ q. refl) in
+        rw (← e) back
+
+    -- and what is done to the view is done to the words, once the list is kept
+    pub inserted_back : (a b : RawTable W) {es fs : List W} {h h' : H} {cut : Cut} {p : Place} → raw_entries a ≡ es → fs ≡ raw_entries b → h' ≡ h
+        → Inserts Shows (raw_table unlinked a) (raw_table unlinked b) h cut p → Inserts Shows (table_of unlinked es) (table_of unlinked fs) h' cut p
+    inserted_back a b {h} {cut} {p} e f k i =
+        let back : Inserts Shows (table_of unlinked (raw_entries a)) (table_of unlinked (raw_entries b)) h cut p =
+        record { shows = kept _ _ _ _ i.shows (λ q. refl); frame = frame_back a b i.frame } in
+        rw (← e, f, k) back
+
+    pub ordered_back : (at : Place → Ordering) (p : Place) (a b : RawTable W) {es fs : List W} {h h' : H} {s : List Place} → raw_entries a ≡ es → fs ≡ raw_entries b → h' ≡ h
+        → InsertsInOrder Shows at (raw_table unlinked a) (raw_table unlinked b) h s p → InsertsInOrder Shows at (table_of unlinked es) (table_of unlinked fs) h' s p
+    ordered_back at p a b {h'} e f k i = record { gap = i.gap; same = i.same; border = i.border; inserted = inserted_back a b {h' = h'} e f k i.inserted }
+
+    pub removed_back : (a b : RawTable W) {es fs : List W} {h h' : H} {cut : Cut} → raw_entries a ≡ es → fs ≡ raw_entries b → h' ≡ h
+        → Removes Shows (raw_table unlinked a) (raw_table unlinked b) h cut → Removes Shows (table_of unlinked es) (table_of unlinked fs) h' cut
+    removed_back a b {h} {cut} e f k r =
+        let back : Removes Shows (table_of unlinked (raw_entries a)) (table_of unlinked (raw_entries b)) h cut =
+        record { shows = kept _ _ _ _ r.shows (λ q. refl); frame = frame_back a b r.frame } in
+        rw (← e, f, k) back
+
+    pub replaced_back : (a b : RawTable W) {es fs : List W} {h h' : H} {cut : Cut} {p : Place} → raw_entries a ≡ es → fs ≡ raw_entries b → h' ≡ h
+        → Replaces Shows (raw_table unlinked a) (raw_table unlinked b) h cut p → Replaces Shows (table_of unlinked es) (table_of unlinked fs) h' cut p
+    replaced_back a b {h} {cut} {p} e f k r =
+        let back : Replaces Shows (table_of unlinked (raw_entries a)) (table_of unlinked (raw_entries b)) h cut p =
+        record { shows = kept _ _ _ _ r.shows (λ q. refl); frame = frame_back a b r.frame } in
+        rw (← e, f, k) back
+
+    pub spliced_back : (a b : RawTable W) {es fs : List W} {h h' : H} {cut : Cut} {t : List Place} → raw_entries a ≡ es → fs ≡ raw_entries b → h' ≡ h
+        → Splices Shows (raw_table unlinked a) (raw_table unlinked b) h cut t → Splices Shows (table_of unlinked es) (table_of unlinked fs) h' cut t
+    spliced_back a b {h} {cut} {t} e f k r =
+        let back : Splices Shows (table_of unlinked (raw_entries a)) (table_of unlinked (raw_entries b)) h cut t =
+        record { shows = kept _ _ _ _ r.shows (λ q. refl); frame = frame_back a b r.frame } in
+        rw (← e, f, k) back
+
+    pub splits_back : (a b : RawTable W) {es fs : List W} {h h' g g' : H} {s t : List Place} → raw_entries a ≡ es → fs ≡ raw_entries b → h' ≡ h → g' ≡ g
+        → Splits Shows (raw_table unlinked a) (raw_table unlinked b) h g s t → Splits Shows (table_of unlinked es) (table_of unlinked fs) h' g' s t
+    splits_back a b {h} {g = g} {s} {t} e f k l r =
+        let back : Splits Shows (table_of unlinked (raw_entries a)) (table_of unlinked (raw_entries b)) h g s t =
+        record { keeps = kept _ _ _ _ r.keeps (λ q. refl); hands_out = kept _ _ _ _ r.hands_out (λ q. refl); frame = frame_back a b r.frame } in
+        rw (← e, f, k, l) back
+
+  pub clears_back : (is_linked : W → Bool) (a b : RawTable W) {es fs : List W} {s : List Place} → raw_entries a ≡ es → fs ≡ raw_entries b
+      → Clears is_linked (raw_table unlinked a) (raw_table unlinked b) s → Clears is_linked (table_of unlinked es) (table_of unlinked fs) s
+  clears_back is_linked a b {s = s} e f c =
+      let back : Clears is_linked (table_of unlinked (raw_entries a)) (table_of unlinked (raw_entries b)) s = record { unlinked = c.unlinked; frame = frame_back a b c.frame } in
+      rw (← e, f) back
+
+  -- what is unlinked in the view is unlinked among the words
+  pub unlinked_back : (is_linked : W → Bool) (b : RawTable W) {fs : List W} (p : Place) → fs ≡ raw_entries b → IsUnlinked is_linked (raw_table unlinked b) p
+      → IsUnlinked is_linked (table_of unlinked fs) p
+  unlinked_back is_linked b {fs} p f off =
+      let back : IsUnlinked is_linked (table_of unlinked (raw_entries b)) p = off in
+      rw f back

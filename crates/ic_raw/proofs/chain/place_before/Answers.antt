@@ -1,0 +1,46 @@
+use Rattle.std.proofs.Common.{◌≡◌, ◌++◌, ◌∷◌, Some, sym, ap, ◌∙◌, eqb-true, arith}
+use Rattle.ic_unsafe_ref.specs.Places.{same_word}
+use Rattle.ic_link_ops.proofs.SequenceLemmas.{none_not, some_same}
+use Rattle.ic_raw.proofs.Gaps.{never}
+use Rattle.ic_raw.proofs.Singly.{covered}
+use Rattle.ic_raw.proofs.HashWalks.{comes_first, comes_linked, comes_on, comes_over, met, met_behind, not_missed}
+use Rattle.ic_raw.proofs.chain.place_before.Goals as goal
+
+pub loop-left-init : goal.loop-left-init
+loop-left-init c = record {
+  stands = λ q none. absurd (none_not q none);
+  comes = λ s shown. rw c.places-left.ensures (comes_first (covered c.args.links.now) shown);
+}
+
+pub returns-in_default-clause-found : goal.returns-in_default-clause-found
+returns-in_default-clause-found c ahead back shown =
+    absurd (not_missed c.args.member ahead back (c.loop-left.invariant.comes (ahead ++ c.args.member ∷ back) shown) c.in_default.is)
+
+pub returns-then-not-is_linked-clause-found : goal.returns-then-not-is_linked-clause-found
+returns-then-not-is_linked-clause-found c ahead back shown =
+    let k = rw c.in-Some.is at (c.loop-left.invariant.comes (ahead ++ c.args.member ∷ back) shown) in
+    absurd (never c.if-not-is_linked.true (c.is_linked.ensures ∙ comes_linked k))
+
+pub returns-then-eq-clause-found : goal.returns-then-eq-clause-found
+returns-then-eq-clause-found c ahead back shown =
+    let k = rw c.in-Some.is at (c.loop-left.invariant.comes (ahead ++ c.args.member ∷ back) shown) in
+    let same : c.in-Some.place ≡ c.args.member = same_word c.in-Some.place c.args.member (eqb-true _ _ (sym c.eq.ensures ∙ c.if-eq.true)) in
+    ap Some (met_behind c.args.member ahead back shown.distinct k same)
+
+pub returns-then-eq-clause-member : goal.returns-then-eq-clause-member
+returns-then-eq-clause-member c s b shown is =
+    let k = rw c.in-Some.is at (c.loop-left.invariant.comes s shown) in
+    met c.args.member k (same_word c.in-Some.place c.args.member (eqb-true _ _ (sym c.eq.ensures ∙ c.if-eq.true)))
+
+pub loop-left-preserved : goal.loop-left-preserved
+loop-left-preserved c = record {
+  stands = λ q is. rw (some_same is) at (sym c.is_linked.ensures ∙ c.if-not-is_linked.false);
+  comes = λ s shown.
+      let k = rw c.in-Some.is at (c.loop-left.invariant.comes s shown) in
+      comes_on k shown.distinct (sym c.eq.ensures ∙ c.if-eq.false) c.next-current.ensures;
+}
+
+pub returns-clause-found : goal.returns-clause-found
+returns-clause-found c ahead back shown =
+    let k = c.loop-left.invariant.comes (ahead ++ c.args.member ∷ back) shown in
+    absurd (not_missed c.args.member ahead back k (comes_over k (omega (arith, c.loop-left-test.false))))

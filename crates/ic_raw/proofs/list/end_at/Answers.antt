@@ -1,0 +1,82 @@
+use Rattle.std.proofs.Common.{◌≡◌, Some, [], sym, ap, ◌∙◌}
+use Rattle.ic_link_ops.specs.Sequences.{first, last}
+use Rattle.ic_link_ops.proofs.SequenceLemmas.{none_not, some_same, last_of_push}
+use Rattle.ic_raw.specs.Gaps.{before}
+use Rattle.ic_raw.proofs.Doubly.{behind, shown_behind}
+use Rattle.ic_raw.proofs.list.end_at.Goals as goal
+
+pub returns-in_default-clause-shown : goal.returns-in_default-clause-shown
+returns-in_default-clause-shown c front back p shown there =
+    let end : front ≡ [] = rw c.in-After.is at there in
+    let outer = c.gap_at.ensures.shown (before p front back) shown (sym (ap last end)) in
+    absurd (none_not _ (sym c.in_default.is ∙ outer))
+
+pub returns-in_default-behind-clause-shown : goal.returns-in_default-behind-clause-shown
+returns-in_default-behind-clause-shown c front back p shown there =
+    let end : front ≡ [] = rw c.in-After.is at there in
+    let outer = c.gap_at.ensures.shown (before p front back) shown (sym (ap last end)) in
+    let found = ap (λ g. g.behind) (some_same (sym c.in-Some.is ∙ outer)) in
+    absurd (none_not _ (sym c.in_default-behind.is ∙ found))
+
+pub returns-in_default-gap_at-clause-shown : goal.returns-in_default-gap_at-clause-shown
+returns-in_default-gap_at-clause-shown c front back p shown there =
+    let end : front ≡ [] = rw c.in-After.is at there in
+    let outer = c.gap_at.ensures.shown (before p front back) shown (sym (ap last end)) in
+    let found = ap (λ g. g.behind) (some_same (sym c.in-Some.is ∙ outer)) in
+    let one = some_same (sym c.in-Some-behind.is ∙ found) in
+    let inner = c.gap_at-in-After.ensures.shown (behind p front back) (shown_behind front p back shown) (ap (λ q. Some q) one ∙ sym (last_of_push front p)) in
+    absurd (none_not _ (sym c.in_default-gap_at.is ∙ inner))
+
+pub returns-in-Some-gap_at-clause-shown : goal.returns-in-Some-gap_at-clause-shown
+returns-in-Some-gap_at-clause-shown c front back p shown there =
+    let end : front ≡ [] = rw c.in-After.is at there in
+    let outer = c.gap_at.ensures.shown (before p front back) shown (sym (ap last end)) in
+    let found = ap (λ g. g.behind) (some_same (sym c.in-Some.is ∙ outer)) in
+    let one = some_same (sym c.in-Some-behind.is ∙ found) in
+    let inner = c.gap_at-in-After.ensures.shown (behind p front back) (shown_behind front p back shown) (ap (λ q. Some q) one ∙ sym (last_of_push front p)) in
+    let next = ap (λ g. g.behind) (some_same (sym c.in-Some-gap_at.is ∙ inner)) in
+    λ k. Some (one k, record { before = sym (ap last end) k; behind = next k })
+
+pub returns-in-Some-gap_at-clause-end : goal.returns-in-Some-gap_at-clause-end
+returns-in-Some-gap_at-clause-end c p gap is =
+    let one = ap (λ m. m.0) (some_same is) in
+    let outer = ap (λ g. g.behind) (c.gap_at.ensures.sides _ c.in-Some.is) in
+    rw c.in-After.is (sym outer ∙ c.in-Some-behind.is ∙ ap (λ q. Some q) one)
+
+pub returns-in_default-gap_at-2-clause-shown : goal.returns-in_default-gap_at-2-clause-shown
+returns-in_default-gap_at-2-clause-shown c front back p shown there =
+    let end : back ≡ [] = rw c.in-Before.is at there in
+    let outer = c.gap_at-in-Before.ensures.shown (behind p front back) (shown_behind front p back shown) (sym (ap first end)) in
+    absurd (none_not _ (sym c.in_default-gap_at-2.is ∙ outer))
+
+pub returns-in_default-before-clause-shown : goal.returns-in_default-before-clause-shown
+returns-in_default-before-clause-shown c front back p shown there =
+    let end : back ≡ [] = rw c.in-Before.is at there in
+    let outer = c.gap_at-in-Before.ensures.shown (behind p front back) (shown_behind front p back shown) (sym (ap first end)) in
+    let found = ap (λ g. g.before) (some_same (sym c.in-Some-gap_at-2.is ∙ outer)) ∙ last_of_push front p in
+    absurd (none_not _ (sym c.in_default-before.is ∙ found))
+
+pub returns-in_default-gap_at-3-clause-shown : goal.returns-in_default-gap_at-3-clause-shown
+returns-in_default-gap_at-3-clause-shown c front back p shown there =
+    let end : back ≡ [] = rw c.in-Before.is at there in
+    let outer = c.gap_at-in-Before.ensures.shown (behind p front back) (shown_behind front p back shown) (sym (ap first end)) in
+    let found = ap (λ g. g.before) (some_same (sym c.in-Some-gap_at-2.is ∙ outer)) ∙ last_of_push front p in
+    let one = some_same (sym c.in-Some-before.is ∙ found) in
+    let inner = c.gap_at-in-Before-2.ensures.shown (before p front back) shown (ap (λ q. Some q) one) in
+    absurd (none_not _ (sym c.in_default-gap_at-3.is ∙ inner))
+
+pub returns-in-Some-gap_at-3-clause-shown : goal.returns-in-Some-gap_at-3-clause-shown
+returns-in-Some-gap_at-3-clause-shown c front back p shown there =
+    let end : back ≡ [] = rw c.in-Before.is at there in
+    let outer = c.gap_at-in-Before.ensures.shown (behind p front back) (shown_behind front p back shown) (sym (ap first end)) in
+    let found = ap (λ g. g.before) (some_same (sym c.in-Some-gap_at-2.is ∙ outer)) ∙ last_of_push front p in
+    let one = some_same (sym c.in-Some-before.is ∙ found) in
+    let inner = c.gap_at-in-Before-2.ensures.shown (before p front back) shown (ap (λ q. Some q) one) in
+    let prev = ap (λ g. g.before) (some_same (sym c.in-Some-gap_at-3.is ∙ inner)) in
+    λ k. Some (one k, record { before = prev k; behind = sym (ap first end) k })
+
+pub returns-in-Some-gap_at-3-clause-end : goal.returns-in-Some-gap_at-3-clause-end
+returns-in-Some-gap_at-3-clause-end c p gap is =
+    let one = ap (λ m. m.0) (some_same is) in
+    let outer = ap (λ g. g.before) (c.gap_at-in-Before.ensures.sides _ c.in-Some-gap_at-2.is) in
+    rw c.in-Before.is (sym outer ∙ c.in-Some-before.is ∙ ap (λ q. Some q) one)

@@ -1,0 +1,20 @@
+use Rattle.std.proofs.Common.{◌≡◌, refl, sym, ap, ◌∙◌}
+use Rattle.ic_link_ops.proofs.SequenceLemmas.{some_same}
+use Rattle.ic_raw.proofs.Doubly.{law}
+use Rattle.ic_raw.proofs.Lists.{inserted}
+use Rattle.ic_raw.proofs.list.insert.Goals as goal
+
+pub returns-clause-inserted : goal.returns-clause-inserted
+returns-clause-inserted c cut p shown beside is free' =
+    let taken = c.in-Some-acquire.is in
+    let one : p ≡ c.in-Some-acquire.place = some_same (sym is ∙ c.acquire.ensures.same _ taken) in
+    let gap = some_same (sym c.in-Some.is ∙ c.gap_at.ensures.shown cut shown beside) in
+    let put = c.insert_linked.ensures in
+    rw one (
+      refl,
+      inserted law cut (ap (λ g. g.before) gap) (ap (λ g. g.behind) gap) shown (c.acquire.ensures.free _ taken) (c.acquire.ensures.frame _ taken) put.shows put.extent put.others,
+    )
+
+pub returns-clause-free : goal.returns-clause-free
+returns-clause-free c made =
+    let taken = c.in-Some-acquire.is in (c.in-Some-acquire.place, c.acquire.ensures.same _ taken, c.acquire.ensures.free _ taken)

@@ -1,0 +1,39 @@
+use Rattle.std.proofs.Common.{◌≡◌, Some, None, [], refl, sym, subst, ◌∙◌}
+use Rattle.ic_link_ops.proofs.SequenceLemmas.{some_same}
+use Rattle.ic_link_ops.proofs.ShownLists.{shows_middle}
+use Rattle.ic_raw.specs.declared.gap.Side.TheVariants.{After}
+use Rattle.ic_raw.specs.Doubly.{TellsGap, lent_table}
+use Rattle.ic_raw.proofs.Doubly.{last_kept, told_after}
+use Rattle.ic_raw.proofs.Lists.{removed}
+use Rattle.ic_raw.proofs.list.pop_before_second.Goals as goal
+
+pub returns-clause-removed : goal.returns-clause-removed
+returns-clause-removed c p q s some shown' =
+    let one : p ≡ c.in-Some.first = sym (some_same (sym c.in-Some.is ∙ c.first.ensures ∙ shown'.head)) in
+    let shown = rw one at shown' in
+    let behind = sym c.in-Some-next.is ∙ c.next.ensures ∙ (shows_middle [] s shown).next in
+    let off = c.bypass.ensures in
+    let released = c.release_link.ensures in (
+      sym (some_same some) ∙ sym one,
+      rw one (removed [] c.in-Some.first s refl behind shown off.shows off.extent off.others released.frame),
+      rw one released.released.is,
+    )
+
+pub returns-clause-tail : goal.returns-clause-tail
+returns-clause-tail c p q s some shown' =
+    let one : p ≡ c.in-Some.first = sym (some_same (sym c.in-Some.is ∙ c.first.ensures ∙ shown'.head)) in
+    let shown = rw one at shown' in
+    let behind = sym c.in-Some-next.is ∙ c.next.ensures ∙ (shows_middle [] s shown).next in
+    (c.bypass.ensures.shows [] s shown refl behind).tail ∙ sym (shown.tail ∙ last_kept [] c.in-Some.first s behind)
+
+pub returns-clause-outer : goal.returns-clause-outer
+returns-clause-outer c q is =
+    told_after (lent_table c.args.links.now) c.args.list.now None (Some c.in-Some.first) (sym c.first.ensures ∙ c.in-Some.is) (c.is_behind.ensures.stands c.if-not-is_behind.false)
+    (c.is_behind.ensures.prev c.if-not-is_behind.false)
+
+pub returns-clause-inner : goal.returns-clause-inner
+returns-clause-inner c q is =
+    let told : TellsGap After (lent_table c.args.links.now) c.args.list.now (Some c.in-Some.first) =
+    told_after (lent_table c.args.links.now) c.args.list.now (Some c.in-Some.first) (Some c.in-Some-next.second) (sym c.next.ensures ∙ c.in-Some-next.is)
+    (c.is_behind-2.ensures.stands c.if-not-is_behind-2.false) (c.is_behind-2.ensures.prev c.if-not-is_behind-2.false) in
+    subst (λ p. TellsGap After (lent_table c.args.links.now) c.args.list.now (Some p)) (some_same is) told

@@ -1,0 +1,14 @@
+use Rattle.std.proofs.Common.{refl, sym, ap, ◌∙◌}
+use Rattle.ic_link_ops.proofs.SequenceLemmas.{some_same}
+use Rattle.ic_raw.proofs.Lists.{removed}
+use Rattle.ic_raw.proofs.list.remove.Goals as goal
+
+pub returns-clause-removed : goal.returns-clause-removed
+returns-clause-removed c front back shown =
+    let gap = some_same (sym c.in-Some.is ∙ c.beside.ensures.member front back c.args.member shown refl) in
+    let off = c.bypass.ensures in
+    let released = c.release_link.ensures in (
+      refl,
+      removed front c.args.member back (ap (λ g. g.before) gap) (ap (λ g. g.behind) gap) shown off.shows off.extent off.others released.frame,
+      released.released.is,
+    )

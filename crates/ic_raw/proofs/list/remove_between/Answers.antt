@@ -1,0 +1,34 @@
+use Rattle.std.proofs.Common.{◌∷◌, sym, ap, ◌∙◌}
+use Rattle.ic_raw.proofs.Doubly.{first_kept, last_kept}
+use Rattle.ic_raw.proofs.Lists.{removed}
+use Rattle.ic_raw.proofs.list.remove_between.Goals as goal
+
+pub returns-clause-removed : goal.returns-clause-removed
+returns-clause-removed c front back made shown =
+    let member = c.args.member in
+    let found = c.in-Some.is in
+    let gap = c.between.ensures.shown _ _ front back found shown in
+    let before = ap (λ g. g.before) gap in
+    let behind = ap (λ g. g.behind) gap in
+    let prev = sym (c.between.ensures.prev _ found).1 ∙ before in
+    let next = sym (c.between.ensures.next _ found).1 ∙ behind in
+    let off = c.bypass.ensures in
+    let released = c.release_link.ensures in
+    let done = removed front member back before behind shown off.shows off.extent off.others released.frame in (
+      record {
+        shows = record {
+          distinct = done.shows.distinct;
+          chain = done.shows.chain;
+          head = shown.head ∙ first_kept front (member ∷ back) prev ∙ sym (first_kept front back prev);
+          tail = shown.tail ∙ last_kept front member back next;
+        };
+        frame = done.frame;
+      },
+      released.released.is,
+    )
+
+pub returns-clause-before : goal.returns-clause-before
+returns-clause-before c made = c.between.ensures.before _ c.args.list.now c.in-Some.is
+
+pub returns-clause-behind : goal.returns-clause-behind
+returns-clause-behind c made = c.between.ensures.behind _ c.args.list.now c.in-Some.is

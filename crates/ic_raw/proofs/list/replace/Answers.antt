@@ -1,0 +1,23 @@
+use Rattle.std.proofs.Common.{◌≡◌, refl, sym, ap, ◌∙◌}
+use Rattle.ic_link_ops.proofs.SequenceLemmas.{some_same}
+use Rattle.ic_raw.proofs.Doubly.{law}
+use Rattle.ic_raw.proofs.Lists.{replaced}
+use Rattle.ic_raw.proofs.list.replace.Goals as goal
+
+pub returns-clause-replaced : goal.returns-clause-replaced
+returns-clause-replaced c front back p shown is free' =
+    let taken = c.in-Some-acquire.is in
+    let one : p ≡ c.in-Some-acquire.place = some_same (sym is ∙ c.acquire.ensures.same _ taken) in
+    let gap = some_same (sym c.in-Some.is ∙ c.beside.ensures.member front back c.args.member shown refl) in
+    let put = c.replace_linked.ensures in
+    let released = c.release_link.ensures in
+    rw one (
+      refl,
+      replaced law front c.args.member back (ap (λ g. g.before) gap) (ap (λ g. g.behind) gap) shown (c.acquire.ensures.free _ taken) (c.acquire.ensures.frame _ taken) put.shows
+          put.extent put.others released.frame,
+      released.released.is,
+    )
+
+pub returns-clause-free : goal.returns-clause-free
+returns-clause-free c made =
+    let taken = c.in-Some-acquire.is in (c.in-Some-acquire.place, c.acquire.ensures.same _ taken, c.acquire.ensures.free _ taken)

@@ -1,0 +1,17 @@
+use Rattle.std.proofs.Common.{Some, refl, sym, ◌∙◌}
+use Rattle.ic_link_ops.proofs.SequenceLemmas.{some_same, none_not}
+use Rattle.ic_raw.proofs.moving.gaps_to_move.Goals as goal
+
+pub returns-in_default-clause-shown : goal.returns-in_default-clause-shown
+returns-in_default-clause-shown c front back cut shown same beside =
+    absurd (none_not _ (sym c.in_default.is ∙ c.gap_at.ensures.shown cut (rw same shown) beside))
+
+pub returns-in_default-beside-clause-shown : goal.returns-in_default-beside-clause-shown
+returns-in_default-beside-clause-shown c front back cut shown same beside =
+    absurd (none_not _ (sym c.in_default-beside.is ∙ c.beside.ensures.member front back c.args.member shown refl))
+
+pub returns-clause-shown : goal.returns-clause-shown
+returns-clause-shown c front back cut shown same beside =
+    let to = some_same (sym c.in-Some.is ∙ c.gap_at.ensures.shown cut (rw same shown) beside) in
+    let from = some_same (sym c.in-Some-beside.is ∙ c.beside.ensures.member front back c.args.member shown refl) in
+    (λ k. Some (from k, to k))

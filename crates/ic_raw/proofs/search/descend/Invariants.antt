@@ -1,0 +1,19 @@
+use Rattle.std.proofs.Common.{◌≡◌, Some, true, List, [], ◌∷◌}
+use Rattle.ic_unsafe_ref.specs.declared.place.Place.{Place}
+use Rattle.ic_link_ops.specs.RedBlackTree.{Shows}
+use Rattle.ic_rbtree.specs.Closed.{AreIn}
+use Rattle.ic_raw.specs.Keys.{against}
+use Rattle.ic_raw.specs.Seen.{seen, seen_node, has_place}
+use Rattle.ic_raw.specs.Tree.{lent_table}
+use Rattle.ic_raw.proofs.Keys.{Comes}
+use Rattle.ic_raw.proofs.search.descend.Given as goal
+
+-- the search has come past as many members as it has looked at, in each tree that is shown
+abbrev pub invariant-loop : goal.invariant-loop
+invariant-loop l =
+    let t = lent_table l.fn.links in
+    record {
+      each : (s : List Place) (h : Shows seen_node (seen t) l.fn.tree.root s) → Comes t l.fn.tree.root (against l.key l.fn.keys) l.equals h.tree (Some l.place) l.way l.counter;
+      here : has_place t l.place ≡ true;
+      ends : AreIn (has_place t) (l.way.parent ∷ l.way.front ∷ l.way.back ∷ []);
+    }

@@ -1,0 +1,22 @@
+use Rattle.std.proofs.Common.{◌≡◌, refl, sym, ap, ◌∙◌}
+use Rattle.ic_link_ops.proofs.SequenceLemmas.{some_same}
+use Rattle.ic_raw.proofs.Singly.{law}
+use Rattle.ic_raw.proofs.Lists.{inserted}
+use Rattle.ic_raw.proofs.stack.insert.Goals as goal
+
+pub returns-clause-inserted : goal.returns-clause-inserted
+returns-clause-inserted c cut p shown after is free =
+    let gap = some_same (sym c.in-Some.is ∙ c.gap_after.ensures.shown cut shown after) in
+    let one : p ≡ c.in-Some-acquire.place = some_same (sym is ∙ c.acquire.ensures.same c.in-Some-acquire.place c.in-Some-acquire.is) in
+    let put = c.insert_linked.ensures in
+    rw one (
+      refl,
+      inserted law cut (ap (λ g. g.before) gap) (ap (λ g. g.behind) gap) shown (c.acquire.ensures.free c.in-Some-acquire.place c.in-Some-acquire.is)
+          (c.acquire.ensures.frame c.in-Some-acquire.place c.in-Some-acquire.is) put.shows put.extent put.others,
+    )
+
+pub returns-clause-free : goal.returns-clause-free
+returns-clause-free c made =
+    let place = c.in-Some-acquire.place in
+    let is = c.in-Some-acquire.is in
+    (place, c.acquire.ensures.same place is, c.acquire.ensures.free place is)

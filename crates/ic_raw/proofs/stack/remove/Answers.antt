@@ -1,0 +1,11 @@
+use Rattle.std.proofs.Common.{◌∙◌}
+use Rattle.ic_link_ops.proofs.ShownLists.{shows_middle}
+use Rattle.ic_raw.proofs.Lists.{removed}
+use Rattle.ic_raw.proofs.stack.remove.Goals as goal
+
+pub returns-clause-removed : goal.returns-clause-removed
+returns-clause-removed c front back shown after =
+    let behind = c.next-behind.ensures ∙ (shows_middle front back shown).next in
+    let off = c.bypass.ensures in
+    let released = c.release_link.ensures in
+    (removed front c.args.member back after behind shown off.shows off.extent off.others released.frame, released.released.is)

@@ -1,0 +1,23 @@
+use Rattle.std.proofs.Common.{◌≡◌, refl, sym, ◌∙◌}
+use Rattle.ic_link_ops.proofs.SequenceLemmas.{some_same}
+use Rattle.ic_link_ops.proofs.ShownLists.{shows_middle}
+use Rattle.ic_raw.proofs.Singly.{law}
+use Rattle.ic_raw.proofs.Lists.{replaced}
+use Rattle.ic_raw.proofs.stack.replace.Goals as goal
+
+pub returns-clause-replaced : goal.returns-clause-replaced
+returns-clause-replaced c front back p shown after is free =
+    let one : p ≡ c.in-Some.place = some_same (sym is ∙ c.acquire.ensures.same c.in-Some.place c.in-Some.is) in
+    let behind = c.next-behind.ensures ∙ (shows_middle front back shown).next in
+    let put = c.replace_linked.ensures in
+    let released = c.release_link.ensures in
+    rw one (
+      refl,
+      replaced law front c.args.member back after behind shown (c.acquire.ensures.free c.in-Some.place c.in-Some.is) (c.acquire.ensures.frame c.in-Some.place c.in-Some.is)
+          put.shows put.extent put.others released.frame,
+      released.released.is,
+    )
+
+pub returns-clause-free : goal.returns-clause-free
+returns-clause-free c made =
+    (c.in-Some.place, c.acquire.ensures.same c.in-Some.place c.in-Some.is, c.acquire.ensures.free c.in-Some.place c.in-Some.is)

@@ -1,0 +1,26 @@
+use Rattle.std.proofs.Common.{Some, sym, ap, ◌∙◌}
+use Rattle.ic_link_ops.specs.Sequences.{first, join}
+use Rattle.ic_link_ops.specs.SinglyLinkedList.{list_from}
+use Rattle.ic_link_ops.proofs.SequenceLemmas.{none_not, nothing_last}
+use Rattle.ic_link_ops.proofs.ShownLists.{last_linked}
+use Rattle.ic_raw.specs.Singly.{Shows, lent_table}
+use Rattle.ic_raw.proofs.Lists.{begin_apart}
+use Rattle.ic_raw.proofs.Singly.{law}
+use Rattle.ic_raw.proofs.stack.splice.Goals as goal
+
+pub returns-then-begin_alike-clause-spliced : goal.returns-then-begin_alike-clause-spliced
+returns-then-begin_alike-clause-spliced c cut t shown after given apart =
+    let both = c.begin_alike.ensures.alike c.if-begin_alike.true in
+    absurd (begin_apart (join cut) t apart (sym given.head ∙ both.1) (sym shown.head ∙ both.2))
+
+-- a list with a first member has a last one
+pub returns-in_default-last_from-clause-spliced : goal.returns-in_default-last_from-clause-spliced
+returns-in_default-last_from-clause-spliced c cut t shown after given apart =
+    let whole : Shows (lent_table c.args.links.now) (list_from (Some c.in-Some-first.front)) t = rw (sym c.first.ensures ∙ c.in-Some-first.is) at given in
+    let nothing = nothing_last t (sym c.in_default-last_from.is ∙ c.last_from.ensures.shown t whole) in
+    absurd (none_not c.in-Some-first.front (sym (whole.head ∙ ap first nothing)))
+
+pub splice_between-requires-clause-end : goal.splice_between-requires-clause-end
+splice_between-requires-clause-end c q e =
+    let walked = c.last_from.ensures.ended c.in-Some-last_from.back c.in-Some-last_from.is in
+    last_linked law walked.1 (sym e ∙ walked.2)

@@ -1,0 +1,10 @@
+use Rattle.ic_raw.specs.Tree.{lent_table}
+use Rattle.ic_raw.proofs.Trees.{in_range, end_in}
+use Rattle.ic_raw.proofs.tree.insert.Goals as goal
+
+pub put-requires : goal.put-requires
+put-requires c =
+    let old = lent_table c.args.links.now in
+    let law = in_range c.args.links.now in
+    let ok = c.if-not-is_hole.false in
+    (end_in old law _ (c.is_hole.ensures.at ok), (end_in old law _ (c.is_hole.ensures.root ok), tt))

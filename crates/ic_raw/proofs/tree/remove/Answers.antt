@@ -1,0 +1,40 @@
+use Rattle.std.proofs.Common.{[], refl}
+use Rattle.ic_link_ops.specs.declared.side.Side.TheVariants.{Left}
+use Rattle.ic_link_ops.proofs.SequenceLemmas.{absent_without, distinct_middle}
+use Rattle.ic_link_ops.proofs.ShownTrees.{shows_beside}
+use Rattle.ic_rbtree.proofs.Removing.{shown_of, shows_of, removes}
+use Rattle.ic_raw.specs.Gaps.{before}
+use Rattle.ic_raw.specs.Tree.{node, lent_table}
+use Rattle.ic_raw.specs.Seen.{seen, seen_node, has_place}
+use Rattle.ic_raw.proofs.Gaps.{never}
+use Rattle.ic_raw.proofs.Seen.{seen_changes}
+use Rattle.ic_raw.proofs.Trees.{in_range, has, end_in, closed, seen_shown, told_kept, members_told, told, frame_told}
+use Rattle.ic_raw.proofs.tree.remove.Goals as goal
+
+pub returns-then-not-stand-clause-removed : goal.returns-then-not-stand-clause-removed
+returns-then-not-stand-clause-removed c front back shown =
+    absurd (never c.if-not-stand.true (c.stand.ensures.shown Left (before c.args.member front back) shown refl))
+
+pub unlink-requires : goal.unlink-requires
+unlink-requires c =
+    let v = lent_table c.args.links.now in
+    let law = in_range c.args.links.now in
+    (has_place v, closed v _ (end_in v law _ (c.stand.ensures.root c.if-not-stand.false)), (has v law c.args.member (c.stand.ensures.at c.if-not-stand.false c.args.member refl), tt))
+
+pub returns-clause-removed : goal.returns-clause-removed
+returns-clause-removed c front back shown =
+    let member = c.args.member in
+    let v = lent_table c.args.links.now in
+    let w = lent_table c.unlink.new.nodes in
+    let z = lent_table c.release_link.new.self in
+    let old = seen_shown v (in_range c.args.links.now) [] (shown_of node shown) tt in
+    let new = c.unlink.ensures.taken (seen v) front back [] old in
+    let released = c.release_link.ensures in
+    let stays = told w (shows_of seen_node new) (λ q m. told_kept c.unlink.ensures.quiet q (members_told v (in_range c.args.links.now) shown q (λ out. m (absent_without front back member q out)))) in (
+      refl,
+      record {
+        shows = shows_beside {new = z} stays (distinct_middle front back member shown.held.distinct) released.frame.others;
+        frame = frame_told (removes seen_node (seen v) (seen w) (seen z) _ _ member (before member front back) back refl old new (seen_changes w z member released.frame)).frame;
+      },
+      released.released.is,
+    )

@@ -1,0 +1,31 @@
+use Rattle.std.proofs.Common.{◌≡◌, refl, sym, ◌∙◌, rules}
+use Rattle.ic_link_ops.proofs.SequenceLemmas.{some_same}
+use Rattle.ic_raw.specs.Words.{no_tree_words, is_linked_three}
+use Rattle.ic_raw.proofs.Gaps.{never}
+use Rattle.ic_raw.proofs.Views.{free_viewed, viewed, replaced_back, unlinked_back}
+use Rattle.ic_raw.proofs.Trees.{kept}
+use Rattle.ic_raw.proofs.tree_calls.replace.Goals as goal
+
+pub returns-then-not-replace-clause-replaced : goal.returns-then-not-replace-clause-replaced
+returns-then-not-replace-clause-replaced c front back out p at is shown' free =
+    let view = c.new-links.ensures.1 in
+    let one : out ≡ c.in-Some.member = some_same (sym at ∙ sym c.place_of.ensures ∙ c.in-Some.is) in
+    let shown = rw one at shown' in
+    let done = c.replace.ensures.replaced front back p (rw c.tree_of-edited.ensures (viewed no_tree_words kept c.new-links.result view shown))
+    (c.place_of-2.ensures ∙ is) (free_viewed no_tree_words c.new-links.result view free) in
+    absurd (never c.if-not-replace.true done.0)
+
+pub returns-clause-replaced : goal.returns-clause-replaced
+returns-clause-replaced c front back out p at is shown' free =
+    let view = c.new-links.ensures.1 in
+    let one : out ≡ c.in-Some.member = some_same (sym at ∙ sym c.place_of.ensures ∙ c.in-Some.is) in
+    let shown = rw one at shown' in
+    let done = c.replace.ensures.replaced front back p (rw c.tree_of-edited.ensures (viewed no_tree_words kept c.new-links.result view shown))
+    (c.place_of-2.ensures ∙ is) (free_viewed no_tree_words c.new-links.result view free) in
+    rw one (record {
+      accepted = refl;
+      done = (
+        replaced_back no_tree_words kept c.new-links.result c.replace.new.links view (search rules) (search rules) done.1,
+        unlinked_back no_tree_words is_linked_three c.replace.new.links c.in-Some.member (search rules) done.2,
+      );
+    })

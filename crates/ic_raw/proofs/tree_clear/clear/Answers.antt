@@ -1,0 +1,13 @@
+use Rattle.std.proofs.Common.{refl}
+use Rattle.ic_raw.proofs.Gaps.{never}
+use Rattle.ic_raw.proofs.Trees.{root_stands}
+use Rattle.ic_raw.proofs.tree_clear.clear.Goals as goal
+
+pub returns-then-not-stands-clause-cleared : goal.returns-then-not-stands-clause-cleared
+returns-then-not-stands-clause-cleared c s shown = absurd (never c.if-not-stands.true (c.stands.ensures.1 (rw c.root.ensures (root_stands shown))))
+
+pub returns-then-not-leads_to_end-clause-cleared : goal.returns-then-not-leads_to_end-clause-cleared
+returns-then-not-leads_to_end-clause-cleared c s shown = absurd (never c.if-not-leads_to_end.true (c.leads_to_end.ensures.shown s shown))
+
+pub returns-clause-cleared : goal.returns-clause-cleared
+returns-clause-cleared c s shown = (refl, c.unmark_all.ensures.cleared s shown)

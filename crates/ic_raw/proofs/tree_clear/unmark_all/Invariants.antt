@@ -1,0 +1,23 @@
+use Rattle.std.proofs.Common.{◌≡◌, List}
+use Rattle.ic_unsafe_ref.specs.declared.place.Place.{Place}
+use Rattle.ic_link_ops.specs.Sequences.{IsAbsent, IsMember}
+use Rattle.ic_link_ops.specs.Tables.{IsUnlinked}
+use Rattle.ic_rbtree.specs.Tree.{root_of}
+use Rattle.ic_raw.specs.Tree.{Shows, lent_table}
+use Rattle.ic_raw.specs.WholeTree.{IsSeen}
+use Rattle.ic_raw.specs.Words.{is_linked_three}
+use Rattle.ic_raw.proofs.TreeWalks.{HasComeTo}
+use Rattle.ic_raw.proofs.tree_clear.unmark_all.Given as goal
+
+-- a walk through what is seen has come here: the members in front are unlinked, and nothing else is changed
+abbrev pub invariant-loop-left : goal.invariant-loop-left
+invariant-loop-left l = record {
+  extent : (lent_table l.links).extent ≡ (lent_table l.fn.links).extent;
+  walked : (s : List Place) → Shows (lent_table l.fn.links) (root_of l.fn.tree) s
+      → (k : HasComeTo s l.at l.left) × IsSeen (lent_table l.links) (root_of l.fn.tree) s
+      × ((p : Place) → IsMember p k.done → IsUnlinked is_linked_three (lent_table l.links) p)
+      × ((q : Place) → IsAbsent q k.done → (lent_table l.links).entry q ≡ (lent_table l.fn.links).entry q);
+}
+
+abbrev pub decreases-loop-left : goal.decreases-loop-left
+decreases-loop-left l = l.left

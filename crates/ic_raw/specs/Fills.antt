@@ -1,0 +1,47 @@
+-- Runs of places with numbers one after another, and what a call does that puts one in: in the same words for every kind.
+use Rattle.std.specs.Prelude.{◌≡◌, ℕ, zero, suc, ◌+◌, Bool, List, [], ◌∷◌, length, Option, Some}
+use Rattle.ic_unsafe_ref.specs.declared.place.Place.{Place}
+use Rattle.ic_link_ops.specs.Sequences.{Cut, join}
+use Rattle.ic_link_ops.specs.Tables.{Table}
+use Rattle.ic_link_ops.specs.PlainTables.{table_of}
+use Rattle.ic_link_ops.specs.Edits.{Splices}
+use Rattle.ic_raw.specs.Answers.{IsAccepted}
+use Rattle.ic_raw.specs.Calls.{ShowsList}
+use Rattle.ic_raw.specs.Tables.{IsFree}
+use Rattle.ic_raw.specs.Words.{place_of}
+
+-- THE RUN FROM A NUMBER: the place with that number, that with the next one, and so on
+abbrev pub IsRun : (first : ℕ) → List Place → Type 0
+IsRun first [] = Unit {0}
+IsRun first (p ∷ run) = (place_of first ≡ Some p) × IsRun (first + 1) run
+
+-- the faults of so many numbers from the first one on, each by that of its place
+abbrev pub run_faults : (fault : Option Place → ℕ) → (first count : ℕ) → List ℕ
+run_faults fault first zero = []
+run_faults fault first (suc count) = fault (place_of first) ∷ run_faults fault (first + 1) count
+
+-- the first fault of these, 0 where there is none
+abbrev pub first_fault : (faults : List ℕ) → ℕ
+first_fault [] = 0
+first_fault (zero ∷ faults) = first_fault faults
+first_fault (suc fault ∷ faults) = suc fault
+
+-- each of these places is one of the table, and not linked
+abbrev pub AreFree : {E : Type 0} → (linked : E → Bool) → Table E → List Place → Type 0
+AreFree linked t [] = Unit {0}
+AreFree linked t (p ∷ run) = IsFree linked t p × AreFree linked t run
+
+-- THE RUN IS FREE: it has so many places from this number on, and each is one of the table and not linked
+pub record IsFreeRun {E : Type 0} (linked : E → Bool) (t : Table E) (first count : ℕ) : Type 0 where
+  pub run : List Place
+  pub numbered : IsRun first run
+  pub counted : length run ≡ count
+  pub free : AreFree linked t run
+
+-- `Shows`, `linked`, `unlinked` and `head_of` are those of a kind, as in Calls
+module _ {W R H : Type 0} (Shows : Table W → H → List Place → Type 0) (linked : W → Bool) (unlinked : W) (head_of : R → H) where
+  -- a run that is free goes in where the list is cut
+  abbrev pub Filled : (old new : List W) (list list' : R) (status : ℕ) → Cut → (first count : ℕ) → Type 0
+  Filled old new list list' status cut first count =
+      ShowsList Shows linked unlinked head_of old list (join cut) → (free : IsFreeRun linked (table_of unlinked old) first count)
+      → IsAccepted status (Splices Shows (table_of unlinked old) (table_of unlinked new) (head_of list') cut free.run)

@@ -1,0 +1,43 @@
+-- The gap at which a call edits.
+use Rattle.std.specs.Prelude.{◌≡◌, ◌≢◌, ◌∷◌, List, Bool, Option, Some}
+use Rattle.ic_unsafe_ref.specs.declared.place.Place.{Place}
+use Rattle.ic_link_ops.specs.Sequences.{Cut, at_front, at_back, first, last, IsAfter, IsBefore}
+use Rattle.ic_link_ops.specs.Tables.{Table, IsLinked}
+use Rattle.ic_raw.specs.declared.gap.Gap.{Gap}
+use Rattle.ic_raw.specs.declared.gap.Side.{Side}
+use Rattle.ic_raw.specs.declared.gap.Side.TheVariants.{After, Before}
+
+-- the gap is that after the place, the first one of all at none; or that before it, the last one of all at none
+abbrev pub IsBeside : Side → Cut → Option Place → Type 0
+IsBeside After cut at = IsAfter cut at
+IsBeside Before cut at = IsBefore cut at
+
+-- none, or a linked place
+abbrev pub Stands : {E : Type 0} → (E → Bool) → Table E → Option Place → Type 0
+Stands linked t at = (q : Place) → at ≡ Some q → IsLinked linked t q
+
+-- both sides of a gap are
+abbrev pub StandBeside : {E : Type 0} → (E → Bool) → Table E → Gap → Type 0
+StandBeside linked t gap = Stands linked t gap.before × Stands linked t gap.behind
+
+-- the place is on neither side of a gap
+abbrev pub IsApart : Gap → Place → Type 0
+IsApart gap p = (gap.before ≢ Some p) × (gap.behind ≢ Some p)
+
+-- where a sequence is cut, as a call finds it
+abbrev pub gap_of : Cut → Gap
+gap_of cut = record { before = last cut.front; behind = first cut.back }
+
+-- the outermost gap on this side of none: in front of all, or behind all
+abbrev pub outermost : Side → List Place → Cut
+outermost After s = at_front s
+outermost Before s = at_back s
+
+-- the place of a gap that is toward this side of none
+abbrev pub toward : Side → Gap → Option Place
+toward After gap = gap.before
+toward Before gap = gap.behind
+
+-- the gap in front of a member
+abbrev pub before : Place → (front back : List Place) → Cut
+before p front back = record { front = front; back = p ∷ back }

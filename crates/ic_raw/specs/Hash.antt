@@ -1,0 +1,44 @@
+-- Hash tables over a caller's words: an array of buckets, each the singly linked list of those members whose hash leads there.
+use Rattle.std.specs.Prelude.{◌≡◌, ◌≢◌, ◌<◌, ℕ, ◌%◌, Bool, true, nat_eq, cond, None, List, length, slice_index_or}
+use Rattle.ic_unsafe_ref.specs.declared.place.Place.{Place}
+use Rattle.ic_link_ops.specs.Sequences.{IsDisjoint}
+use Rattle.ic_link_ops.specs.Tables.{IsLinked}
+use Rattle.ic_raw.specs.declared.words.RawOne.{RawOne}
+use Rattle.ic_raw.specs.declared.words.RawFront.{RawFront}
+use Rattle.ic_raw.specs.Keys.{key_of}
+use Rattle.ic_raw.specs.Singly.{ShowsList, table_of, word_of_front}
+use Rattle.ic_raw.specs.Words.{is_linked_one, HasNumber}
+
+-- the number of the bucket where a hash leads
+abbrev pub slot_of : List RawFront → ℕ → ℕ
+slot_of buckets hash = hash % length buckets
+
+-- the words of a bucket, those of an empty list where there is no such bucket
+abbrev pub bucket_at : List RawFront → ℕ → RawFront
+bucket_at buckets i = slice_index_or buckets i (word_of_front None)
+
+-- THE CHAIN OF A HASH is the list in its bucket
+abbrev pub chain_of : List RawFront → ℕ → RawFront
+chain_of buckets hash = bucket_at buckets (slot_of buckets hash)
+
+-- THE FAULT OF BUCKETS: there is none (1)
+abbrev pub buckets_fault : List RawFront → ℕ
+buckets_fault buckets = cond (nat_eq (length buckets) 0) 1 0
+
+-- there are as many buckets as before, and none has changed but that of this hash
+pub record ChangesOnlyChain (old new : List RawFront) (hash : ℕ) : Type 0 where
+  pub count : length new ≡ length old
+  pub others : (i : ℕ) → i ≢ slot_of old hash → bucket_at new i ≡ bucket_at old i
+
+-- whether the key of a place is this one
+abbrev pub has_key : List ℕ → ℕ → Place → Bool
+has_key keys key p = nat_eq (key_of keys p) key
+
+-- the number is that of a linked place with this key
+abbrev pub NamesKey : List RawOne → List ℕ → ℕ → ℕ → Type 0
+NamesKey words keys key number = (q : Place) × IsLinked is_linked_one (table_of words) q × (has_key keys key q ≡ true) × HasNumber q number
+
+-- THE BUCKETS HOLD these chains: each shows its own, and no two of them share a member
+pub record HoldsChains (words : List RawOne) (buckets : List RawFront) (chains : ℕ → List Place) : Type 0 where
+  pub shown : (i : ℕ) → i < length buckets → ShowsList words (bucket_at buckets i) (chains i)
+  pub apart : (i j : ℕ) → i < length buckets → j < length buckets → i ≢ j → IsDisjoint (chains i) (chains j)

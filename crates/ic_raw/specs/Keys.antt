@@ -1,0 +1,61 @@
+-- Searches of a tree by keys that stand in an array, one for each place.
+use Rattle.std.specs.Prelude.{◌≡◌, ℕ, Bool, true, false, Option, Some, None, List, length, cond, nat_lt, slice_index}
+use Rattle.std.specs.Ordering.{nat_cmp}
+use Rattle.std.specs.declared.cmp.Ordering.{Ordering}
+use Rattle.ic_unsafe_ref.specs.declared.place.Place.{Place}
+use Rattle.ic_unsafe_ref.specs.Objects.{at_indexes}
+use Rattle.ic_unsafe_ref.specs.Places.{index_of}
+use Rattle.ic_link_ops.specs.Sequences.{Cut, first, last}
+use Rattle.ic_link_ops.specs.Tables.{Table}
+use Rattle.ic_link_ops.specs.declared.side.Side.TheVariants.{Left, Right}
+use Rattle.ic_rbtree.specs.Borders.{Finds, IsLowerBorder, IsUpperBorder}
+use Rattle.ic_rbtree.specs.Comparing.{compared}
+use Rattle.ic_rbtree.specs.Insertion.{IsHole}
+use Rattle.ic_rbtree.specs.Ordered as ordered
+use Rattle.ic_rbtree.specs.declared.keys.key_adapter.Bound.TheVariants.{Included}
+use Rattle.ic_raw.specs.declared.words.RawThree.{RawThree}
+use Rattle.ic_raw.specs.declared.words.RawRoot.{RawRoot}
+use Rattle.ic_raw.specs.declared.search.Way.{Way}
+use Rattle.ic_raw.specs.declared.search.Target.{Target}
+use Rattle.ic_raw.specs.declared.search.Target.TheVariants.{Equal, AtLeast, AtMost}
+use Rattle.ic_raw.specs.Answers.{IsAccepted}
+use Rattle.ic_raw.specs.Seen.{seen, seen_node}
+use Rattle.ic_raw.specs.Tree.{Shows, ShowsTree, FreeIn, root_in, table_of}
+
+-- how a key stands to that of each place: `Less` where it is less
+abbrev pub against : ℕ → List ℕ → Place → Ordering
+against key keys = compared (nat_cmp key) (at_indexes keys)
+
+-- THE FAULT OF KEYS: there are fewer of them than places (1)
+abbrev pub keys_fault : (keys : List ℕ) → (places : ℕ) → ℕ
+keys_fault keys places = cond (nat_lt (length keys) places) 1 0
+
+-- the key of a place
+abbrev pub key_of : List ℕ → Place → ℕ
+key_of keys p = slice_index keys (index_of p)
+
+-- ON THE WAY DOWN: at the root, and past one more member, to one side of it
+abbrev pub at_root : Way
+at_root = record { parent = None; side = Left; front = None; back = None }
+
+abbrev pub past : Way → Place → Bool → Way
+past way p true = record { parent = Some p; side = Left; front = way.front; back = Some p }
+past way p false = record { parent = Some p; side = Right; front = Some p; back = way.back }
+
+-- THE WAY ENDS in this gap, which is a hole as the table is seen
+pub record EndsIn (t : Table RawThree) (gap : Cut) (way : Way) : Type 0 where
+  pub hole : IsHole seen_node (seen t) way.parent way.side gap
+  pub front_is : way.front ≡ last gap.front
+  pub back_is : way.back ≡ first gap.back
+
+-- THE MEMBER THAT IS SEARCHED: the first with this key; the first with a key of at least that; the last with a key of at most that
+abbrev pub IsTarget : Target → (Place → Ordering) → List Place → Option Place → Type 0
+IsTarget Equal at s position = Finds at s position
+IsTarget AtLeast at s position = IsLowerBorder (Included at) s position
+IsTarget AtMost at s position = IsUpperBorder (Included at) s position
+
+-- p, which is free, is inserted behind all members with no greater key than its own
+abbrev pub InsertedInOrder : (keys : List ℕ) (old new : List RawThree) (tree tree' : RawRoot) (status : ℕ) → List Place → Place → Type 0
+InsertedInOrder keys old new tree tree' status s p =
+    ShowsTree old tree s → FreeIn old p
+    → IsAccepted status (ordered.InsertsInOrder Shows (against (key_of keys p) keys) (table_of old) (table_of new) (root_in tree') s p)

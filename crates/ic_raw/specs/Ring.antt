@@ -1,0 +1,43 @@
+-- Rings over a caller's words: a head is a place of the table, and stands in a circle with its members.
+use Rattle.std.specs.Prelude.{◌≡◌, List, ◌∷◌, Some, true}
+use Rattle.ic_unsafe_ref.specs.declared.place.Place.{Place}
+use Rattle.ic_link_ops.specs.Tables.{Table, KeepsBeside}
+use Rattle.ic_link_ops.specs.LinkedList.{neighbors_at}
+use Rattle.ic_ring.specs.Rings as rings
+use Rattle.ic_raw.specs.declared.words.RawTwo.{RawTwo}
+use Rattle.ic_raw.specs.declared.gap.Side.{Side}
+use Rattle.ic_raw.specs.declared.gap.Side.TheVariants.{After, Before}
+use Rattle.ic_raw.specs.Words.{is_linked_two}
+use Rattle.ic_raw.specs.Doubly.{neighbors}
+
+-- r IS A CIRCLE: no place stands twice in it, each stands between its neighbors, and behind the last stands the first
+abbrev pub IsCircle : Table RawTwo → List Place → Type 0
+IsCircle t = rings.IsCircle neighbors t.entry
+
+-- THE WORDS TELL that y stands behind x: both are linked, and each names the other
+pub record IsTold (t : Table RawTwo) (x y : Place) : Type 0 where
+  pub linked : is_linked_two (t.entry x) ≡ true
+  pub next : (neighbors_at neighbors t x).next ≡ Some y
+  pub stands : is_linked_two (t.entry y) ≡ true
+  pub prev : (neighbors_at neighbors t y).prev ≡ Some x
+
+-- a circle is there, and nothing but entries of these places is changed
+pub record Makes (old new : Table RawTwo) (touched made : List Place) : Type 0 where
+  pub circle : IsCircle new made
+  pub frame : KeepsBeside old new touched
+
+-- two circles are
+pub record MakesTwo (old new : Table RawTwo) (touched made other : List Place) : Type 0 where
+  pub circle : IsCircle new made
+  pub beside : IsCircle new other
+  pub frame : KeepsBeside old new touched
+
+-- of two neighbors, the one on whose side the other stands: the first, or the second
+abbrev pub own_on : Side → Place × Place → Place
+own_on After x = x.0
+own_on Before x = x.1
+
+-- the circle with p put in on that side of its first place
+abbrev pub put_in : Side → (at p : Place) → List Place → List Place
+put_in After at p s = at ∷ p ∷ s
+put_in Before at p s = p ∷ at ∷ s

@@ -1,0 +1,92 @@
+-- Singly linked lists over a caller's words.
+use Rattle.std.specs.Prelude.{ℕ, List, Option, Some, None}
+use Rattle.ic_unsafe_ref.specs.declared.place.Place.{Place}
+use Rattle.ic_unsafe_ref.specs.Places.{word_of}
+use Rattle.ic_link_ops.specs.Sequences.{Cut}
+use Rattle.ic_link_ops.specs.Tables.{Table}
+use Rattle.ic_link_ops.specs.SinglyLinkedList as singly
+use Rattle.ic_link_ops.specs.SinglyLinkedList.{Front, list_from, Successor, successor_at}
+use Rattle.ic_link_ops.specs.PlainTables as plain
+use Rattle.ic_raw.specs.declared.words.RawOne.{RawOne}
+use Rattle.ic_raw.specs.declared.words.RawFront.{RawFront}
+use Rattle.ic_raw.specs.declared.table.RawTable.{RawTable}
+use Rattle.ic_raw.specs.Words.{place_in, no_word, is_linked_one, next_of_one}
+use Rattle.ic_raw.specs.Tables.{raw_table, successor_of}
+use Rattle.ic_raw.specs.Calls as calls
+use Rattle.ic_raw.specs.Fills as fills
+
+-- the words of a table, and those that are lent, as clauses see them
+abbrev pub table_of : List RawOne → Table RawOne
+table_of = plain.table_of no_word
+
+abbrev pub lent_table : RawTable RawOne → Table RawOne
+lent_table = raw_table no_word
+
+-- what stands behind an entry's place
+abbrev pub successor : RawOne → Successor
+successor = successor_of next_of_one is_linked_one
+
+-- THE TABLE SHOWS s for the list with this front
+abbrev pub Shows : Table RawOne → Front → List Place → Type 0
+Shows = singly.Shows successor
+
+-- the front of a list by its word
+abbrev pub front_of : RawFront → Option Place
+front_of l = place_in l.head
+
+-- and the word of a front, as a call writes it: none is 0
+abbrev pub word_of_front : Option Place → RawFront
+word_of_front first = record { head = word_of first }
+
+-- and the list with that front
+abbrev pub list_of : RawFront → Front
+list_of l = list_from (front_of l)
+
+-- what stands behind a place, the first of the list at none
+abbrev pub next_from : Table RawOne → Front → Option Place → Option Place
+next_from t list None = list.head
+next_from t list (Some p) = (successor_at successor t p).next
+
+-- what a call does to such words
+abbrev pub ShowsList : List RawOne → RawFront → List Place → Type 0
+ShowsList = calls.ShowsList Shows is_linked_one no_word list_of
+
+abbrev pub FreeIn : List RawOne → Place → Type 0
+FreeIn = calls.FreeIn Shows is_linked_one no_word list_of
+
+abbrev pub StandsIn : List RawOne → Option Place → Type 0
+StandsIn = calls.StandsIn Shows is_linked_one no_word list_of
+
+abbrev pub fault_at : List RawOne → Option Place → ℕ
+fault_at = calls.fault_at Shows is_linked_one no_word list_of
+
+abbrev pub fault_of : List RawOne → Option Place → ℕ
+fault_of = calls.fault_of Shows is_linked_one no_word list_of
+
+abbrev pub Inserted : (old new : List RawOne) (list list' : RawFront) (status : ℕ) → Cut → Place → Type 0
+Inserted = calls.Inserted Shows is_linked_one no_word list_of
+
+abbrev pub Removed : (old new : List RawOne) (list list' : RawFront) (status : ℕ) → Place → (front back : List Place) → Type 0
+Removed = calls.Removed Shows is_linked_one no_word list_of
+
+abbrev pub Popped : (old new : List RawOne) (list list' : RawFront) (status number : ℕ) → Place → (front back : List Place) → Type 0
+Popped = calls.Popped Shows is_linked_one no_word list_of
+
+abbrev pub Exchanged : (old new : List RawOne) (list list' : RawFront) (status number : ℕ) → Place → (front back : List Place) → Place → Type 0
+Exchanged = calls.Exchanged Shows is_linked_one no_word list_of
+
+abbrev pub Spliced : (old new : List RawOne) (list list' : RawFront) (status : ℕ) → RawFront → Cut → List Place → Type 0
+Spliced = calls.Spliced Shows is_linked_one no_word list_of
+
+abbrev pub Split : (old new : List RawOne) (list list' : RawFront) (status : ℕ) → RawFront → Cut → Type 0
+Split old new list list' status rest cut = calls.Split Shows is_linked_one no_word list_of old new list list' status rest cut cut.front cut.back
+
+abbrev pub Cleared : (old new : List RawOne) (list list' : RawFront) (status : ℕ) → List Place → Type 0
+Cleared = calls.Cleared Shows is_linked_one no_word list_of
+
+abbrev pub Filled : (old new : List RawOne) (list list' : RawFront) (status : ℕ) → Cut → (first count : ℕ) → Type 0
+Filled = fills.Filled Shows is_linked_one no_word list_of
+
+-- the run of so many places from this number on is free in the table of these words
+abbrev pub IsFreeRunIn : List RawOne → (first count : ℕ) → Type 0
+IsFreeRunIn words = fills.IsFreeRun is_linked_one (table_of words)

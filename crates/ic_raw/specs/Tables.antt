@@ -1,0 +1,55 @@
+-- A table over words that a caller lends.
+use Rattle.std.specs.Prelude.{◌≡◌, ◌∷◌, [], List, ℕ, Bool, cond, nat_lt, Option, Some, None}
+use Rattle.std.specs.Borrow.{MutBor}
+use Rattle.ic_unsafe_ref.specs.declared.place.Place.{Place}
+use Rattle.ic_unsafe_ref.specs.Places.{index_of}
+use Rattle.ic_link_ops.specs.Tables.{Table, IsCovered, IsUnlinked}
+use Rattle.ic_link_ops.specs.PlainTables.{table_with}
+use Rattle.ic_link_ops.specs.Links.{link_of}
+use Rattle.ic_link_ops.specs.LinkedList.{Neighbors}
+use Rattle.ic_link_ops.specs.SinglyLinkedList.{Successor}
+use Rattle.ic_link_ops.specs.Readings as readings
+use Rattle.ic_raw.specs.declared.table.RawTable.{RawTable}
+
+module _ {W : Type 0} where
+  -- it is a view of these words, as they are
+  abbrev pub IsView : MutBor (List W) → RawTable W → Type 0
+  IsView words t = (t.entries.ghost_name ≡ words.ghost_name) × (t.entries.now ≡ words.now)
+
+  -- the words that are lent, in the order of their places
+  abbrev pub raw_entries : RawTable W → List W
+  raw_entries t = t.entries.now
+
+  -- as a table: the name of the borrow tells it from other tables that are lent
+  abbrev pub raw_table : W → RawTable W → Table W
+  raw_table unlinked t = table_with unlinked (t.entries.ghost_name ∷ []) (raw_entries t)
+
+  -- THE FAULT OF A MEMBER that is named: it is not linked (3), or none of the table (1). None has no fault
+  abbrev pub member_fault : (is_linked : W → Bool) → Table W → Option Place → ℕ
+  member_fault is_linked t None = 0
+  member_fault is_linked t (Some p) = cond (is_linked (t.entry p)) 0 (cond (nat_lt (index_of p) t.extent.places) 3 1)
+
+  -- THE FAULT OF A PLACE that is to go in: it is linked (2), or none of the table (1)
+  abbrev pub place_fault : (is_linked : W → Bool) → Table W → Option Place → ℕ
+  place_fault is_linked t None = 1
+  place_fault is_linked t (Some p) = cond (nat_lt (index_of p) t.extent.places) (cond (is_linked (t.entry p)) 2 0) 1
+
+  -- the place is one of the table, and not linked
+  pub record IsFree (is_linked : W → Bool) (t : Table W) (p : Place) : Type 0 where
+    pub covered : IsCovered t p
+    pub unlinked : IsUnlinked is_linked t p
+
+module _ {W : Type 0} (next_word : W → ℕ) where
+  -- what the words say of neighbors, as links do
+  abbrev pub joins_of : W → Option Place → Option Place → Type 0
+  joins_of w = readings.XorJoins next_word (link_of w)
+
+  abbrev pub other_of : W → Option Place → Option Place
+  other_of w = readings.xor_other next_word (link_of w)
+
+  module _ (is_linked : W → Bool) where
+    abbrev pub successor_of : W → Successor
+    successor_of w = readings.successor_of next_word is_linked (link_of w)
+
+    abbrev pub neighbors_of : (W → Option Place) → W → Neighbors
+    neighbors_of prev w = readings.neighbors_of next_word is_linked prev (link_of w)

@@ -1,0 +1,79 @@
+-- Red-black trees over a caller's words.
+use Rattle.std.specs.Prelude.{◌≡◌, ℕ, List, Option, Some, None}
+use Rattle.ic_unsafe_ref.specs.declared.place.Place.{Place}
+use Rattle.ic_unsafe_ref.specs.Places.{word_of}
+use Rattle.ic_link_ops.specs.declared.side.Side.{Side}
+use Rattle.ic_link_ops.specs.Sequences.{Cut}
+use Rattle.ic_link_ops.specs.Tables.{Table, IsLinked}
+use Rattle.ic_link_ops.specs.Frames.{child_on}
+use Rattle.ic_link_ops.specs.RedBlackTree as trees
+use Rattle.ic_link_ops.specs.RedBlackTree.{Node}
+use Rattle.ic_link_ops.specs.PlainTables as plain
+use Rattle.ic_rbtree.specs.Insertion as holes
+use Rattle.ic_raw.specs.declared.words.RawThree.{RawThree}
+use Rattle.ic_raw.specs.declared.words.RawRoot.{RawRoot}
+use Rattle.ic_raw.specs.declared.table.RawTable.{RawTable}
+use Rattle.ic_raw.specs.Words.{place_in, HasNumber, no_tree_words, is_linked_three, color_of}
+use Rattle.ic_raw.specs.Tables.{raw_table}
+use Rattle.ic_raw.specs.Calls as calls
+
+-- the words of a table, and those that are lent, as clauses see them
+abbrev pub table_of : List RawThree → Table RawThree
+table_of = plain.table_of no_tree_words
+
+abbrev pub lent_table : RawTable RawThree → Table RawThree
+lent_table = raw_table no_tree_words
+
+-- what an entry says of a tree
+abbrev pub node : RawThree → Node
+node w = record { linked = is_linked_three w; left = place_in w.left; right = place_in w.right; parent = place_in w.parent; color = color_of w }
+
+-- THE TABLE SHOWS s for the tree with this root
+abbrev pub Shows : Table RawThree → Option Place → List Place → Type 0
+Shows = trees.Shows node
+
+-- the root of a tree by its word
+abbrev pub root_in : RawRoot → Option Place
+root_in t = place_in t.root
+
+-- and the word of a root, as a call writes it: none is 0
+abbrev pub word_of_root : Option Place → RawRoot
+word_of_root root = record { root = word_of root }
+
+-- THE HOLE on a side of a member, where it has no child: the gap before it on the left, behind it on the right. At none the tree is empty
+abbrev pub IsHole : Side → Table RawThree → Option Place → Cut → Type 0
+IsHole side t at cut = holes.IsHole node t at side cut
+
+-- THE WORDS TELL OF A HOLE there: the place has no child on this side; at none the tree has no root
+abbrev pub TellsHole : Side → Table RawThree → (root : Option Place) → Option Place → Type 0
+TellsHole side t root None = root ≡ None
+TellsHole side t root (Some p) = child_on side (node (t.entry p)) ≡ None
+
+-- the number is that of a linked place
+abbrev pub NamesLinked : List RawThree → ℕ → Type 0
+NamesLinked words number = (q : Place) × IsLinked is_linked_three (table_of words) q × HasNumber q number
+
+-- what a call does to such words
+abbrev pub ShowsTree : List RawThree → RawRoot → List Place → Type 0
+ShowsTree = calls.ShowsList Shows is_linked_three no_tree_words root_in
+
+abbrev pub FreeIn : List RawThree → Place → Type 0
+FreeIn = calls.FreeIn Shows is_linked_three no_tree_words root_in
+
+abbrev pub StandsIn : List RawThree → Option Place → Type 0
+StandsIn = calls.StandsIn Shows is_linked_three no_tree_words root_in
+
+abbrev pub fault_at : List RawThree → Option Place → ℕ
+fault_at = calls.fault_at Shows is_linked_three no_tree_words root_in
+
+abbrev pub fault_of : List RawThree → Option Place → ℕ
+fault_of = calls.fault_of Shows is_linked_three no_tree_words root_in
+
+abbrev pub Inserted : (old new : List RawThree) (tree tree' : RawRoot) (status : ℕ) → Cut → Place → Type 0
+Inserted = calls.Inserted Shows is_linked_three no_tree_words root_in
+
+abbrev pub Removed : (old new : List RawThree) (tree tree' : RawRoot) (status : ℕ) → Place → (front back : List Place) → Type 0
+Removed = calls.Removed Shows is_linked_three no_tree_words root_in
+
+abbrev pub Replaced : (old new : List RawThree) (tree tree' : RawRoot) (status : ℕ) → Place → (front back : List Place) → Place → Type 0
+Replaced = calls.Replaced Shows is_linked_three no_tree_words root_in

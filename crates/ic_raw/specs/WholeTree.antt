@@ -1,0 +1,19 @@
+-- Trees over a caller's words, as a whole.
+use Rattle.std.specs.Prelude.{ℕ, List, Option}
+use Rattle.ic_unsafe_ref.specs.declared.place.Place.{Place}
+use Rattle.ic_link_ops.specs.Tables.{Table}
+use Rattle.ic_link_ops.specs.RedBlackTree as trees
+use Rattle.ic_raw.specs.declared.words.RawThree.{RawThree}
+use Rattle.ic_raw.specs.declared.words.RawRoot.{RawRoot}
+use Rattle.ic_raw.specs.Words.{no_tree_words, is_linked_three}
+use Rattle.ic_raw.specs.Seen.{seen, seen_node}
+use Rattle.ic_raw.specs.Tree.{Shows, root_in}
+use Rattle.ic_raw.specs.Calls as calls
+
+-- s is seen in the table for the tree with this root, whichever of its members have the mark of a linked place
+abbrev pub IsSeen : Table RawThree → Option Place → List Place → Type 0
+IsSeen t = trees.Shows seen_node (seen t)
+
+-- all members are unlinked
+abbrev pub Cleared : (old new : List RawThree) (tree tree' : RawRoot) (status : ℕ) → List Place → Type 0
+Cleared = calls.Cleared Shows is_linked_three no_tree_words root_in

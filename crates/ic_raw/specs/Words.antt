@@ -1,0 +1,62 @@
+-- What a caller's words say.
+use Rattle.std.specs.Prelude.{◌≡◌, ℕ, ◌+◌, ◌*◌, ◌/◌, ◌%◌, ◌<◌, Bool, cond, nat_eq, Option, Some}
+use Rattle.ic_unsafe_ref.specs.declared.place.Place.{Place}
+use Rattle.ic_unsafe_ref.specs.Places.{index_of, place_at}
+use Rattle.ic_link_ops.specs.declared.color.Color.{Color}
+use Rattle.ic_link_ops.specs.declared.color.Color.TheVariants.{Red, Black}
+use Rattle.ic_raw.specs.declared.words.RawOne.{RawOne}
+use Rattle.ic_raw.specs.declared.words.RawTwo.{RawTwo}
+use Rattle.ic_raw.specs.declared.words.RawThree.{RawThree}
+
+-- the number that a word keeps: a multiple of 8 below 2 ^ 36, whatever the word's bits are
+abbrev pub number_in : ℕ → ℕ
+number_in v = v / 8 % 8589934592 * 8
+
+-- the place that it names, none at 0
+abbrev pub place_in : ℕ → Option Place
+place_in v = place_at (number_in v)
+
+-- whether it has the mark of a linked place
+abbrev pub is_marked : ℕ → Bool
+is_marked v = nat_eq (v % 2) 1
+
+-- the place with that index, and none at 4,294,967,295
+abbrev pub place_of : ℕ → Option Place
+place_of i = place_at (8 * ((i + 1) % 4294967296))
+
+-- the number names that place, if its index is below 4,294,967,295
+abbrev pub HasNumber : Place → ℕ → Type 0
+HasNumber p number = index_of p < 4294967295 → place_of number ≡ Some p
+
+-- one word: that of an unlinked place, whether a place is linked, and the number of what follows
+abbrev pub no_word : RawOne
+no_word = record { next = 0 }
+
+abbrev pub is_linked_one : RawOne → Bool
+is_linked_one w = is_marked w.next
+
+abbrev pub next_of_one : RawOne → ℕ
+next_of_one w = number_in w.next
+
+-- two words: the same of the first, and the place before
+abbrev pub no_words : RawTwo
+no_words = record { next = 0; prev = 0 }
+
+abbrev pub is_linked_two : RawTwo → Bool
+is_linked_two w = is_marked w.next
+
+abbrev pub next_of_two : RawTwo → ℕ
+next_of_two w = number_in w.next
+
+abbrev pub prev_of_two : RawTwo → Option Place
+prev_of_two w = place_in w.prev
+
+-- three words: those of an unlinked place, whether a place is linked, and in which color
+abbrev pub no_tree_words : RawThree
+no_tree_words = record { left = 0; right = 0; parent = 0 }
+
+abbrev pub is_linked_three : RawThree → Bool
+is_linked_three w = is_marked w.left
+
+abbrev pub color_of : RawThree → Color
+color_of w = cond (is_marked w.parent) Black Red

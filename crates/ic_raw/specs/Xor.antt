@@ -1,0 +1,105 @@
+-- XOR linked lists over a caller's words.
+use Rattle.std.specs.Prelude.{◌≡◌, true, ℕ, List, [], ◌∷◌, Option, Some, None}
+use Rattle.ic_unsafe_ref.specs.declared.place.Place.{Place}
+use Rattle.ic_link_ops.specs.Sequences.{Cut}
+use Rattle.ic_link_ops.specs.Tables.{Table}
+use Rattle.ic_link_ops.specs.Chains.{Ends}
+use Rattle.ic_link_ops.specs.XorLinkedList as xor
+use Rattle.ic_raw.specs.declared.words.RawOne.{RawOne}
+use Rattle.ic_raw.specs.declared.words.RawEnds.{RawEnds}
+use Rattle.ic_raw.specs.Words.{no_word, is_linked_one, next_of_one}
+use Rattle.ic_raw.specs.Tables.{joins_of, other_of}
+use Rattle.ic_raw.specs.Doubly.{ends_of}
+use Rattle.ic_raw.specs.Calls as calls
+use Rattle.ic_raw.specs.Fills as fills
+
+-- an entry's place stands between these two
+abbrev pub Joins : RawOne → Option Place → Option Place → Type 0
+Joins = joins_of next_of_one
+
+-- its neighbor on the other side of the one that is told
+abbrev pub other : RawOne → Option Place → Option Place
+other = other_of next_of_one
+
+-- THE TABLE SHOWS s for the list with these ends
+abbrev pub Shows : Table RawOne → Ends → List Place → Type 0
+Shows = xor.Shows is_linked_one Joins
+
+-- THE LIST GOES ON beyond a place: a linked place stands there, or nothing does, and the place is the list's end on that side
+abbrev pub GoesOn : (Place → RawOne) → (end : Option Place) → Place → (beyond : Option Place) → Type 0
+GoesOn entry end p None = end ≡ Some p
+GoesOn entry end p (Some q) = is_linked_one (entry q) ≡ true
+
+-- A PLACE FACES ITS NEIGHBOR: it is linked, and the list goes on on its other side. Where there is no place, the neighbor is the list's end
+abbrev pub Faces : (Place → RawOne) → (end place neighbor : Option Place) → Type 0
+Faces entry end None neighbor = end ≡ neighbor
+Faces entry end (Some p) neighbor = (is_linked_one (entry p) ≡ true) × GoesOn entry end p (other (entry p) neighbor)
+
+-- THE WORDS TELL OF A GAP: the places on both sides of it face each other. They tell of each gap of a list, and may tell of others too: in the
+-- list 0, 1, .., 6 of one between 1 and 6, since the words there name the linked places 4 and 3 beyond them
+abbrev pub TellsGap : Table RawOne → Ends → (before behind : Option Place) → Type 0
+TellsGap t list before behind = Faces t.entry list.head before behind × Faces t.entry list.tail behind before
+
+-- THE WORDS TELL OF A MEMBER between two places: both face it
+abbrev pub TellsMember : Table RawOne → Ends → (before : Option Place) → Place → (behind : Option Place) → Type 0
+TellsMember t list before p behind = Faces t.entry list.head before (Some p) × Faces t.entry list.tail behind (Some p)
+
+-- of the member behind a place, none in front of the first; and of that in front of a place, none behind the last
+abbrev pub TellsMemberBehind : Table RawOne → Ends → (before at : Option Place) → Type 0
+TellsMemberBehind t list before at = (p : Place) → at ≡ Some p → TellsMember t list before p (other (t.entry p) before)
+
+abbrev pub TellsMemberBefore : Table RawOne → Ends → (behind at : Option Place) → Type 0
+TellsMemberBefore t list behind at = (p : Place) → at ≡ Some p → TellsMember t list (other (t.entry p) behind) p behind
+
+-- THE WORDS TELL OF A LIST by its ends: with nothing before the first member and nothing behind the last, both face it
+abbrev pub TellsEnds : Table RawOne → Ends → Type 0
+TellsEnds t list = Faces t.entry list.tail list.head None × Faces t.entry list.head list.tail None
+
+-- THE WORDS LEAD THROUGH s from the first member to the last: each place of s is linked, and what stands on its other side is next. s may have
+-- a place twice, as no list has
+abbrev pub LeadsOn : (Place → RawOne) → (end from at : Option Place) → List Place → Type 0
+LeadsOn entry end from at [] = (at ≡ None) × (end ≡ from)
+LeadsOn entry end from at (x ∷ s) = (at ≡ Some x) × (is_linked_one (entry x) ≡ true) × LeadsOn entry end (Some x) (other (entry x) from) s
+
+abbrev pub LeadsThrough : Table RawOne → Ends → List Place → Type 0
+LeadsThrough t list s = LeadsOn t.entry list.tail None list.head s
+
+-- what a call does to such words
+abbrev pub ShowsList : List RawOne → RawEnds → List Place → Type 0
+ShowsList = calls.ShowsList Shows is_linked_one no_word ends_of
+
+abbrev pub FreeIn : List RawOne → Place → Type 0
+FreeIn = calls.FreeIn Shows is_linked_one no_word ends_of
+
+abbrev pub StandsIn : List RawOne → Option Place → Type 0
+StandsIn = calls.StandsIn Shows is_linked_one no_word ends_of
+
+abbrev pub fault_at : List RawOne → Option Place → ℕ
+fault_at = calls.fault_at Shows is_linked_one no_word ends_of
+
+abbrev pub fault_of : List RawOne → Option Place → ℕ
+fault_of = calls.fault_of Shows is_linked_one no_word ends_of
+
+abbrev pub Inserted : (old new : List RawOne) (list list' : RawEnds) (status : ℕ) → Cut → Place → Type 0
+Inserted = calls.Inserted Shows is_linked_one no_word ends_of
+
+abbrev pub Removed : (old new : List RawOne) (list list' : RawEnds) (status : ℕ) → Place → (front back : List Place) → Type 0
+Removed = calls.Removed Shows is_linked_one no_word ends_of
+
+abbrev pub Popped : (old new : List RawOne) (list list' : RawEnds) (status number : ℕ) → Place → (front back : List Place) → Type 0
+Popped = calls.Popped Shows is_linked_one no_word ends_of
+
+abbrev pub Replaced : (old new : List RawOne) (list list' : RawEnds) (status : ℕ) → Place → (front back : List Place) → Place → Type 0
+Replaced = calls.Replaced Shows is_linked_one no_word ends_of
+
+abbrev pub Spliced : (old new : List RawOne) (list list' : RawEnds) (status : ℕ) → RawEnds → Cut → List Place → Type 0
+Spliced = calls.Spliced Shows is_linked_one no_word ends_of
+
+abbrev pub Split : (old new : List RawOne) (list list' : RawEnds) (status : ℕ) → RawEnds → Cut → Type 0
+Split old new list list' status rest cut = calls.Split Shows is_linked_one no_word ends_of old new list list' status rest cut cut.front cut.back
+
+abbrev pub Cleared : (old new : List RawOne) (list list' : RawEnds) (status : ℕ) → List Place → Type 0
+Cleared = calls.Cleared Shows is_linked_one no_word ends_of
+
+abbrev pub Filled : (old new : List RawOne) (list list' : RawEnds) (status : ℕ) → Cut → (first count : ℕ) → Type 0
+Filled = fills.Filled Shows is_linked_one no_word ends_of

@@ -1,0 +1,92 @@
+//! Walks along one chain of a hash table, over a view of the table. Each ends within as many steps as the table has places.
+//!
+//! ```text
+//! let before = place_before(&links, list.first(), member); // the place in front of the member, if the chain has it
+//! ```
+
+ghost use Rattle.std.specs.Prelude.{◌≡◌, ◌≢◌, ◌≤◌, ◌++◌, ◌∷◌, List, Option, Some, length, true};
+ghost use Rattle.ic_unsafe_ref.specs.declared.place.Place.{Place};
+ghost use Rattle.ic_link_ops.specs.Sequences.{last, IsMember};
+ghost use Rattle.ic_link_ops.specs.SinglyLinkedList.{list_from};
+ghost use Rattle.ic_link_ops.specs.Tables.{IsLinked};
+ghost use Rattle.ic_hash_table.specs.Searches.{Finds};
+ghost use Rattle.ic_raw.specs.Answers.{HandsOut};
+ghost use Rattle.ic_raw.specs.Gaps.{Stands};
+ghost use Rattle.ic_raw.specs.Hash.{has_key};
+ghost use Rattle.ic_raw.specs.Singly.{Shows, lent_table};
+ghost use Rattle.ic_raw.specs.Words.{is_linked_one, HasNumber};
+
+use crate::number::number_of;
+use crate::status::{BROKEN, NULL, OK};
+use crate::table::RawTable;
+use crate::words::RawOne;
+use ic_link_ops::singly_linked_list::SinglyLinkedListOps;
+use ic_unsafe_ref::Place;
+
+// What stands in front of this member in the chain from `front` on, if a walk comes to it.
+pub(crate) fn place_before(
+    links: &RawTable<'_, RawOne>,
+    front: Option<Place>,
+    member: Place,
+) -> Option<Option<Place>>
+    ensures linked { (b : Option Place) → result ≡ Some b → IsLinked is_linked_one (lent_table links.now) member }
+    ensures stands { (b : Option Place) → result ≡ Some b → Stands is_linked_one (lent_table links.now) b }
+    ensures found { (ahead back : List Place) → Shows (lent_table links.now) (list_from front) (ahead ++ member ∷ back)
+        → result ≡ Some (last ahead) }
+    ensures member { (s : List Place) (b : Option Place) → Shows (lent_table links.now) (list_from front) s → result ≡ Some b
+        → IsMember member s }
+{
+    let mut before = None;
+    let mut current = front;
+    let mut left = links.places();
+    while left > 0 {
+        let Some(place) = current else {
+            return None;
+        };
+        if !links.is_linked(place) {
+            return None;
+        }
+        if place == member {
+            return Some(before);
+        }
+        before = current;
+        current = links.next(place);
+        left -= 1;
+    }
+    None
+}
+
+// Hands out the first member with this key, from this place of a chain on.
+pub(crate) fn look_from(
+    links: &RawTable<'_, RawOne>,
+    keys: &[u64],
+    key: u64,
+    from: Option<Place>,
+    found: &mut u32,
+) -> u32
+    requires keys { (lent_table links.now).extent.places ≤ length keys.now }
+    ensures found { (s : List Place) → Shows (lent_table links.now) (list_from from) s
+        → HandsOut (Finds (has_key keys.now key) s) result found.new }
+    ensures linked { result ≡ 0 → (q : Place) × IsLinked is_linked_one (lent_table links.now) q × (has_key keys.now key q ≡ true)
+        × HasNumber q found.new }
+    ensures refused { result ≢ 0 → found.new ≡ found.old }
+    ensures why { result ≢ 0 → result ≢ 4 → result ≡ 5 }
+{
+    let mut current = from;
+    let mut left = links.places();
+    while left > 0 {
+        let Some(place) = current else {
+            return NULL;
+        };
+        if !links.is_linked(place) {
+            return BROKEN;
+        }
+        if keys[place.index()] == key {
+            *found = number_of(place);
+            return OK;
+        }
+        current = links.next(place);
+        left -= 1;
+    }
+    if current.is_none() { NULL } else { BROKEN }
+}

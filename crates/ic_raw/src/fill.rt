@@ -1,0 +1,128 @@
+//! Runs of places with numbers one after another, all of which are linked by one call.
+//!
+//! ```text
+//! let status = fill(&mut links, &mut list, gap, first, count);
+//! ```
+
+ghost use Rattle.std.specs.Prelude.{◌≡◌, ◌≢◌, Option, Some, None, List, true};
+ghost use Rattle.ic_unsafe_ref.specs.declared.place.Place.{Place};
+ghost use Rattle.ic_link_ops.specs.Sequences.{Cut, join, at_back};
+ghost use Rattle.ic_link_ops.specs.Chains.{ShowsChain};
+ghost use Rattle.ic_link_ops.specs.Edits.{Splices};
+ghost use Rattle.ic_raw.specs.declared.gap.Gap.{Gap};
+ghost use Rattle.ic_raw.specs.Answers.{IsStatus, refusal};
+ghost use Rattle.ic_raw.specs.Fills.{IsFreeRun, run_faults, first_fault};
+ghost use Rattle.ic_raw.specs.Gaps.{StandBeside, gap_of};
+ghost use Rattle.ic_raw.specs.Tables.{raw_table, place_fault};
+ghost use Rattle.ic_raw.specs.Words.{is_linked_one};
+ghost use Rattle.ic_raw.specs.Singly as singly;
+ghost use Rattle.ic_raw.specs.Xor as xor;
+
+use crate::gap::Gap;
+use crate::number::place_of;
+use crate::status::{BROKEN, OK};
+use crate::table::RawTable;
+use crate::words::RawOne;
+use crate::xor_list;
+use ic_chain::{Chain, ForwardLinks};
+use ic_link_ops::Words;
+use ic_unsafe_ref::Place;
+
+// The first fault of `count` places from this number on, [`OK`] where each is one of the table and not linked.
+fn run_fault<W: Words>(links: &RawTable<'_, W>, first: u32, count: u32) -> u32
+    ensures fault { result ≡ first_fault (run_faults (place_fault W.is_linked (raw_table W.unlinked links.now)) first count) }
+    ensures status { IsStatus result }
+{
+    let mut number = first;
+    let mut left = count;
+    while left > 0 {
+        let fault = links.place_fault(place_of(number));
+        if fault != OK {
+            return fault;
+        }
+        number += 1;
+        left -= 1;
+    }
+    OK
+}
+
+// Links each place of a run that is free, behind the one before, between two neighbors.
+//
+// Who calls it hands `filled` the law of the kind, that what stands between two others is linked.
+fn link_run<'a, W: Words, K: ForwardLinks<RawTable<'a, W>>>(
+    links: &mut RawTable<'a, W>,
+    list: &mut Chain<K, ()>,
+    gap: Gap,
+    first: u32,
+    count: u32,
+)
+    requires stand { StandBeside W.is_linked (raw_table W.unlinked links.old) gap }
+    ensures filled { ((e : W) (b a : Option Place) → K.Between e b a → W.is_linked e ≡ true)
+        → (cut : Cut) (free : IsFreeRun W.is_linked (raw_table W.unlinked links.old) first count)
+        → ShowsChain K.Between K.kept (raw_table W.unlinked links.old) list.old (join cut) → gap ≡ gap_of cut
+        → Splices (ShowsChain K.Between K.kept) (raw_table W.unlinked links.old) (raw_table W.unlinked links.new) list.new cut free.run }
+    ensures extent { (raw_table W.unlinked links.new).extent ≡ (raw_table W.unlinked links.old).extent }
+{
+    let mut before = gap.before;
+    let mut number = first;
+    let mut left = count;
+    while left > 0 {
+        let Some(place) = links.acquire(place_of(number)) else {
+            return;
+        };
+        list.insert_linked(links, before, place, gap.behind);
+        before = Some(place);
+        number += 1;
+        left -= 1;
+    }
+}
+
+/// Puts a run of places into the gap, if there is one and all of them are free, and says else why not. O(count).
+pub(crate) fn fill<'a, W: Words, K: ForwardLinks<RawTable<'a, W>>>(
+    links: &mut RawTable<'a, W>,
+    list: &mut Chain<K, ()>,
+    gap: Option<Gap>,
+    first: u32,
+    count: u32,
+) -> u32
+    requires stand { (g : Gap) → gap ≡ Some g → StandBeside W.is_linked (raw_table W.unlinked links.old) g }
+    ensures filled { ((e : W) (b a : Option Place) → K.Between e b a → W.is_linked e ≡ true)
+        → (cut : Cut) (free : IsFreeRun W.is_linked (raw_table W.unlinked links.old) first count)
+        → ShowsChain K.Between K.kept (raw_table W.unlinked links.old) list.old (join cut) → gap ≡ Some (gap_of cut)
+        → (result ≡ 0) × Splices (ShowsChain K.Between K.kept) (raw_table W.unlinked links.old) (raw_table W.unlinked links.new) list.new cut free.run }
+    ensures free { result ≡ 0 → IsFreeRun W.is_linked (raw_table W.unlinked links.old) first count }
+    ensures gap { result ≡ 0 → (g : Gap) × (gap ≡ Some g) }
+    ensures refused { result ≢ 0 → (links.new ≡ links.old) × (list.new ≡ list.old) }
+    ensures why { result ≢ 0
+        → result ≡ refusal (run_faults (place_fault W.is_linked (raw_table W.unlinked links.old)) first count) }
+    ensures status { IsStatus result }
+{
+    let fault = run_fault(&*links, first, count);
+    if fault != OK {
+        return fault;
+    }
+    let Some(gap) = gap else {
+        return BROKEN;
+    };
+    link_run(links, list, gap, first, count);
+    OK
+}
+
+/// The gap behind the last member of an XOR list. None where the words tell of none.
+pub(crate) fn gap_behind_last_of_xor(
+    links: &RawTable<'_, RawOne>,
+    list: &xor_list::List,
+) -> Option<Gap>
+    ensures told { (gap : Gap) → result ≡ Some gap → xor.TellsGap (singly.lent_table links.now) list.now list.now.tail None }
+    ensures stand { (gap : Gap) → result ≡ Some gap → StandBeside is_linked_one (singly.lent_table links.now) gap }
+    ensures shown { (s : List Place) → xor.Shows (singly.lent_table links.now) list.now (join (at_back s)) → result ≡ Some (gap_of (at_back s)) }
+{
+    let before = list.last();
+    if !xor_list::is_gap(links, list, before, None) {
+        return None;
+    }
+    Some(Gap {
+        before,
+        behind: None,
+    })
+}

@@ -1,0 +1,606 @@
+//! The doubly linked list: what its calls test, and its edits over a view of the table.
+//!
+//! ```text
+//! let made = insert(&mut links, &mut list, Side::After, at, place);
+//! ```
+
+ghost use Rattle.std.specs.Prelude.{◌≡◌, ◌≢◌, ◌++◌, ◌∷◌, [], List, Option, Some, None, true, false};
+ghost use Rattle.ic_unsafe_ref.specs.declared.place.Place.{Place};
+ghost use Rattle.ic_link_ops.specs.Sequences.{Cut, join, first, last, at_back, IsDisjoint};
+ghost use Rattle.ic_link_ops.specs.Tables.{IsUnlinked};
+ghost use Rattle.ic_link_ops.specs.Chains.{Ends};
+ghost use Rattle.ic_link_ops.specs.Edits.{Inserts, Removes, Replaces, Splices};
+ghost use Rattle.ic_raw.specs.declared.gap.Gap.{Gap};
+ghost use Rattle.ic_raw.specs.declared.gap.Side.TheVariants.{After, Before};
+ghost use Rattle.ic_raw.specs.Gaps.{IsBeside, Stands, StandBeside, before, gap_of, outermost};
+ghost use Rattle.ic_raw.specs.Tables.{IsFree};
+ghost use Rattle.ic_raw.specs.Words.{is_linked_two};
+ghost use Rattle.ic_link_ops.specs.LinkedList.{neighbors_at};
+ghost use Rattle.ic_raw.specs.Doubly.{Shows, SplitsBeside, TellsGap, gap_from, IsEnd, end_on, lent_table, neighbors, next_from, prev_from};
+
+use crate::gap::{Gap, Side, begin_alike};
+use crate::table::RawTable;
+use crate::words::RawTwo;
+use ic_link_ops::LinkOps;
+use ic_link_ops::linked_list::LinkedListOps;
+use ic_linked_list::LinkedList;
+use ic_unsafe_ref::Place;
+use std::mem;
+
+/// A list of the caller's.
+pub(crate) type List = LinkedList<()>;
+
+// What stands behind a place, the first of the list at none.
+#[inline]
+fn next_of(links: &RawTable<'_, RawTwo>, list: &List, place: Option<Place>) -> Option<Place>
+    requires { Stands is_linked_two (lent_table links.now) place }
+    ensures { result ≡ next_from (lent_table links.now) list.now place }
+{
+    match place {
+        None => list.first(),
+        Some(place) => links.next(place),
+    }
+}
+
+// What stands before a place, the last of the list at none.
+#[inline]
+fn prev_of(links: &RawTable<'_, RawTwo>, list: &List, place: Option<Place>) -> Option<Place>
+    requires { Stands is_linked_two (lent_table links.now) place }
+    ensures { result ≡ prev_from (lent_table links.now) list.now place }
+{
+    match place {
+        None => list.last(),
+        Some(place) => links.prev(place),
+    }
+}
+
+// Whether `place` is linked, or none, and `next` stands behind it.
+#[inline]
+pub(crate) fn leads(
+    links: &RawTable<'_, RawTwo>,
+    list: &List,
+    place: Option<Place>,
+    next: Option<Place>,
+) -> bool
+    ensures stands { result ≡ true → Stands is_linked_two (lent_table links.now) place }
+    ensures next { result ≡ true → next_from (lent_table links.now) list.now place ≡ next }
+    ensures leads { Stands is_linked_two (lent_table links.now) place → next ≡ next_from (lent_table links.now) list.now place
+        → result ≡ true }
+{
+    match place {
+        None => Place::to_word(list.first()) == Place::to_word(next),
+        Some(place) => {
+            if !links.covers(place) {
+                return false;
+            }
+            links.at(place).leads(next)
+        }
+    }
+}
+
+// Whether `place` is linked, or none, and `prev` stands before it.
+#[inline]
+pub(crate) fn follows(
+    links: &RawTable<'_, RawTwo>,
+    list: &List,
+    place: Option<Place>,
+    prev: Option<Place>,
+) -> bool
+    ensures stands { result ≡ true → Stands is_linked_two (lent_table links.now) place }
+    ensures prev { result ≡ true → prev_from (lent_table links.now) list.now place ≡ prev }
+    ensures follows { Stands is_linked_two (lent_table links.now) place → prev ≡ prev_from (lent_table links.now) list.now place
+        → result ≡ true }
+{
+    if !links.stands(place) {
+        return false;
+    }
+    Place::to_word(prev_of(links, list, place)) == Place::to_word(prev)
+}
+
+// The gap beside a place, at none the outermost one. None where the words tell of no gap.
+#[inline]
+pub(crate) fn gap_at(
+    links: &RawTable<'_, RawTwo>,
+    list: &List,
+    side: Side,
+    at: Option<Place>,
+) -> Option<Gap>
+    ensures at { (gap : Gap) → result ≡ Some gap → Stands is_linked_two (lent_table links.now) at }
+    ensures stands { (gap : Gap) → result ≡ Some gap → StandBeside is_linked_two (lent_table links.now) gap }
+    ensures told { (gap : Gap) → result ≡ Some gap → TellsGap side (lent_table links.now) list.now at }
+    ensures sides { (gap : Gap) → result ≡ Some gap → gap ≡ gap_from side (lent_table links.now) list.now at }
+    ensures shown { (cut : Cut) → Shows (lent_table links.now) list.now (join cut) → IsBeside side cut at → result ≡ Some (gap_of cut) }
+{
+    if !links.stands(at) {
+        return None;
+    }
+    match side {
+        Side::After => {
+            let behind = next_of(links, list, at);
+            if !follows(links, list, behind, at) {
+                return None;
+            }
+            Some(Gap { before: at, behind })
+        }
+        Side::Before => {
+            let before = prev_of(links, list, at);
+            if !leads(links, list, before, at) {
+                return None;
+            }
+            Some(Gap { before, behind: at })
+        }
+    }
+}
+
+// The places on both sides of a member, at none the last one and the first. None where the words tell of no such places.
+#[inline]
+pub(crate) fn beside(links: &RawTable<'_, RawTwo>, list: &List, at: Option<Place>) -> Option<Gap>
+    ensures at { (gap : Gap) → result ≡ Some gap → Stands is_linked_two (lent_table links.now) at }
+    ensures stands { (gap : Gap) → result ≡ Some gap → StandBeside is_linked_two (lent_table links.now) gap }
+    ensures before { (gap : Gap) → result ≡ Some gap → TellsGap Before (lent_table links.now) list.now at }
+    ensures behind { (gap : Gap) → result ≡ Some gap → TellsGap After (lent_table links.now) list.now at }
+    ensures member { (front back : List Place) (p : Place) → Shows (lent_table links.now) list.now (front ++ p ∷ back) → at ≡ Some p
+        → result ≡ Some (gap_of (record { front = front; back = back })) }
+    ensures ends { (s : List Place) → Shows (lent_table links.now) list.now s → at ≡ None
+        → result ≡ Some (gap_of (record { front = s; back = s })) }
+{
+    if !links.stands(at) {
+        return None;
+    }
+    let before = prev_of(links, list, at);
+    if !leads(links, list, before, at) {
+        return None;
+    }
+    let behind = next_of(links, list, at);
+    if !follows(links, list, behind, at) {
+        return None;
+    }
+    Some(Gap { before, behind })
+}
+
+// Whether the place is one of the table and linked, with `next` behind it, by words such as a call writes.
+#[inline]
+pub(crate) fn is_before(links: &RawTable<'_, RawTwo>, place: Place, next: Option<Place>) -> bool
+    ensures stands { result ≡ true → Stands is_linked_two (lent_table links.now) (Some place) }
+    ensures next { result ≡ true → (neighbors_at neighbors (lent_table links.now) place).next ≡ next }
+{
+    links.covers(place) && links.at(place).is_before(next)
+}
+
+// Whether the place is one of the table and linked, with `prev` before it, by words such as a call writes.
+#[inline]
+pub(crate) fn is_behind(links: &RawTable<'_, RawTwo>, place: Place, prev: Option<Place>) -> bool
+    ensures stands { result ≡ true → Stands is_linked_two (lent_table links.now) (Some place) }
+    ensures prev { result ≡ true → (neighbors_at neighbors (lent_table links.now) place).prev ≡ prev }
+{
+    links.covers(place) && links.at(place).is_behind(prev)
+}
+
+// The places on both sides of a member that has one on either, where their words are such as a call writes. Else none.
+#[inline]
+pub(crate) fn between(links: &RawTable<'_, RawTwo>, member: Place) -> Option<Gap>
+    ensures member { (gap : Gap) → result ≡ Some gap → Stands is_linked_two (lent_table links.now) (Some member) }
+    ensures stands { (gap : Gap) → result ≡ Some gap → StandBeside is_linked_two (lent_table links.now) gap }
+    ensures before { (gap : Gap) (list : Ends) → result ≡ Some gap → TellsGap Before (lent_table links.now) list (Some member) }
+    ensures behind { (gap : Gap) (list : Ends) → result ≡ Some gap → TellsGap After (lent_table links.now) list (Some member) }
+    ensures prev { (gap : Gap) → result ≡ Some gap → (q : Place) × (gap.before ≡ Some q) }
+    ensures next { (gap : Gap) → result ≡ Some gap → (q : Place) × (gap.behind ≡ Some q) }
+    ensures shown { (gap : Gap) (list : Ends) (front back : List Place) → result ≡ Some gap → Shows (lent_table links.now) list (front ++ member ∷ back)
+        → gap ≡ gap_of (record { front = front; back = back }) }
+{
+    if !links.is_linked(member) {
+        return None;
+    }
+    let Some(before) = links.prev(member) else {
+        return None;
+    };
+    let Some(behind) = links.next(member) else {
+        return None;
+    };
+    if !is_before(links, before, Some(member)) || !is_behind(links, behind, Some(member)) {
+        return None;
+    }
+    Some(Gap {
+        before: Some(before),
+        behind: Some(behind),
+    })
+}
+
+// The outermost gap on a side of none, beyond a member whose words are such as a call writes. Else none.
+#[inline]
+pub(crate) fn gap_at_end(links: &RawTable<'_, RawTwo>, list: &List, side: Side) -> Option<Gap>
+    ensures told { (gap : Gap) → result ≡ Some gap → TellsGap side (lent_table links.now) list.now None }
+    ensures stands { (gap : Gap) → result ≡ Some gap → StandBeside is_linked_two (lent_table links.now) gap }
+    ensures end { (gap : Gap) → result ≡ Some gap → (q : Place) × (end_on side list.now ≡ Some q) }
+    ensures shown { (gap : Gap) (s : List Place) → result ≡ Some gap → Shows (lent_table links.now) list.now s → gap ≡ gap_of (outermost side s) }
+{
+    match side {
+        Side::After => {
+            let Some(first) = list.first() else {
+                return None;
+            };
+            if !is_behind(links, first, None) {
+                return None;
+            }
+            Some(Gap {
+                before: None,
+                behind: Some(first),
+            })
+        }
+        Side::Before => {
+            let Some(last) = list.last() else {
+                return None;
+            };
+            if !is_before(links, last, None) {
+                return None;
+            }
+            Some(Gap {
+                before: Some(last),
+                behind: None,
+            })
+        }
+    }
+}
+
+// Puts a place behind the last member, where its words are such as a call writes. Else it changes nothing, and says so.
+#[inline]
+pub(crate) fn push_behind_last(
+    links: &mut RawTable<'_, RawTwo>,
+    list: &mut List,
+    place: Option<Place>,
+) -> bool
+    ensures inserted { (s : List Place) (p : Place) → result ≡ true → Shows (lent_table links.old) list.old (join (at_back s)) → place ≡ Some p
+        → Inserts Shows (lent_table links.old) (lent_table links.new) list.new (at_back s) p }
+    ensures head { (s : List Place) → result ≡ true → Shows (lent_table links.old) list.old (join (at_back s)) → list.new.head ≡ list.old.head }
+    ensures free { result ≡ true → (p : Place) × (place ≡ Some p) × IsFree is_linked_two (lent_table links.old) p }
+    ensures told { result ≡ true → TellsGap Before (lent_table links.old) list.old None }
+    ensures refused { result ≡ false → (links.new ≡ links.old) × (list.new ≡ list.old) }
+    ensures extent { (lent_table links.new).extent ≡ (lent_table links.old).extent }
+{
+    let Some(gap) = gap_at_end(&*links, &*list, Side::Before) else {
+        return false;
+    };
+    let Some(place) = links.acquire(place) else {
+        return false;
+    };
+    list.insert_linked(links, gap.before, place, gap.behind);
+    true
+}
+
+// Takes the first member off, where its words are such as a call writes, and a second is behind it. Else it changes nothing.
+#[inline]
+pub(crate) fn pop_before_second(links: &mut RawTable<'_, RawTwo>, list: &mut List) -> Option<Place>
+    ensures removed { (p q : Place) (s : List Place) → result ≡ Some q → Shows (lent_table links.old) list.old (p ∷ s)
+        → (q ≡ p) × Removes Shows (lent_table links.old) (lent_table links.new) list.new (before p [] s)
+        × IsUnlinked is_linked_two (lent_table links.new) p }
+    ensures tail { (p q : Place) (s : List Place) → result ≡ Some q → Shows (lent_table links.old) list.old (p ∷ s) → list.new.tail ≡ list.old.tail }
+    ensures first { (q : Place) → result ≡ Some q → list.old.head ≡ Some q }
+    ensures stands { (q : Place) → result ≡ Some q → Stands is_linked_two (lent_table links.old) (Some q) }
+    ensures outer { (q : Place) → result ≡ Some q → TellsGap After (lent_table links.old) list.old None }
+    ensures inner { (q : Place) → result ≡ Some q → TellsGap After (lent_table links.old) list.old (Some q) }
+    ensures refused { result ≡ None → (links.new ≡ links.old) × (list.new ≡ list.old) }
+    ensures extent { (lent_table links.new).extent ≡ (lent_table links.old).extent }
+{
+    let Some(first) = list.first() else {
+        return None;
+    };
+    if !is_behind(&*links, first, None) {
+        return None;
+    }
+    let Some(second) = links.next(first) else {
+        return None;
+    };
+    if !is_behind(&*links, second, Some(first)) {
+        return None;
+    }
+    list.bypass(links, None, first, Some(second));
+    links.release_link(first);
+    Some(first)
+}
+
+// Takes a member off that has one on both sides, where their words are such as a call writes. Else it changes nothing, and says so.
+#[inline]
+pub(crate) fn remove_between(
+    links: &mut RawTable<'_, RawTwo>,
+    list: &mut List,
+    member: Place,
+) -> bool
+    ensures removed { (front back : List Place) → result ≡ true → Shows (lent_table links.old) list.old (front ++ member ∷ back)
+        → Removes Shows (lent_table links.old) (lent_table links.new) list.old (before member front back)
+        × IsUnlinked is_linked_two (lent_table links.new) member }
+    ensures stands { result ≡ true → Stands is_linked_two (lent_table links.old) (Some member) }
+    ensures before { result ≡ true → TellsGap Before (lent_table links.old) list.old (Some member) }
+    ensures behind { result ≡ true → TellsGap After (lent_table links.old) list.old (Some member) }
+    ensures refused { result ≡ false → links.new ≡ links.old }
+    ensures extent { (lent_table links.new).extent ≡ (lent_table links.old).extent }
+{
+    let Some(gap) = between(&*links, member) else {
+        return false;
+    };
+    list.bypass(links, gap.before, member, gap.behind);
+    links.release_link(member);
+    true
+}
+
+// Puts the place into the gap beside another one, and says whether it could.
+#[inline]
+pub(crate) fn insert(
+    links: &mut RawTable<'_, RawTwo>,
+    list: &mut List,
+    side: Side,
+    at: Option<Place>,
+    place: Option<Place>,
+) -> bool
+    ensures inserted { (cut : Cut) (p : Place) → Shows (lent_table links.old) list.old (join cut) → IsBeside side cut at → place ≡ Some p
+        → IsFree is_linked_two (lent_table links.old) p
+        → (result ≡ true) × Inserts Shows (lent_table links.old) (lent_table links.new) list.new cut p }
+    ensures free { result ≡ true → (p : Place) × (place ≡ Some p) × IsFree is_linked_two (lent_table links.old) p }
+    ensures stands { result ≡ true → Stands is_linked_two (lent_table links.old) at }
+    ensures told { result ≡ true → TellsGap side (lent_table links.old) list.old at }
+    ensures refused { result ≡ false → (links.new ≡ links.old) × (list.new ≡ list.old) }
+    ensures extent { (lent_table links.new).extent ≡ (lent_table links.old).extent }
+{
+    let Some(gap) = gap_at(&*links, &*list, side, at) else {
+        return false;
+    };
+    let Some(place) = links.acquire(place) else {
+        return false;
+    };
+    list.insert_linked(links, gap.before, place, gap.behind);
+    true
+}
+
+// Takes the member off, and says whether it could.
+#[inline]
+pub(crate) fn remove(links: &mut RawTable<'_, RawTwo>, list: &mut List, member: Place) -> bool
+    ensures removed { (front back : List Place) → Shows (lent_table links.old) list.old (front ++ member ∷ back)
+        → (result ≡ true) × Removes Shows (lent_table links.old) (lent_table links.new) list.new (before member front back)
+        × IsUnlinked is_linked_two (lent_table links.new) member }
+    ensures stands { result ≡ true → Stands is_linked_two (lent_table links.old) (Some member) }
+    ensures before { result ≡ true → TellsGap Before (lent_table links.old) list.old (Some member) }
+    ensures behind { result ≡ true → TellsGap After (lent_table links.old) list.old (Some member) }
+    ensures refused { result ≡ false → (links.new ≡ links.old) × (list.new ≡ list.old) }
+    ensures extent { (lent_table links.new).extent ≡ (lent_table links.old).extent }
+{
+    let Some(gap) = beside(&*links, &*list, Some(member)) else {
+        return false;
+    };
+    list.bypass(links, gap.before, member, gap.behind);
+    links.release_link(member);
+    true
+}
+
+// The gap beside a member that has another one on its other side, where their words are such as a call writes. Else none.
+#[inline(always)]
+pub(crate) fn gap_inside(links: &RawTable<'_, RawTwo>, side: Side, at: Option<Place>) -> Option<Gap>
+    ensures at { (gap : Gap) → result ≡ Some gap → Stands is_linked_two (lent_table links.now) at }
+    ensures stands { (gap : Gap) → result ≡ Some gap → StandBeside is_linked_two (lent_table links.now) gap }
+    ensures told { (gap : Gap) (list : Ends) → result ≡ Some gap → TellsGap side (lent_table links.now) list at }
+    ensures shown { (gap : Gap) (list : Ends) (cut : Cut) → result ≡ Some gap → Shows (lent_table links.now) list (join cut)
+        → IsBeside side cut at → gap ≡ gap_of cut }
+{
+    let Some(at) = at else {
+        return None;
+    };
+    if !links.is_linked(at) {
+        return None;
+    }
+    match side {
+        Side::After => {
+            let Some(behind) = links.next(at) else {
+                return None;
+            };
+            if !is_behind(links, behind, Some(at)) {
+                return None;
+            }
+            Some(Gap {
+                before: Some(at),
+                behind: Some(behind),
+            })
+        }
+        Side::Before => {
+            let Some(before) = links.prev(at) else {
+                return None;
+            };
+            if !is_before(links, before, Some(at)) {
+                return None;
+            }
+            Some(Gap {
+                before: Some(before),
+                behind: Some(at),
+            })
+        }
+    }
+}
+
+// The member at an end, which the outermost gap on this side of none is in front of, and the places on both sides of it. None where
+// the words tell of none.
+#[inline]
+fn end_at(links: &RawTable<'_, RawTwo>, list: &List, side: Side) -> Option<(Place, Gap)>
+    ensures shown { (front back : List Place) (p : Place) → Shows (lent_table links.now) list.now (front ++ p ∷ back)
+        → IsEnd side front back → result ≡ Some (p, gap_of (record { front = front; back = back })) }
+    ensures end { (p : Place) (gap : Gap) → result ≡ Some (p, gap) → end_on side list.now ≡ Some p }
+    ensures stands { (p : Place) (gap : Gap) → result ≡ Some (p, gap) → Stands is_linked_two (lent_table links.now) (Some p) }
+    ensures beside { (p : Place) (gap : Gap) → result ≡ Some (p, gap) → StandBeside is_linked_two (lent_table links.now) gap }
+    ensures outer { (p : Place) (gap : Gap) → result ≡ Some (p, gap) → TellsGap side (lent_table links.now) list.now None }
+    ensures inner { (p : Place) (gap : Gap) → result ≡ Some (p, gap) → TellsGap side (lent_table links.now) list.now (Some p) }
+{
+    match side {
+        Side::After => {
+            let Some(outer) = gap_at(links, list, Side::After, None) else {
+                return None;
+            };
+            let Some(first) = outer.behind else {
+                return None;
+            };
+            let Some(inner) = gap_at(links, list, Side::After, Some(first)) else {
+                return None;
+            };
+            Some((
+                first,
+                Gap {
+                    before: None,
+                    behind: inner.behind,
+                },
+            ))
+        }
+        Side::Before => {
+            let Some(outer) = gap_at(links, list, Side::Before, None) else {
+                return None;
+            };
+            let Some(last) = outer.before else {
+                return None;
+            };
+            let Some(inner) = gap_at(links, list, Side::Before, Some(last)) else {
+                return None;
+            };
+            Some((
+                last,
+                Gap {
+                    before: inner.before,
+                    behind: None,
+                },
+            ))
+        }
+    }
+}
+
+// Takes the member at an end off, and gives it.
+#[inline]
+pub(crate) fn pop(links: &mut RawTable<'_, RawTwo>, list: &mut List, side: Side) -> Option<Place>
+    ensures popped { (front back : List Place) (p : Place) → Shows (lent_table links.old) list.old (front ++ p ∷ back)
+        → IsEnd side front back → (result ≡ Some p)
+        × Removes Shows (lent_table links.old) (lent_table links.new) list.new (before p front back)
+        × IsUnlinked is_linked_two (lent_table links.new) p }
+    ensures end { (p : Place) → result ≡ Some p → end_on side list.old ≡ Some p }
+    ensures stands { (p : Place) → result ≡ Some p → Stands is_linked_two (lent_table links.old) (Some p) }
+    ensures outer { (p : Place) → result ≡ Some p → TellsGap side (lent_table links.old) list.old None }
+    ensures inner { (p : Place) → result ≡ Some p → TellsGap side (lent_table links.old) list.old (Some p) }
+    ensures refused { result ≡ None → (links.new ≡ links.old) × (list.new ≡ list.old) }
+    ensures extent { (lent_table links.new).extent ≡ (lent_table links.old).extent }
+{
+    let Some((member, gap)) = end_at(&*links, &*list, side) else {
+        return None;
+    };
+    list.bypass(links, gap.before, member, gap.behind);
+    links.release_link(member);
+    Some(member)
+}
+
+// Puts the place where the member is, which is unlinked then, and says whether it could.
+#[inline]
+pub(crate) fn replace(
+    links: &mut RawTable<'_, RawTwo>,
+    list: &mut List,
+    member: Place,
+    place: Option<Place>,
+) -> bool
+    ensures replaced { (front back : List Place) (p : Place) → Shows (lent_table links.old) list.old (front ++ member ∷ back)
+        → place ≡ Some p → IsFree is_linked_two (lent_table links.old) p
+        → (result ≡ true) × Replaces Shows (lent_table links.old) (lent_table links.new) list.new (before member front back) p
+        × IsUnlinked is_linked_two (lent_table links.new) member }
+    ensures free { result ≡ true → (p : Place) × (place ≡ Some p) × IsFree is_linked_two (lent_table links.old) p }
+    ensures stands { result ≡ true → Stands is_linked_two (lent_table links.old) (Some member) }
+    ensures before { result ≡ true → TellsGap Before (lent_table links.old) list.old (Some member) }
+    ensures behind { result ≡ true → TellsGap After (lent_table links.old) list.old (Some member) }
+    ensures refused { result ≡ false → (links.new ≡ links.old) × (list.new ≡ list.old) }
+    ensures extent { (lent_table links.new).extent ≡ (lent_table links.old).extent }
+{
+    let Some(gap) = beside(&*links, &*list, Some(member)) else {
+        return false;
+    };
+    let Some(place) = links.acquire(place) else {
+        return false;
+    };
+    list.replace_linked(links, gap.before, member, place, gap.behind);
+    links.release_link(member);
+    true
+}
+
+// Puts all of the given list into the gap beside a place, and says whether it could.
+#[inline]
+pub(crate) fn splice(
+    links: &mut RawTable<'_, RawTwo>,
+    list: &mut List,
+    side: Side,
+    at: Option<Place>,
+    given: List,
+) -> bool
+    ensures spliced { (cut : Cut) (t : List Place) → Shows (lent_table links.old) list.old (join cut) → IsBeside side cut at
+        → Shows (lent_table links.old) given t → IsDisjoint t (join cut)
+        → (result ≡ true) × Splices Shows (lent_table links.old) (lent_table links.new) list.new cut t }
+    ensures stands { result ≡ true → Stands is_linked_two (lent_table links.old) at }
+    ensures told { result ≡ true → TellsGap side (lent_table links.old) list.old at }
+    ensures front { result ≡ true → TellsGap After (lent_table links.old) given None }
+    ensures back { result ≡ true → TellsGap Before (lent_table links.old) given None }
+    ensures apart { result ≡ true → (p : Place) → given.head ≡ Some p → list.old.head ≢ Some p }
+    ensures refused { result ≡ false → (links.new ≡ links.old) × (list.new ≡ list.old) }
+    ensures extent { (lent_table links.new).extent ≡ (lent_table links.old).extent }
+{
+    let Some(gap) = gap_at(&*links, &*list, side, at) else {
+        return false;
+    };
+    let Some(ends) = beside(&*links, &given, None) else {
+        return false;
+    };
+    if begin_alike(&*list, &given) {
+        return false;
+    }
+    list.splice_between(links, gap.before, given, ends.before, gap.behind);
+    true
+}
+
+// Puts all of the given list at none into the outermost gap on this side of it, where both lists have members, and the words of their ends
+// are such as a call writes. Else it changes nothing, and says so.
+#[inline(always)]
+pub(crate) fn splice_at_end(
+    links: &mut RawTable<'_, RawTwo>,
+    list: &mut List,
+    side: Side,
+    at: Option<Place>,
+    given: List,
+) -> bool
+    ensures spliced { (cut : Cut) (t : List Place) → result ≡ true → Shows (lent_table links.old) list.old (join cut) → IsBeside side cut at
+        → Shows (lent_table links.old) given t → IsDisjoint t (join cut)
+        → Splices Shows (lent_table links.old) (lent_table links.new) list.new cut t }
+    ensures none { result ≡ true → at ≡ None }
+    ensures told { result ≡ true → TellsGap side (lent_table links.old) list.old None }
+    ensures front { result ≡ true → TellsGap After (lent_table links.old) given None }
+    ensures back { result ≡ true → TellsGap Before (lent_table links.old) given None }
+    ensures apart { result ≡ true → (p : Place) → given.head ≡ Some p → list.old.head ≢ Some p }
+    ensures refused { result ≡ false → (links.new ≡ links.old) × (list.new ≡ list.old) }
+    ensures extent { (lent_table links.new).extent ≡ (lent_table links.old).extent }
+{
+    if at.is_some() {
+        return false;
+    }
+    let Some(gap) = gap_at_end(&*links, &*list, side) else {
+        return false;
+    };
+    let Some(_) = gap_at_end(&*links, &given, Side::After) else {
+        return false;
+    };
+    let Some(end) = gap_at_end(&*links, &given, Side::Before) else {
+        return false;
+    };
+    if begin_alike(&*list, &given) {
+        return false;
+    }
+    list.splice_between(links, gap.before, given, end.before, gap.behind);
+    true
+}
+
+// Cuts the list at a gap, and gives the part that is on this side of it. The list keeps the other.
+#[inline]
+pub(crate) fn split(links: &mut RawTable<'_, RawTwo>, list: &mut List, side: Side, gap: Gap) -> List
+    requires gap { StandBeside is_linked_two (lent_table links.old) gap }
+    ensures split { (cut : Cut) → Shows (lent_table links.old) list.old (join cut) → gap ≡ gap_of cut
+        → SplitsBeside side (lent_table links.old) (lent_table links.new) list.new result cut }
+    ensures extent { (lent_table links.new).extent ≡ (lent_table links.old).extent }
+{
+    let back = list.split_between(links, gap.before, gap.behind);
+    match side {
+        Side::After => back,
+        Side::Before => mem::replace(list, back),
+    }
+}

@@ -1,0 +1,177 @@
+//! What the calls do that move a member of a doubly linked list, which stays linked.
+//!
+//! ```text
+//! move_to_end(table, list, Side::After, 7) // OK: 7 is the first member, whichever it was
+//! move_at(table, list, Side::After, 9, 7)  // OK: and now it is behind 9
+//! ```
+
+ghost use Rattle.std.specs.Prelude.{◌≡◌, ◌≢◌, ◌↔◌, ◌++◌, ◌∷◌, [], List, Some, None};
+ghost use Rattle.ic_unsafe_ref.specs.declared.place.Place.{Place};
+ghost use Rattle.ic_link_ops.specs.Sequences.{Cut, join};
+ghost use Rattle.ic_link_ops.specs.Tables.{KeepsLinked};
+ghost use Rattle.ic_raw.specs.declared.gap.Side.TheVariants.{After, Before};
+ghost use Rattle.ic_raw.specs.Gaps.{IsBeside, outermost};
+ghost use Rattle.ic_raw.specs.Words.{place_of, is_linked_two};
+ghost use Rattle.ic_raw.specs.Doubly.{StandsIn, TellsGap, IsEnd, table_of, ends_of, words_of, fault_at, Moved, Stayed};
+ghost use Rattle.ic_raw.specs.Answers.{IsStatus, refusal};
+
+use crate::gap::Side;
+use crate::list::{between, gap_at_end};
+use crate::list_calls::{list_of, write_back};
+use crate::moving;
+use crate::number::place_of;
+use crate::status::{NONE, NULL, OK};
+use crate::table::RawTable;
+use crate::words::{RawEnds, RawTwo};
+
+// Moves any member into the gap beside another one, or says why not. A gap beside the member itself is where it stands: then nothing is
+// changed.
+#[cold]
+#[inline(never)]
+fn move_any(table: &mut [RawTwo], list: &mut RawEnds, side: Side, at: u32, place: u32) -> u32
+    ensures moved { (cut : Cut) (front back : List Place) (p : Place) → IsBeside side cut (place_of at) → place_of place ≡ Some p
+        → join cut ≡ front ++ back → Moved table.old table.new list.old list.new result p front back cut }
+    ensures itself { (front back : List Place) (p : Place) → place_of at ≡ Some p → place_of place ≡ Some p
+        → Stayed table.old table.new list.old list.new result p front back }
+    ensures there { (front back : List Place) (p : Place) → IsBeside side (record { front = front; back = back }) (place_of at)
+        → place_of place ≡ Some p → Stayed table.old table.new list.old list.new result p front back }
+    ensures null { (result ≡ 4) ↔ (place_of place ≡ None) }
+    ensures stands { result ≡ 0 → StandsIn table.old (place_of at) }
+    ensures told { result ≡ 0 → TellsGap side (table_of table.old) (ends_of list.old) (place_of at) }
+    ensures member { result ≡ 0 → StandsIn table.old (place_of place) }
+    ensures before { result ≡ 0 → TellsGap Before (table_of table.old) (ends_of list.old) (place_of place) }
+    ensures behind { result ≡ 0 → TellsGap After (table_of table.old) (ends_of list.old) (place_of place) }
+    ensures linked { KeepsLinked is_linked_two (table_of table.old) (table_of table.new) }
+    ensures words { list.old ≡ words_of (ends_of list.old) → list.new ≡ words_of (ends_of list.new) }
+    ensures refused { result ≢ 0 → (table.new ≡ table.old) × (list.new ≡ list.old) }
+    ensures why { result ≢ 0 → result ≢ 4 → result ≡ refusal (fault_at table.old (place_of at) ∷ fault_at table.old (place_of place) ∷ []) }
+    ensures status { IsStatus result }
+{
+    let Some(member) = place_of(place) else {
+        return NULL;
+    };
+    let mut links = RawTable::new(table);
+    let mut edited = list_of(&*list);
+    let Some((from, to)) = moving::gaps_to_move(&links, &edited, side, place_of(at), member) else {
+        return links.refusal_at_both(at, place);
+    };
+    if !to.is_apart(member) {
+        return OK;
+    }
+    moving::relocate(&mut links, &mut edited, from, member, to);
+    write_back(list, edited);
+    OK
+}
+
+/// Moves the member `place` into the gap on this side of the member `at`, at [`NONE`] to the end that the side means. It stays linked. O(1).
+///
+/// Where it stands there already, nothing is changed. It returns [`NULL`] where `place` is [`NONE`], and else the first fault of the two, or
+/// [`BROKEN`](crate::BROKEN). A refused edit leaves the words as they are.
+#[inline(always)]
+pub fn move_at(table: &mut [RawTwo], list: &mut RawEnds, side: Side, at: u32, place: u32) -> u32
+    ensures moved { (cut : Cut) (front back : List Place) (p : Place) → IsBeside side cut (place_of at) → place_of place ≡ Some p
+        → join cut ≡ front ++ back → Moved table.old table.new list.old list.new result p front back cut }
+    ensures itself { (front back : List Place) (p : Place) → place_of at ≡ Some p → place_of place ≡ Some p
+        → Stayed table.old table.new list.old list.new result p front back }
+    ensures there { (front back : List Place) (p : Place) → IsBeside side (record { front = front; back = back }) (place_of at)
+        → place_of place ≡ Some p → Stayed table.old table.new list.old list.new result p front back }
+    ensures null { (result ≡ 4) ↔ (place_of place ≡ None) }
+    ensures stands { result ≡ 0 → StandsIn table.old (place_of at) }
+    ensures told { result ≡ 0 → TellsGap side (table_of table.old) (ends_of list.old) (place_of at) }
+    ensures member { result ≡ 0 → StandsIn table.old (place_of place) }
+    ensures before { result ≡ 0 → TellsGap Before (table_of table.old) (ends_of list.old) (place_of place) }
+    ensures behind { result ≡ 0 → TellsGap After (table_of table.old) (ends_of list.old) (place_of place) }
+    ensures linked { KeepsLinked is_linked_two (table_of table.old) (table_of table.new) }
+    ensures words { list.old ≡ words_of (ends_of list.old) → list.new ≡ words_of (ends_of list.new) }
+    ensures refused { result ≢ 0 → (table.new ≡ table.old) × (list.new ≡ list.old) }
+    ensures why { result ≢ 0 → result ≢ 4 → result ≡ refusal (fault_at table.old (place_of at) ∷ fault_at table.old (place_of place) ∷ []) }
+    ensures status { IsStatus result }
+{
+    let Some(member) = place_of(place) else {
+        return NULL;
+    };
+    let mut links = RawTable::new(table);
+    let mut edited = list_of(&*list);
+    let Some((from, to)) = moving::gaps_inside(&links, side, place_of(at), member) else {
+        return move_any(links.entries, list, side, at, place);
+    };
+    if !to.is_apart(member) {
+        return OK;
+    }
+    moving::relocate(&mut links, &mut edited, from, member, to);
+    write_back(list, edited);
+    OK
+}
+
+// Moves a member to an end of any list, or says why not.
+#[cold]
+#[inline(never)]
+fn move_to_end_any(table: &mut [RawTwo], list: &mut RawEnds, side: Side, place: u32) -> u32
+    ensures moved { (front back : List Place) (p : Place) → place_of place ≡ Some p
+        → Moved table.old table.new list.old list.new result p front back (outermost side (front ++ back)) }
+    ensures there { (front back : List Place) (p : Place) → IsEnd side front back → place_of place ≡ Some p
+        → Stayed table.old table.new list.old list.new result p front back }
+    ensures null { (result ≡ 4) ↔ (place_of place ≡ None) }
+    ensures told { result ≡ 0 → TellsGap side (table_of table.old) (ends_of list.old) None }
+    ensures member { result ≡ 0 → StandsIn table.old (place_of place) }
+    ensures before { result ≡ 0 → TellsGap Before (table_of table.old) (ends_of list.old) (place_of place) }
+    ensures behind { result ≡ 0 → TellsGap After (table_of table.old) (ends_of list.old) (place_of place) }
+    ensures linked { KeepsLinked is_linked_two (table_of table.old) (table_of table.new) }
+    ensures words { list.old ≡ words_of (ends_of list.old) → list.new ≡ words_of (ends_of list.new) }
+    ensures refused { result ≢ 0 → (table.new ≡ table.old) × (list.new ≡ list.old) }
+    ensures why { result ≢ 0 → result ≢ 4 → result ≡ refusal (fault_at table.old (place_of place) ∷ []) }
+    ensures status { IsStatus result }
+{
+    let Some(member) = place_of(place) else {
+        return NULL;
+    };
+    let mut links = RawTable::new(table);
+    let mut edited = list_of(&*list);
+    if let Some(from) = moving::beside_other_end(&links, &edited, side, member) {
+        if let Some(to) = gap_at_end(&links, &edited, side) {
+            moving::relocate(&mut links, &mut edited, from, member, to);
+            write_back(list, edited);
+            return OK;
+        }
+    }
+    move_any(links.entries, list, side, NONE, place)
+}
+
+/// Moves a member to the front, on the side [`Side::Before`] to the back. It stays linked. O(1).
+///
+/// Where it stands there already, nothing is changed. It returns [`NULL`] at [`NONE`], and else the fault of the member, or
+/// [`BROKEN`](crate::BROKEN). A refused edit leaves the words as they are.
+#[inline(always)]
+pub fn move_to_end(table: &mut [RawTwo], list: &mut RawEnds, side: Side, place: u32) -> u32
+    ensures moved { (front back : List Place) (p : Place) → place_of place ≡ Some p
+        → Moved table.old table.new list.old list.new result p front back (outermost side (front ++ back)) }
+    ensures there { (front back : List Place) (p : Place) → IsEnd side front back → place_of place ≡ Some p
+        → Stayed table.old table.new list.old list.new result p front back }
+    ensures null { (result ≡ 4) ↔ (place_of place ≡ None) }
+    ensures told { result ≡ 0 → TellsGap side (table_of table.old) (ends_of list.old) None }
+    ensures member { result ≡ 0 → StandsIn table.old (place_of place) }
+    ensures before { result ≡ 0 → TellsGap Before (table_of table.old) (ends_of list.old) (place_of place) }
+    ensures behind { result ≡ 0 → TellsGap After (table_of table.old) (ends_of list.old) (place_of place) }
+    ensures linked { KeepsLinked is_linked_two (table_of table.old) (table_of table.new) }
+    ensures words { list.old ≡ words_of (ends_of list.old) → list.new ≡ words_of (ends_of list.new) }
+    ensures refused { result ≢ 0 → (table.new ≡ table.old) × (list.new ≡ list.old) }
+    ensures why { result ≢ 0 → result ≢ 4 → result ≡ refusal (fault_at table.old (place_of place) ∷ []) }
+    ensures status { IsStatus result }
+{
+    let Some(member) = place_of(place) else {
+        return NULL;
+    };
+    let mut links = RawTable::new(table);
+    let mut edited = list_of(&*list);
+    if let Some(from) = between(&links, member) {
+        if let Some(to) = gap_at_end(&links, &edited, side) {
+            moving::relocate(&mut links, &mut edited, from, member, to);
+            write_back(list, edited);
+            return OK;
+        }
+    }
+    if moving::is_at_end(&links, &edited, side, member) {
+        return OK;
+    }
+    move_to_end_any(links.entries, list, side, place)
+}

@@ -1,0 +1,35 @@
+//! Places as words and as numbers that cross to C.
+//!
+//! ```text
+//! place_of(7)   // the place with index 7
+//! ```
+
+ghost use Rattle.std.specs.Prelude.{◌≡◌};
+ghost use Rattle.ic_raw.specs.Words.{place_in, place_of, HasNumber};
+
+use ic_unsafe_ref::Place;
+
+/// The place that a word names, whatever its bits are: the three lowest, and those from `2^36` on, count for nothing.
+#[inline]
+pub(crate) fn place_in(word: u64) -> Option<Place>
+    ensures { result ≡ place_in word }
+{
+    Place::from_word(word / 8 % 8_589_934_592 * 8)
+}
+
+/// The place with that index, and none at [`NONE`](crate::NONE).
+#[inline]
+pub(crate) fn place_of(index: u32) -> Option<Place>
+    ensures { result ≡ place_of index }
+{
+    Place::from_word(8 * u64::from(index.wrapping_add(1)))
+}
+
+/// The index of the place, as many of its bits as the number has. No call puts a place in whose index has more.
+#[inline]
+#[tactic(auto, using(crate::proofs::Numbers::index_named))]
+pub(crate) fn number_of(place: Place) -> u32
+    ensures { HasNumber place result }
+{
+    (place.index() % 4_294_967_296) as u32
+}

@@ -1,0 +1,220 @@
+//! The singly linked list: what its calls test, and its edits over a view of the table.
+//!
+//! ```text
+//! let made = insert(&mut links, &mut stack, at, place);
+//! ```
+
+ghost use Rattle.std.specs.Prelude.{◌≡◌, ◌≢◌, ◌++◌, ◌∷◌, List, Some, true, false};
+ghost use Rattle.ic_unsafe_ref.specs.declared.place.Place.{Place};
+ghost use Rattle.ic_link_ops.specs.Sequences.{Cut, join, last, IsDisjoint, IsAfter};
+ghost use Rattle.ic_link_ops.specs.Tables.{IsLinked, IsUnlinked};
+ghost use Rattle.ic_link_ops.specs.Edits.{Inserts, Removes, Replaces, Splices, Splits};
+ghost use Rattle.ic_link_ops.specs.SinglyLinkedList.{list_from};
+ghost use Rattle.ic_raw.specs.declared.gap.Gap.{Gap};
+ghost use Rattle.ic_raw.specs.Gaps.{Stands, before, gap_of};
+ghost use Rattle.ic_raw.specs.Tables.{IsFree};
+ghost use Rattle.ic_raw.specs.Words.{is_linked_one};
+ghost use Rattle.ic_raw.specs.Singly.{Shows, lent_table, next_from};
+
+use crate::gap::{Gap, begin_alike};
+use crate::table::RawTable;
+use crate::words::RawOne;
+use ic_link_ops::LinkOps;
+use ic_link_ops::singly_linked_list::SinglyLinkedListOps;
+use ic_singly_linked_list::SinglyLinkedList;
+use ic_unsafe_ref::Place;
+
+/// A list of the caller's.
+pub(crate) type Stack = SinglyLinkedList<()>;
+
+// What stands behind a place, the first of the list at none.
+#[inline]
+fn next_of(links: &RawTable<'_, RawOne>, list: &Stack, place: Option<Place>) -> Option<Place>
+    requires { Stands is_linked_one (lent_table links.now) place }
+    ensures { result ≡ next_from (lent_table links.now) list.now place }
+{
+    match place {
+        None => list.first(),
+        Some(place) => links.next(place),
+    }
+}
+
+// The gap behind a place, at none the first one. None where a side of it is a place that is not linked.
+#[inline]
+pub(crate) fn gap_after(
+    links: &RawTable<'_, RawOne>,
+    list: &Stack,
+    at: Option<Place>,
+) -> Option<Gap>
+    ensures at { (gap : Gap) → result ≡ Some gap → Stands is_linked_one (lent_table links.now) at }
+    ensures told { (gap : Gap) → result ≡ Some gap
+        → Stands is_linked_one (lent_table links.now) (next_from (lent_table links.now) list.now at) }
+    ensures is { (gap : Gap) → result ≡ Some gap
+        → gap ≡ record { before = at; behind = next_from (lent_table links.now) list.now at } }
+    ensures found { Stands is_linked_one (lent_table links.now) at
+        → Stands is_linked_one (lent_table links.now) (next_from (lent_table links.now) list.now at)
+        → result ≡ Some (record { before = at; behind = next_from (lent_table links.now) list.now at }) }
+    ensures shown { (cut : Cut) → Shows (lent_table links.now) list.now (join cut) → IsAfter cut at → result ≡ Some (gap_of cut) }
+{
+    if !links.stands(at) {
+        return None;
+    }
+    let behind = next_of(links, list, at);
+    if !links.stands(behind) {
+        return None;
+    }
+    Some(Gap { before: at, behind })
+}
+
+// Puts the place into the gap behind another one, and says whether it could.
+#[inline]
+pub(crate) fn insert(
+    links: &mut RawTable<'_, RawOne>,
+    list: &mut Stack,
+    at: Option<Place>,
+    place: Option<Place>,
+) -> bool
+    ensures inserted { (cut : Cut) (p : Place) → Shows (lent_table links.old) list.old (join cut) → IsAfter cut at → place ≡ Some p
+        → IsFree is_linked_one (lent_table links.old) p
+        → (result ≡ true) × Inserts Shows (lent_table links.old) (lent_table links.new) list.new cut p }
+    ensures free { result ≡ true → (p : Place) × (place ≡ Some p) × IsFree is_linked_one (lent_table links.old) p }
+    ensures stands { result ≡ true → Stands is_linked_one (lent_table links.old) at }
+    ensures told { result ≡ true → Stands is_linked_one (lent_table links.old) (next_from (lent_table links.old) list.old at) }
+    ensures refused { result ≡ false → (links.new ≡ links.old) × (list.new ≡ list.old) }
+    ensures extent { (lent_table links.new).extent ≡ (lent_table links.old).extent }
+{
+    let Some(gap) = gap_after(&*links, &*list, at) else {
+        return false;
+    };
+    let Some(place) = links.acquire(place) else {
+        return false;
+    };
+    list.insert_linked(links, gap.before, place, gap.behind);
+    true
+}
+
+// Takes the member behind a place off, at none the first one.
+#[inline]
+pub(crate) fn remove(
+    links: &mut RawTable<'_, RawOne>,
+    list: &mut Stack,
+    at: Option<Place>,
+    member: Place,
+)
+    requires stands { Stands is_linked_one (lent_table links.old) at }
+    requires member { IsLinked is_linked_one (lent_table links.old) member }
+    ensures removed { (front back : List Place) → Shows (lent_table links.old) list.old (front ++ member ∷ back) → at ≡ last front
+        → Removes Shows (lent_table links.old) (lent_table links.new) list.new (before member front back)
+        × IsUnlinked is_linked_one (lent_table links.new) member }
+    ensures extent { (lent_table links.new).extent ≡ (lent_table links.old).extent }
+{
+    let behind = links.next(member);
+    list.bypass(links, at, member, behind);
+    links.release_link(member);
+}
+
+// Puts the place where the member behind another one is, at none where the first is, and says whether it could. That member is unlinked
+// then.
+#[inline]
+pub(crate) fn replace(
+    links: &mut RawTable<'_, RawOne>,
+    list: &mut Stack,
+    at: Option<Place>,
+    member: Place,
+    place: Option<Place>,
+) -> bool
+    requires stands { Stands is_linked_one (lent_table links.old) at }
+    requires member { IsLinked is_linked_one (lent_table links.old) member }
+    ensures replaced { (front back : List Place) (p : Place) → Shows (lent_table links.old) list.old (front ++ member ∷ back)
+        → at ≡ last front → place ≡ Some p → IsFree is_linked_one (lent_table links.old) p
+        → (result ≡ true) × Replaces Shows (lent_table links.old) (lent_table links.new) list.new (before member front back) p
+        × IsUnlinked is_linked_one (lent_table links.new) member }
+    ensures free { result ≡ true → (p : Place) × (place ≡ Some p) × IsFree is_linked_one (lent_table links.old) p }
+    ensures refused { result ≡ false → (links.new ≡ links.old) × (list.new ≡ list.old) }
+    ensures extent { (lent_table links.new).extent ≡ (lent_table links.old).extent }
+{
+    let behind = links.next(member);
+    let Some(place) = links.acquire(place) else {
+        return false;
+    };
+    list.replace_linked(links, at, member, place, behind);
+    links.release_link(member);
+    true
+}
+
+// The last member of the list with this front, if its places lead to an end within as many steps as the table has places.
+pub(crate) fn last_from(links: &RawTable<'_, RawOne>, front: Place) -> Option<Place>
+    ensures ended { (end : Place) → result ≡ Some end
+        → (s : List Place) × Shows (lent_table links.now) (list_from (Some front)) s × (Some end ≡ last s) }
+    ensures shown { (s : List Place) → Shows (lent_table links.now) (list_from (Some front)) s → result ≡ last s }
+{
+    let mut at = front;
+    let mut left = links.places();
+    while left > 0 {
+        if !links.is_linked(at) {
+            return None;
+        }
+        let Some(next) = links.next(at) else {
+            return Some(at);
+        };
+        at = next;
+        left -= 1;
+    }
+    None
+}
+
+// Puts all of the given list into the gap behind a place, and says whether it could.
+#[inline]
+pub(crate) fn splice(
+    links: &mut RawTable<'_, RawOne>,
+    list: &mut Stack,
+    at: Option<Place>,
+    given: Stack,
+) -> bool
+    ensures spliced { (cut : Cut) (t : List Place) → Shows (lent_table links.old) list.old (join cut) → IsAfter cut at
+        → Shows (lent_table links.old) given t → IsDisjoint t (join cut)
+        → (result ≡ true) × Splices Shows (lent_table links.old) (lent_table links.new) list.new cut t }
+    ensures stands { result ≡ true → Stands is_linked_one (lent_table links.old) at }
+    ensures told { result ≡ true → Stands is_linked_one (lent_table links.old) (next_from (lent_table links.old) list.old at) }
+    ensures apart { result ≡ true → (p : Place) → given.head ≡ Some p → list.old.head ≢ Some p }
+    ensures ended { result ≡ true → (t : List Place) × Shows (lent_table links.old) given t }
+    ensures refused { result ≡ false → (links.new ≡ links.old) × (list.new ≡ list.old) }
+    ensures extent { (lent_table links.new).extent ≡ (lent_table links.old).extent }
+{
+    if begin_alike(&*list, &given) {
+        return false;
+    }
+    let Some(gap) = gap_after(&*links, &*list, at) else {
+        return false;
+    };
+    let Some(front) = given.first() else {
+        return true;
+    };
+    let Some(back) = last_from(&*links, front) else {
+        return false;
+    };
+    list.splice_between(links, gap.before, given, Some(back), gap.behind);
+    true
+}
+
+// Cuts the list at the gap behind a place, and says whether it could. It keeps what is in front of the cut, and the rest is handed out.
+#[inline]
+pub(crate) fn split(
+    links: &mut RawTable<'_, RawOne>,
+    list: &mut Stack,
+    at: Option<Place>,
+    rest: &mut Stack,
+) -> bool
+    ensures split { (cut : Cut) → Shows (lent_table links.old) list.old (join cut) → IsAfter cut at
+        → (result ≡ true) × Splits Shows (lent_table links.old) (lent_table links.new) list.new rest.new cut.front cut.back }
+    ensures stands { result ≡ true → Stands is_linked_one (lent_table links.old) at }
+    ensures told { result ≡ true → Stands is_linked_one (lent_table links.old) (next_from (lent_table links.old) list.old at) }
+    ensures refused { result ≡ false → (links.new ≡ links.old) × (list.new ≡ list.old) × (rest.new ≡ rest.old) }
+    ensures extent { (lent_table links.new).extent ≡ (lent_table links.old).extent }
+{
+    let Some(gap) = gap_after(&*links, &*list, at) else {
+        return false;
+    };
+    *rest = list.split_between(links, gap.before, gap.behind);
+    true
+}

@@ -1,0 +1,370 @@
+//! A table over words that a caller lends.
+//!
+//! ```text
+//! let mut links = RawTable::new(words);
+//! links.covers(place) // whether there is such a place
+//! ```
+
+ghost use Rattle.std.specs.Prelude.{◌≡◌, ◌≢◌, ◌↔◌, ◌∷◌, [], Some, None, true, IsTrue};
+ghost use Rattle.ic_unsafe_ref.specs.declared.place.Place.{Place};
+ghost use Rattle.ic_link_ops.specs.PlainTables.{table_of};
+ghost use Rattle.ic_link_ops.specs.Tables.{IsCovered, IsLinked, ChangesOnly};
+ghost use Rattle.ic_raw.specs.Tables.{IsView, IsFree, raw_table, member_fault, place_fault};
+ghost use Rattle.ic_raw.specs.Gaps.{Stands};
+ghost use Rattle.ic_raw.specs.Answers.{refusal};
+ghost use Rattle.ic_raw.specs.Words.{place_of};
+
+use crate::number::place_of;
+use crate::status::{BROKEN, LINKED, NONE, NOT_LINKED, OK, OUT_OF_RANGE};
+use ic_link_ops::linked_list::LinkedListOps;
+use ic_link_ops::singly_linked_list::SinglyLinkedListOps;
+use ic_link_ops::xor_linked_list::XorLinkedListOps;
+use ic_link_ops::{LinkOps, NextWord, PrevPlace, Word, Words};
+use ic_unsafe_ref::Place;
+
+/// A view of the words of a table, with one element for each place.
+///
+/// It has the link traits that its words can keep, as `LentTable` of `ic_link_ops` has over links. Links are a generic type, which does
+/// not cross to C.
+pub struct RawTable<'a, W> {
+    pub(crate) entries: &'a mut [W],
+}
+
+impl<W> Drop for RawTable<'_, W> {
+    fn drop(self)
+        ensures words { self.exit.0.now ≡ self.entry.entries.now }
+    {
+        let RawTable { entries: _ } = self;
+    }
+}
+
+impl<'a, W> RawTable<'a, W> {
+    /// A view of these words. O(1).
+    #[inline]
+    pub fn new(words: &'a mut [W]) -> RawTable<'a, W>
+        ensures { IsView words.entry result }
+    {
+        RawTable { entries: words }
+    }
+}
+
+impl<W: Words> RawTable<'_, W> {
+    /// How many places the table has. O(1).
+    #[inline]
+    pub fn places(&self) -> usize
+        ensures { result ≡ (raw_table W.unlinked self.now).extent.places }
+    {
+        self.entries.len()
+    }
+
+    /// Whether `place` is one of the table. O(1).
+    #[inline]
+    pub fn covers(&self, place: Place) -> bool
+        ensures { IsTrue result ↔ IsCovered (raw_table W.unlinked self.now) place }
+    {
+        // An index counts from 0, a word from 1: so stated, the test takes an instruction less.
+        place.index() + 1 <= self.places()
+    }
+
+    // The words of `place`.
+    #[inline]
+    pub(crate) fn at(&self, place: Place) -> &W
+        requires covered { IsCovered (raw_table W.unlinked self.now) place }
+        ensures { result.now ≡ (raw_table W.unlinked self.now).entry place }
+    {
+        let entries = &*self.entries;
+        &entries[place.index()]
+    }
+
+    /// Whether `place` is a linked place of the table. O(1).
+    #[inline]
+    pub fn is_linked(&self, place: Place) -> bool
+        ensures { result ≡ W.is_linked ((raw_table W.unlinked self.now).entry place) }
+    {
+        if !self.covers(place) {
+            return false;
+        }
+        self.at(place).is_linked()
+    }
+
+    /// Whether `place` is none or a linked place of the table. O(1).
+    #[inline]
+    pub fn stands(&self, place: Option<Place>) -> bool
+        ensures { (result ≡ true) ↔ Stands W.is_linked (raw_table W.unlinked self.now) place }
+    {
+        match place {
+            None => true,
+            Some(place) => self.is_linked(place),
+        }
+    }
+
+    /// Links `place` and gives it, if it is one of the table and not linked. O(1).
+    #[inline]
+    pub fn acquire(&mut self, place: Option<Place>) -> Option<Place>
+        ensures accepted { (p : Place) → place ≡ Some p → IsFree W.is_linked (raw_table W.unlinked self.old) p → result ≡ Some p }
+        ensures same { (p : Place) → result ≡ Some p → place ≡ Some p }
+        ensures free { (p : Place) → result ≡ Some p → IsFree W.is_linked (raw_table W.unlinked self.old) p }
+        ensures linked { (p : Place) → result ≡ Some p → IsLinked W.is_linked (raw_table W.unlinked self.new) p }
+        ensures frame { (p : Place) → result ≡ Some p → ChangesOnly (raw_table W.unlinked self.old) (raw_table W.unlinked self.new) p }
+        ensures refused { result ≡ None → self.new ≡ self.old }
+    {
+        let place = place?;
+        if !self.covers(place) {
+            return None;
+        }
+        if !self.acquire_link(place) {
+            return None;
+        }
+        Some(place)
+    }
+
+    /// [`OK`] where `member` is none or a linked place of the table, else its fault. O(1).
+    #[inline]
+    pub fn member_fault(&self, member: Option<Place>) -> u32
+        ensures fault { result ≡ member_fault W.is_linked (raw_table W.unlinked self.now) member }
+        ensures named { result ≢ 4 }
+    {
+        let Some(member) = member else {
+            return OK;
+        };
+        if self.is_linked(member) {
+            return OK;
+        }
+        if self.covers(member) {
+            NOT_LINKED
+        } else {
+            OUT_OF_RANGE
+        }
+    }
+
+    /// [`OK`] where `place` is one of the table and not linked, else its fault. O(1).
+    #[inline]
+    pub fn place_fault(&self, place: Option<Place>) -> u32
+        ensures fault { result ≡ place_fault W.is_linked (raw_table W.unlinked self.now) place }
+        ensures named { result ≢ 4 }
+    {
+        let Some(place) = place else {
+            return OUT_OF_RANGE;
+        };
+        if !self.covers(place) {
+            return OUT_OF_RANGE;
+        }
+        if self.is_linked(place) { LINKED } else { OK }
+    }
+
+    /// Why a call at this member is refused: by its fault, or as [`BROKEN`]. O(1).
+    ///
+    /// A caller that has the place keeps no number for it.
+    #[cold]
+    #[inline(never)]
+    pub fn refusal_of(&self, member: Place) -> u32
+        ensures refusal { result ≡ refusal (member_fault W.is_linked (raw_table W.unlinked self.now) (Some member) ∷ []) }
+        ensures refused { (result ≢ 0) × (result ≢ 4) }
+    {
+        let fault = self.member_fault(Some(member));
+        if fault != OK {
+            return fault;
+        }
+        BROKEN
+    }
+
+    /// Why a call at the member `at` is refused: by its fault, or as [`BROKEN`]. O(1).
+    #[cold]
+    #[inline(never)]
+    pub fn refusal_at(&self, at: u32) -> u32
+        ensures refusal { result ≡ refusal (member_fault W.is_linked (raw_table W.unlinked self.now) (place_of at) ∷ []) }
+        ensures refused { (result ≢ 0) × (result ≢ 4) }
+    {
+        let fault = self.member_fault(place_of(at));
+        if fault != OK {
+            return fault;
+        }
+        BROKEN
+    }
+
+    /// Why a call at two members is refused: by the first fault of the two, or as [`BROKEN`]. O(1).
+    #[cold]
+    #[inline(never)]
+    pub fn refusal_at_both(&self, one: u32, other: u32) -> u32
+        ensures refusal { result ≡ refusal (member_fault W.is_linked (raw_table W.unlinked self.now) (place_of one)
+            ∷ member_fault W.is_linked (raw_table W.unlinked self.now) (place_of other) ∷ []) }
+        ensures refused { (result ≢ 0) × (result ≢ 4) }
+    {
+        let fault = self.member_fault(place_of(one));
+        if fault != OK {
+            return fault;
+        }
+        let fault = self.member_fault(place_of(other));
+        if fault != OK {
+            return fault;
+        }
+        BROKEN
+    }
+
+    /// Why `place` does not go in at the member `at`: by the fault of either, or as [`BROKEN`]. O(1).
+    #[cold]
+    #[inline(never)]
+    pub fn refusal(&self, at: u32, place: u32) -> u32
+        ensures refusal { result ≡ refusal (member_fault W.is_linked (raw_table W.unlinked self.now) (place_of at)
+            ∷ place_fault W.is_linked (raw_table W.unlinked self.now) (place_of place) ∷ []) }
+        ensures refused { (result ≢ 0) × (result ≢ 4) }
+    {
+        let fault = self.member_fault(place_of(at));
+        if fault != OK {
+            return fault;
+        }
+        let fault = self.place_fault(place_of(place));
+        if fault != OK {
+            return fault;
+        }
+        BROKEN
+    }
+}
+
+/// Why `place` does not go in at an end: by its fault, or as [`BROKEN`]. O(1).
+///
+/// It takes the words, which stay as they are, and not the view, so that the call that is refused keeps no view in memory.
+#[cold]
+#[inline(never)]
+pub(crate) fn refusal_at_end<W: Words>(words: &mut [W], place: u32) -> u32
+    ensures refusal { result ≡ refusal (place_fault W.is_linked (table_of W.unlinked words.old) (place_of place) ∷ []) }
+    ensures refused { (result ≢ 0) × (result ≢ 4) }
+    ensures kept { words.new ≡ words.old }
+{
+    RawTable::new(words).refusal(NONE, place)
+}
+
+impl<W: Words> LinkOps for RawTable<'_, W> {
+    ghost use Rattle.ic_unsafe_ref.specs.Places.{index_of};
+    ghost use Rattle.ic_link_ops.specs.EntryLaws.{linked_in_range};
+    ghost use Rattle.ic_link_ops.specs.LinkSteps.{Replays};
+    ghost use Rattle.ic_link_ops.specs.StepLaws.{replays_on};
+    ghost use Rattle.std.proofs.Common.{ap, refl};
+    ghost use Rattle.ic_raw.specs.Tables.{raw_entries};
+
+    type Entry = W;
+
+    ghost table = { raw_table W.unlinked };
+
+    ghost linked = { W.is_linked };
+
+    ghost Does = { λ old new s. Replays W.is_linked (raw_table W.unlinked old) (raw_table W.unlinked new) s };
+
+    ghost Refused = { λ old new p. IsLinked W.is_linked (raw_table W.unlinked old) p × (new ≡ old) };
+
+    #[inline]
+    fn acquire_link(&mut self, place: Place) -> bool {
+        let index = place.index();
+        if self.entries[index].is_linked() {
+            return false;
+        }
+        let words = &mut self.entries[index];
+        words.link();
+        true
+    }
+
+    #[inline]
+    fn release_link(&mut self, place: Place) {
+        let words = &mut self.entries[place.index()];
+        words.unlink();
+    }
+
+    ghost linked_is_covered = { λ t p h. linked_in_range W.is_linked W.unlinked W.starts_unlinked (raw_entries t) (index_of p) h };
+
+    ghost does_nothing = { λ t q. refl };
+
+    ghost does_on = { λ a b c s t h k. replays_on W.is_linked s t (raw_table W.unlinked a) (raw_table W.unlinked b) (raw_table W.unlinked c) h k };
+
+    ghost does_replay = { λ old new s h. h };
+
+    ghost refused_keeps = { λ old new p h. ap (raw_table W.unlinked) h.1 };
+}
+
+impl<W: PrevPlace> LinkedListOps for RawTable<'_, W> {
+    ghost use Rattle.std.specs.Prelude.{refl};
+    ghost use Rattle.ic_raw.specs.Tables.{neighbors_of};
+
+    ghost neighbors = { neighbors_of W.next_word W.is_linked W.prev };
+
+    #[inline]
+    fn next(&self, place: Place) -> Option<Place> {
+        self.at(place).next_word().place()
+    }
+
+    #[inline]
+    fn prev(&self, place: Place) -> Option<Place> {
+        self.at(place).prev()
+    }
+
+    #[inline]
+    fn set_next(&mut self, place: Place, next: Option<Place>) {
+        let words = &mut self.entries[place.index()];
+        words.set_next_word(Word::of(next));
+    }
+
+    #[inline]
+    fn set_prev(&mut self, place: Place, prev: Option<Place>) {
+        let words = &mut self.entries[place.index()];
+        words.set_prev(prev);
+    }
+
+    ghost linked_alike = { λ e. refl };
+}
+
+impl<W: NextWord> SinglyLinkedListOps for RawTable<'_, W> {
+    ghost use Rattle.std.specs.Prelude.{refl};
+    ghost use Rattle.ic_raw.specs.Tables.{successor_of};
+
+    ghost successor = { successor_of W.next_word W.is_linked };
+
+    #[inline]
+    fn next(&self, place: Place) -> Option<Place> {
+        self.at(place).next_word().place()
+    }
+
+    #[inline]
+    fn set_next(&mut self, place: Place, next: Option<Place>) {
+        let words = &mut self.entries[place.index()];
+        words.set_next_word(Word::of(next));
+    }
+
+    ghost linked_alike = { λ e. refl };
+}
+
+impl<W: NextWord> XorLinkedListOps for RawTable<'_, W> {
+    ghost use Rattle.ic_link_ops.specs.XorLaws.{joins_symmetric, joins_one_other, joins_finds_other};
+    ghost use Rattle.ic_raw.specs.Tables.{joins_of, other_of};
+
+    ghost Joins = { joins_of W.next_word };
+
+    ghost other = { other_of W.next_word };
+
+    #[inline]
+    fn next(&self, place: Place, prev: Option<Place>) -> Option<Place> {
+        self.at(place).next_word().other(prev)
+    }
+
+    #[inline]
+    fn prev(&self, place: Place, next: Option<Place>) -> Option<Place> {
+        self.at(place).next_word().other(next)
+    }
+
+    #[inline]
+    fn set(&mut self, place: Place, prev: Option<Place>, next: Option<Place>) {
+        let words = &mut self.entries[place.index()];
+        words.set_next_word(Word::between(prev, next));
+    }
+
+    #[inline]
+    fn replace_next_or_prev(&mut self, place: Place, old: Option<Place>, new: Option<Place>) {
+        let words = &mut self.entries[place.index()];
+        let word = words.next_word();
+        words.set_next_word(word.replaced(old, new));
+    }
+
+    ghost symmetric = { λ e a b j. joins_symmetric (W.next_word e) a b j };
+
+    ghost one_other = { λ e a b c j k. joins_one_other (W.next_word e) a b c j k };
+
+    ghost finds_other = { λ e a b j. joins_finds_other (W.next_word e) a b j };
+}

@@ -1,0 +1,329 @@
+//! The red-black tree: what its calls test, and its edits over a view of the table.
+//!
+//! ```text
+//! let made = remove(&mut links, &mut tree, member);
+//! ```
+
+ghost use Rattle.std.specs.Prelude.{◌≡◌, ◌≢◌, ◌↔◌, ◌⊎◌, ◌++◌, ◌∷◌, [], List, Option, Some, None, true, false};
+ghost use Rattle.ic_unsafe_ref.specs.declared.place.Place.{Place};
+ghost use Rattle.ic_link_ops.specs.Sequences.{Cut, join};
+ghost use Rattle.ic_link_ops.specs.Tables.{IsLinked, IsUnlinked, ChangesOnly};
+ghost use Rattle.ic_link_ops.specs.Edits.{Inserts, Removes, Replaces};
+ghost use Rattle.ic_link_ops.specs.RedBlackTree.{node_at};
+ghost use Rattle.ic_link_ops.specs.Frames.{across, child_on};
+ghost use Rattle.ic_rbtree.specs.Closed.{IsIn, AreIn};
+ghost use Rattle.ic_rbtree.specs.Sides.{IsBeside};
+ghost use Rattle.ic_rbtree.specs.Tree.{root_of};
+ghost use Rattle.ic_raw.specs.Answers.{IsFound, refusal};
+ghost use Rattle.ic_raw.specs.Gaps.{Stands, before};
+ghost use Rattle.ic_raw.specs.Seen.{IsWithin, has_place};
+ghost use Rattle.ic_raw.specs.Tables.{IsFree, member_fault};
+ghost use Rattle.ic_raw.specs.Words.{is_linked_three, place_of, HasNumber};
+ghost use Rattle.ic_raw.specs.Tree.{Shows, IsHole, TellsHole, lent_table, node};
+
+use crate::number::{number_of, place_in, place_of};
+use crate::status::{BROKEN, NULL, OK};
+use crate::table::RawTable;
+use crate::words::RawThree;
+use ic_link_ops::{LinkOps, Side, Words};
+use ic_rbtree::{RBTree, step_within};
+use ic_unsafe_ref::Place;
+
+/// A tree of the caller's.
+pub(crate) type Tree = RBTree<()>;
+
+// Whether the root is a linked place of the table, and not none. Words are compared, which takes no shift, and one test tells both that it is
+// none and that the table has no such place.
+#[inline]
+fn has_root(links: &RawTable<'_, RawThree>, tree: &Tree) -> bool
+    ensures root { result ≡ true → Stands is_linked_three (lent_table links.now) (root_of tree.now) }
+    ensures shown { root_of tree.now ≢ None → Stands is_linked_three (lent_table links.now) (root_of tree.now) → result ≡ true }
+{
+    let Some(root) = tree.root() else {
+        return false;
+    };
+    if Place::to_word(Some(root)) > 8 * links.entries.len() as u64 {
+        return false;
+    }
+    links.at(root).is_linked()
+}
+
+// Whether the place is none or linked, and the root too, which a tree with a member has.
+#[inline]
+pub(crate) fn stand(links: &RawTable<'_, RawThree>, tree: &Tree, at: Option<Place>) -> bool
+    ensures at { result ≡ true → Stands is_linked_three (lent_table links.now) at }
+    ensures root { result ≡ true → Stands is_linked_three (lent_table links.now) (root_of tree.now) }
+    ensures shown { (side : Side) (cut : Cut) → Shows (lent_table links.now) (root_of tree.now) (join cut) → IsBeside side cut at
+        → result ≡ true }
+{
+    match at {
+        None => links.stands(tree.root()),
+        Some(member) => {
+            if !links.is_linked(member) {
+                return false;
+            }
+            has_root(links, tree)
+        }
+    }
+}
+
+// The child of a linked place on this side.
+#[inline]
+fn child(links: &RawTable<'_, RawThree>, place: Place, side: Side) -> Option<Place>
+    requires { IsLinked is_linked_three (lent_table links.now) place }
+    ensures { result ≡ child_on side (node_at node (lent_table links.now) place) }
+{
+    let words = links.at(place);
+    match side {
+        Side::Left => place_in(words.left),
+        Side::Right => place_in(words.right),
+    }
+}
+
+// Whether a place can be put in on this side of `at`: it has no child there, or is none, and the tree empty.
+#[inline]
+fn is_hole(links: &RawTable<'_, RawThree>, tree: &Tree, side: Side, at: Option<Place>) -> bool
+    ensures at { result ≡ true → Stands is_linked_three (lent_table links.now) at }
+    ensures root { result ≡ true → Stands is_linked_three (lent_table links.now) (root_of tree.now) }
+    ensures told { result ≡ true → TellsHole side (lent_table links.now) (root_of tree.now) at }
+    ensures shown { (cut : Cut) → Shows (lent_table links.now) (root_of tree.now) (join cut) → IsHole side (lent_table links.now) at cut
+        → result ≡ true }
+{
+    if !stand(links, tree, at) {
+        return false;
+    }
+    match at {
+        None => tree.root().is_none(),
+        Some(at) => child(links, at, side).is_none(),
+    }
+}
+
+// Links the place and gives it, if it is one of the table and not linked. Its words name no other place then.
+#[inline]
+fn acquire(links: &mut RawTable<'_, RawThree>, place: Option<Place>) -> Option<Place>
+    ensures accepted { (p : Place) → place ≡ Some p → IsFree is_linked_three (lent_table links.old) p → result ≡ Some p }
+    ensures same { (p : Place) → result ≡ Some p → place ≡ Some p }
+    ensures free { (p : Place) → result ≡ Some p → IsFree is_linked_three (lent_table links.old) p }
+    ensures linked { (p : Place) → result ≡ Some p → IsLinked is_linked_three (lent_table links.new) p }
+    ensures bare { (p : Place) → result ≡ Some p → IsWithin (lent_table links.new) p }
+    ensures frame { (p : Place) → result ≡ Some p → ChangesOnly (lent_table links.old) (lent_table links.new) p }
+    ensures refused { result ≡ None → links.new ≡ links.old }
+{
+    let Some(place) = links.acquire(place) else {
+        return None;
+    };
+    links.entries[place.index()] = RawThree {
+        left: 1,
+        right: 0,
+        parent: 0,
+    };
+    Some(place)
+}
+
+// Puts the place in on this side of a place of the table, at none as the root, if it is one of the table and not linked, and says whether
+// it could.
+#[inline(always)]
+pub(crate) fn put(
+    links: &mut RawTable<'_, RawThree>,
+    tree: &mut Tree,
+    side: Side,
+    at: Option<Place>,
+    place: Option<Place>,
+) -> bool
+    requires { AreIn (has_place (lent_table links.old)) (at ∷ root_of tree.old ∷ []) }
+    ensures inserted { (cut : Cut) (p : Place) → Shows (lent_table links.old) (root_of tree.old) (join cut)
+        → IsHole side (lent_table links.old) at cut → place ≡ Some p → IsFree is_linked_three (lent_table links.old) p
+        → (result ≡ true) × Inserts Shows (lent_table links.old) (lent_table links.new) (root_of tree.new) cut p }
+    ensures free { result ≡ true → (p : Place) × (place ≡ Some p) × IsFree is_linked_three (lent_table links.old) p }
+    ensures refused { result ≡ false → (links.new ≡ links.old) × (tree.new ≡ tree.old) }
+    ensures extent { (lent_table links.new).extent ≡ (lent_table links.old).extent }
+{
+    let Some(place) = acquire(links, place) else {
+        return false;
+    };
+    tree.attach(links, at, side, place);
+    true
+}
+
+// Puts the place in on this side of a member, at none as the only one, and says whether it could.
+#[inline(always)]
+pub(crate) fn insert(
+    links: &mut RawTable<'_, RawThree>,
+    tree: &mut Tree,
+    side: Side,
+    at: Option<Place>,
+    place: Option<Place>,
+) -> bool
+    ensures inserted { (cut : Cut) (p : Place) → Shows (lent_table links.old) (root_of tree.old) (join cut)
+        → IsHole side (lent_table links.old) at cut → place ≡ Some p → IsFree is_linked_three (lent_table links.old) p
+        → (result ≡ true) × Inserts Shows (lent_table links.old) (lent_table links.new) (root_of tree.new) cut p }
+    ensures free { result ≡ true → (p : Place) × (place ≡ Some p) × IsFree is_linked_three (lent_table links.old) p }
+    ensures stands { result ≡ true → Stands is_linked_three (lent_table links.old) at }
+    ensures root { result ≡ true → Stands is_linked_three (lent_table links.old) (root_of tree.old) }
+    ensures told { result ≡ true → TellsHole side (lent_table links.old) (root_of tree.old) at }
+    ensures refused { result ≡ false → (links.new ≡ links.old) × (tree.new ≡ tree.old) }
+    ensures extent { (lent_table links.new).extent ≡ (lent_table links.old).extent }
+{
+    if !is_hole(&*links, &*tree, side, at) {
+        return false;
+    }
+    put(links, tree, side, at, place)
+}
+
+// Takes the member off, and says whether it could.
+#[inline]
+pub(crate) fn remove(links: &mut RawTable<'_, RawThree>, tree: &mut Tree, member: Place) -> bool
+    ensures removed { (front back : List Place) → Shows (lent_table links.old) (root_of tree.old) (front ++ member ∷ back)
+        → (result ≡ true) × Removes Shows (lent_table links.old) (lent_table links.new) (root_of tree.new) (before member front back)
+        × IsUnlinked is_linked_three (lent_table links.new) member }
+    ensures stands { result ≡ true → Stands is_linked_three (lent_table links.old) (Some member) }
+    ensures root { result ≡ true → Stands is_linked_three (lent_table links.old) (root_of tree.old) }
+    ensures refused { result ≡ false → (links.new ≡ links.old) × (tree.new ≡ tree.old) }
+    ensures extent { (lent_table links.new).extent ≡ (lent_table links.old).extent }
+{
+    if !stand(&*links, &*tree, Some(member)) {
+        return false;
+    }
+    tree.unlink(links, member);
+    links.release_link(member);
+    true
+}
+
+// Puts the place where the member is, which is unlinked then, and says whether it could.
+#[inline]
+pub(crate) fn replace(
+    links: &mut RawTable<'_, RawThree>,
+    tree: &mut Tree,
+    member: Place,
+    place: Option<Place>,
+) -> bool
+    ensures replaced { (front back : List Place) (p : Place) → Shows (lent_table links.old) (root_of tree.old) (front ++ member ∷ back)
+        → place ≡ Some p → IsFree is_linked_three (lent_table links.old) p
+        → (result ≡ true) × Replaces Shows (lent_table links.old) (lent_table links.new) (root_of tree.new) (before member front back) p
+        × IsUnlinked is_linked_three (lent_table links.new) member }
+    ensures free { result ≡ true → (p : Place) × (place ≡ Some p) × IsFree is_linked_three (lent_table links.old) p }
+    ensures stands { result ≡ true → Stands is_linked_three (lent_table links.old) (Some member) }
+    ensures root { result ≡ true → Stands is_linked_three (lent_table links.old) (root_of tree.old) }
+    ensures refused { result ≡ false → (links.new ≡ links.old) × (tree.new ≡ tree.old) }
+    ensures extent { (lent_table links.new).extent ≡ (lent_table links.old).extent }
+{
+    if !stand(&*links, &*tree, Some(member)) {
+        return false;
+    }
+    let Some(place) = acquire(links, place) else {
+        return false;
+    };
+    tree.take_place(links, member, place);
+    links.release_link(member);
+    true
+}
+
+// Writes the number of the member, if there is one and it is linked, and says whether.
+#[inline(always)]
+fn tell(links: &RawTable<'_, RawThree>, member: Option<Place>, found: &mut u32) -> bool
+    requires { IsIn (has_place (lent_table links.now)) member }
+    ensures told { result ≡ true → (q : Place) × (member ≡ Some q) × IsLinked is_linked_three (lent_table links.now) q × HasNumber q found.new }
+    ensures not_told { result ≡ false → found.new ≡ found.old }
+    ensures stands { Stands is_linked_three (lent_table links.now) member → member ≢ None → result ≡ true }
+{
+    let Some(place) = member else {
+        return false;
+    };
+    if !links.at(place).is_linked() {
+        return false;
+    }
+    *found = number_of(place);
+    true
+}
+
+// Why no number is told: there is no member, or its place is not linked.
+#[inline]
+fn nothing_told(member: Option<Place>) -> u32
+    ensures null { (result ≡ 4) ↔ (member ≡ None) }
+    ensures why { result ≢ 4 → result ≡ 5 }
+    ensures refused { result ≢ 0 }
+{
+    match member {
+        None => NULL,
+        Some(_) => BROKEN,
+    }
+}
+
+// The same out of line, so that a walk keeps no register for a status that few calls return.
+#[cold]
+#[inline(never)]
+fn nothing_found(member: Option<Place>) -> u32
+    ensures null { (result ≡ 4) ↔ (member ≡ None) }
+    ensures why { result ≢ 4 → result ≡ 5 }
+    ensures refused { result ≢ 0 }
+{
+    nothing_told(member)
+}
+
+// Hands out the number of the member, or says why not: there is none, or the place is not linked.
+#[inline]
+pub(crate) fn hand_out(
+    links: &RawTable<'_, RawThree>,
+    member: Option<Place>,
+    found: &mut u32,
+) -> u32
+    requires { IsIn (has_place (lent_table links.now)) member }
+    ensures found { Stands is_linked_three (lent_table links.now) member → IsFound member result found.new }
+    ensures linked { result ≡ 0 → (q : Place) × IsLinked is_linked_three (lent_table links.now) q × HasNumber q found.new }
+    ensures refused { result ≢ 0 → found.new ≡ found.old }
+    ensures null { (result ≡ 4) ↔ (member ≡ None) }
+    ensures why { result ≢ 0 → result ≢ 4 → result ≡ 5 }
+{
+    if tell(links, member, found) {
+        return OK;
+    }
+    nothing_told(member)
+}
+
+// Hands out the outermost member on the other side of this one.
+//
+// It is out of line, so that a step from a member keeps no register for it.
+#[inline(never)]
+fn step_from_none(links: &RawTable<'_, RawThree>, tree: &Tree, side: Side, found: &mut u32) -> u32
+    ensures found { (cut : Cut) (member : Option Place) → Shows (lent_table links.now) (root_of tree.now) (join cut)
+        → IsBeside side cut None → IsBeside (across side) cut member → IsFound member result found.new }
+    ensures linked { result ≡ 0 → (q : Place) × IsLinked is_linked_three (lent_table links.now) q × HasNumber q found.new }
+    ensures refused { result ≢ 0 → found.new ≡ found.old }
+    ensures looked { (result ≡ 0) ⊎ (result ≡ 4) → Stands is_linked_three (lent_table links.now) (root_of tree.now) }
+    ensures why { result ≢ 0 → result ≢ 4 → result ≡ 5 }
+{
+    if !links.stands(tree.root()) {
+        return BROKEN;
+    }
+    hand_out(links, step_within(links, tree.root(), None, side), found)
+}
+
+// Hands out the member on this side of another one, from none the outermost one on the other side.
+#[inline(always)]
+pub(crate) fn step(
+    links: &RawTable<'_, RawThree>,
+    tree: &Tree,
+    side: Side,
+    at: u32,
+    found: &mut u32,
+) -> u32
+    ensures found { (cut : Cut) (member : Option Place) → Shows (lent_table links.now) (root_of tree.now) (join cut)
+        → IsBeside side cut (place_of at) → IsBeside (across side) cut member → IsFound member result found.new }
+    ensures linked { result ≡ 0 → (q : Place) × IsLinked is_linked_three (lent_table links.now) q × HasNumber q found.new }
+    ensures refused { result ≢ 0 → found.new ≡ found.old }
+    ensures looked { (result ≡ 0) ⊎ (result ≡ 4) → Stands is_linked_three (lent_table links.now) (place_of at)
+        × Stands is_linked_three (lent_table links.now) (root_of tree.now) }
+    ensures why { result ≢ 0 → result ≢ 4 → result ≡ refusal (member_fault is_linked_three (lent_table links.now) (place_of at) ∷ []) }
+{
+    let Some(member) = place_of(at) else {
+        return step_from_none(links, tree, side, found);
+    };
+    if !stand(links, tree, Some(member)) {
+        return links.refusal_of(member);
+    }
+    let beside = step_within(links, tree.root(), Some(member), side);
+    if tell(links, beside, found) {
+        return OK;
+    }
+    nothing_found(beside)
+}

@@ -1,0 +1,119 @@
+//! Trees as a whole: all their members are taken off at once.
+//!
+//! ```text
+//! clear(&mut links, &tree) // whether it could: each member is unlinked then
+//! ```
+
+ghost use Rattle.std.specs.Prelude.{◌≡◌, ◌↔◌, List, true, false};
+ghost use Rattle.ic_unsafe_ref.specs.declared.place.Place.{Place};
+ghost use Rattle.ic_link_ops.specs.Sequences.{Cut, join, IsAfter, IsBefore};
+ghost use Rattle.ic_link_ops.specs.Tables.{IsCovered, IsUnlinked, ChangesOnly};
+ghost use Rattle.ic_rbtree.specs.Closed.{IsIn};
+ghost use Rattle.ic_rbtree.specs.Tree.{root_of};
+ghost use Rattle.ic_raw.specs.Calls.{Clears};
+ghost use Rattle.ic_raw.specs.Gaps.{Stands};
+ghost use Rattle.ic_raw.specs.Seen.{seen, seen_node, has_place};
+ghost use Rattle.ic_raw.specs.Tree.{Shows, lent_table};
+ghost use Rattle.ic_raw.specs.WholeTree.{IsSeen};
+ghost use Rattle.ic_raw.specs.Words.{is_linked_three};
+
+use crate::table::RawTable;
+use crate::tree::Tree;
+use crate::words::RawThree;
+use ic_link_ops::Side;
+use ic_unsafe_ref::Place;
+
+// Whether the place is none, or one of the table.
+#[inline]
+fn has(links: &RawTable<'_, RawThree>, place: Option<Place>) -> bool
+    ensures { (result ≡ true) ↔ IsIn (has_place (lent_table links.now)) place }
+{
+    match place {
+        None => true,
+        Some(place) => links.covers(place),
+    }
+}
+
+// What stands behind a place, the first member at none. None where the place or the root is none of the table.
+#[inline]
+fn next_of(links: &RawTable<'_, RawThree>, tree: &Tree, at: Option<Place>) -> Option<Place>
+    ensures { (gap : Cut) → IsSeen (lent_table links.now) (root_of tree.now) (join gap) → IsAfter gap at → IsBefore gap result }
+{
+    if !has(links, at) {
+        return None;
+    }
+    if !has(links, tree.root()) {
+        return None;
+    }
+    tree.step(links, at, Side::Right)
+}
+
+// Whether steps from the first member on lead through linked places to an end, as many as the table has places at most.
+fn leads_to_end(links: &RawTable<'_, RawThree>, tree: &Tree) -> bool
+    ensures shown { (s : List Place) → Shows (lent_table links.now) (root_of tree.now) s → result ≡ true }
+{
+    let mut at = next_of(links, tree, None);
+    let mut left = links.places();
+    while left > 0 {
+        let Some(member) = at else {
+            return true;
+        };
+        if !links.is_linked(member) {
+            return false;
+        }
+        at = next_of(links, tree, at);
+        left -= 1;
+    }
+    at.is_none()
+}
+
+// Takes the mark of a linked place off. What its words name stays, so that steps lead as before.
+#[inline]
+fn unmark(links: &mut RawTable<'_, RawThree>, place: Place)
+    requires covered { IsCovered (lent_table links.old) place }
+    ensures unlinked { IsUnlinked is_linked_three (lent_table links.new) place }
+    ensures frame { ChangesOnly (lent_table links.old) (lent_table links.new) place }
+    ensures seen { (q : Place) → seen_node ((seen (lent_table links.new)).entry q) ≡ seen_node ((seen (lent_table links.old)).entry q) }
+{
+    let words = &mut links.entries[place.index()];
+    words.left = words.left / 2 * 2;
+}
+
+// Unlinks the places from the first member on, one after the other.
+fn unmark_all(links: &mut RawTable<'_, RawThree>, tree: &Tree)
+    ensures cleared { (s : List Place) → Shows (lent_table links.old) (root_of tree.now) s
+        → Clears is_linked_three (lent_table links.old) (lent_table links.new) s }
+    ensures extent { (lent_table links.new).extent ≡ (lent_table links.old).extent }
+{
+    let mut at = next_of(&*links, tree, None);
+    let mut left = links.places();
+    while left > 0 {
+        let Some(member) = at else {
+            return;
+        };
+        if !links.covers(member) {
+            return;
+        }
+        at = next_of(&*links, tree, at);
+        unmark(links, member);
+        left -= 1;
+    }
+}
+
+// Takes all members off, and says whether it could: steps lead from the first one to an end.
+pub(crate) fn clear(links: &mut RawTable<'_, RawThree>, tree: &Tree) -> bool
+    ensures cleared { (s : List Place) → Shows (lent_table links.old) (root_of tree.now) s
+        → (result ≡ true) × Clears is_linked_three (lent_table links.old) (lent_table links.new) s }
+    ensures root { result ≡ true → Stands is_linked_three (lent_table links.old) (root_of tree.now) }
+    ensures refused { result ≡ false → links.new ≡ links.old }
+    ensures extent { (lent_table links.new).extent ≡ (lent_table links.old).extent }
+{
+    if !links.stands(tree.root()) {
+        return false;
+    }
+    if !leads_to_end(&*links, tree) {
+        return false;
+    }
+    unmark_all(links, tree);
+    true
+}

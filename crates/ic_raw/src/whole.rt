@@ -1,0 +1,82 @@
+//! Lists as a whole: all their members are taken off at once.
+//!
+//! ```text
+//! let made = clear_list(&mut links, &mut list);
+//! ```
+
+ghost use Rattle.std.specs.Prelude.{◌≡◌, List, None, true, false};
+ghost use Rattle.ic_unsafe_ref.specs.declared.place.Place.{Place};
+ghost use Rattle.ic_link_ops.specs.Chains.{no_members};
+ghost use Rattle.ic_link_ops.specs.SinglyLinkedList.{list_from};
+ghost use Rattle.ic_raw.specs.Calls.{Clears};
+ghost use Rattle.ic_raw.specs.Words.{is_linked_one, is_linked_two};
+ghost use Rattle.ic_raw.specs.Doubly as doubly;
+ghost use Rattle.ic_raw.specs.Singly as singly;
+
+use crate::list::{List, follows};
+use crate::stack::{Stack, last_from};
+use crate::table::RawTable;
+use crate::words::{RawOne, RawTwo};
+use ic_link_ops::linked_list::LinkedListOps;
+use ic_unsafe_ref::Place;
+
+// Takes all members of a singly linked list off, and says whether it could: its places lead to an end.
+pub(crate) fn clear_stack(links: &mut RawTable<'_, RawOne>, list: &mut Stack) -> bool
+    ensures cleared { (s : List Place) → singly.Shows (singly.lent_table links.old) list.old s
+        → (result ≡ true) × Clears is_linked_one (singly.lent_table links.old) (singly.lent_table links.new) s }
+    ensures ended { result ≡ true → (s : List Place) × singly.Shows (singly.lent_table links.old) list.old s }
+    ensures emptied { result ≡ true → list.new ≡ list_from None }
+    ensures refused { result ≡ false → (links.new ≡ links.old) × (list.new ≡ list.old) }
+    ensures extent { (singly.lent_table links.new).extent ≡ (singly.lent_table links.old).extent }
+{
+    let Some(front) = list.first() else {
+        return true;
+    };
+    let Some(_) = last_from(&*links, front) else {
+        return false;
+    };
+    list.clear(links);
+    true
+}
+
+// Whether the places lead from the first member to the last, each back to the one in front of it, within as many steps as the table has
+// places.
+fn leads_to_last(links: &RawTable<'_, RawTwo>, list: &List) -> bool
+    ensures ended { result ≡ true → (s : List Place) × doubly.Shows (doubly.lent_table links.now) list.now s }
+    ensures shown { (s : List Place) → doubly.Shows (doubly.lent_table links.now) list.now s → result ≡ true }
+{
+    let Some(front) = list.first() else {
+        return Place::to_word(list.last()) == Place::to_word(None);
+    };
+    let mut prev = None;
+    let mut at = front;
+    let mut left = links.places();
+    while left > 0 {
+        if !follows(links, list, Some(at), prev) {
+            return false;
+        }
+        let Some(next) = links.next(at) else {
+            return Place::to_word(list.last()) == Place::to_word(Some(at));
+        };
+        prev = Some(at);
+        at = next;
+        left -= 1;
+    }
+    false
+}
+
+// Takes all members of a doubly linked list off, and says whether it could: its places lead from its first to its last, and back.
+pub(crate) fn clear_list(links: &mut RawTable<'_, RawTwo>, list: &mut List) -> bool
+    ensures cleared { (s : List Place) → doubly.Shows (doubly.lent_table links.old) list.old s
+        → (result ≡ true) × Clears is_linked_two (doubly.lent_table links.old) (doubly.lent_table links.new) s }
+    ensures ended { result ≡ true → (s : List Place) × doubly.Shows (doubly.lent_table links.old) list.old s }
+    ensures emptied { result ≡ true → list.new ≡ no_members }
+    ensures refused { result ≡ false → (links.new ≡ links.old) × (list.new ≡ list.old) }
+    ensures extent { (doubly.lent_table links.new).extent ≡ (doubly.lent_table links.old).extent }
+{
+    if !leads_to_last(&*links, &*list) {
+        return false;
+    }
+    list.clear(links);
+    true
+}

@@ -1,0 +1,334 @@
+//! The words that cross to C. Every pattern of bits is a value, and zeroed memory is a table of unlinked places, or an empty
+//! list or tree.
+//!
+//! ```text
+//! struct ic_link1 { uint64_t next; };
+//! struct ic_link2 { uint64_t next, prev; };
+//! struct ic_link3 { uint64_t left, right, parent; };
+//! struct ic_stack { uint64_t head; };
+//! struct ic_list  { uint64_t head, tail; };  /* and struct ic_xor_list */
+//! struct ic_tree  { uint64_t root; };
+//! ```
+
+ghost use Rattle.std.specs.Prelude.{◌≡◌, ◌↔◌, Some, None, true};
+ghost use Rattle.ic_unsafe_ref.specs.Places.{word_of};
+ghost use Rattle.ic_link_ops.specs.Chains.{no_members};
+ghost use Rattle.ic_raw.specs.Words.{place_in, is_linked_two};
+ghost use Rattle.ic_raw.specs.Doubly.{ends_of, words_of};
+ghost use Rattle.ic_raw.specs.Singly.{front_of, word_of_front};
+ghost use Rattle.ic_raw.specs.Tree.{root_in, word_of_root};
+
+use crate::number::place_in;
+use ic_link_ops::{NextWord, PrevPlace, Word, Words};
+use ic_unsafe_ref::Place;
+
+/// What a table of singly linked or of XOR lists keeps at a place.
+///
+/// The lowest bit says whether the place is linked. The others are the word for the next place, or the exclusive or of the words for
+/// both neighbors, where a place has the word `8 * (index + 1)` and none has 0.
+#[repr(C)]
+#[derive(Clone, Copy)]
+pub struct RawOne {
+    next: u64,
+}
+
+/// What a table of doubly linked lists keeps at a place: the word of [`RawOne`], and the word for the previous place.
+#[repr(C)]
+#[derive(Clone, Copy)]
+pub struct RawTwo {
+    next: u64,
+    prev: u64,
+}
+
+/// What a table of trees keeps at a place: the words for its children and for its parent.
+///
+/// The lowest bit of the left child's word says whether the place is linked, and that of the parent's whether it is black.
+#[repr(C)]
+#[derive(Clone, Copy)]
+pub struct RawThree {
+    pub(crate) left: u64,
+    pub(crate) right: u64,
+    pub(crate) parent: u64,
+}
+
+/// A singly linked list: the word for its first place.
+#[repr(C)]
+#[derive(Clone, Copy)]
+pub struct RawFront {
+    /// The word for the first place, 0 for none.
+    pub head: u64,
+}
+
+/// A doubly linked list or an XOR list: the words for its first place and for its last.
+#[repr(C)]
+#[derive(Clone, Copy)]
+pub struct RawEnds {
+    /// The word for the first place, 0 for none.
+    pub head: u64,
+    /// The word for the last place, 0 for none.
+    pub tail: u64,
+}
+
+/// A red-black tree: the word for its root.
+#[repr(C)]
+#[derive(Clone, Copy)]
+pub struct RawRoot {
+    /// The word for the root, 0 for none.
+    pub root: u64,
+}
+
+impl Words for RawOne {
+    ghost use Rattle.ic_raw.specs.Words.{no_word, is_linked_one};
+    ghost use Rattle.std.specs.Prelude.{refl};
+
+    ghost unlinked = { no_word };
+
+    ghost is_linked = { is_linked_one };
+
+    #[inline]
+    fn unlinked() -> Self {
+        RawOne { next: 0 }
+    }
+
+    #[inline]
+    fn is_linked(&self) -> bool {
+        self.next % 2 == 1
+    }
+
+    #[inline]
+    fn link(&mut self) {
+        self.next = 1;
+    }
+
+    #[inline]
+    fn unlink(&mut self) {
+        self.next = 0;
+    }
+
+    ghost starts_unlinked = { refl };
+}
+
+impl NextWord for RawOne {
+    ghost use Rattle.ic_raw.specs.Words.{next_of_one};
+    ghost use Rattle.std.specs.Prelude.{⊤};
+
+    ghost next_word = { next_of_one };
+
+    ghost KeepsOthers = { λ _ _. ⊤ };
+
+    #[inline]
+    #[tactic(auto, using(crate::proofs::Entries::number_read))]
+    fn next_word(&self) -> Word {
+        Word::of(place_in(self.next))
+    }
+
+    #[inline]
+    fn set_next_word(&mut self, word: Word) {
+        self.next = word.bits() + 1;
+    }
+}
+
+impl Words for RawTwo {
+    ghost use Rattle.ic_raw.specs.Words.{no_words, is_linked_two};
+    ghost use Rattle.std.specs.Prelude.{refl};
+
+    ghost unlinked = { no_words };
+
+    ghost is_linked = { is_linked_two };
+
+    #[inline]
+    fn unlinked() -> Self {
+        RawTwo { next: 0, prev: 0 }
+    }
+
+    #[inline]
+    fn is_linked(&self) -> bool {
+        self.next % 2 == 1
+    }
+
+    #[inline]
+    fn link(&mut self) {
+        self.next = 1;
+    }
+
+    #[inline]
+    fn unlink(&mut self) {
+        self.next = 0;
+    }
+
+    ghost starts_unlinked = { refl };
+}
+
+impl NextWord for RawTwo {
+    ghost use Rattle.ic_raw.specs.Words.{next_of_two, prev_of_two};
+
+    ghost next_word = { next_of_two };
+
+    ghost KeepsOthers = { λ old new. prev_of_two new ≡ prev_of_two old };
+
+    #[inline]
+    #[tactic(auto, using(crate::proofs::Entries::number_read))]
+    fn next_word(&self) -> Word {
+        Word::of(place_in(self.next))
+    }
+
+    #[inline]
+    fn set_next_word(&mut self, word: Word) {
+        self.next = word.bits() + 1;
+    }
+}
+
+impl PrevPlace for RawTwo {
+    ghost use Rattle.ic_raw.specs.Words.{prev_of_two};
+
+    ghost prev = { prev_of_two };
+
+    #[inline]
+    fn prev(&self) -> Option<Place> {
+        place_in(self.prev)
+    }
+
+    #[inline]
+    #[tactic(auto, using(crate::proofs::Entries::place_kept))]
+    fn set_prev(&mut self, place: Option<Place>) {
+        self.prev = Place::to_word(place);
+    }
+
+    ghost keeps_prev = { λ old new h. h };
+}
+
+impl RawTwo {
+    // Whether these are the words of a linked place, with `next` behind it. One comparison tells both.
+    #[inline]
+    #[tactic(auto, using(crate::proofs::Entries::is_led))]
+    pub(crate) fn leads(&self, next: Option<Place>) -> bool
+        ensures linked { result ≡ true → is_linked_two self.now ≡ true }
+        ensures next { result ≡ true → place_in self.now.next ≡ next }
+        ensures leads { is_linked_two self.now ≡ true → next ≡ place_in self.now.next → result ≡ true }
+    {
+        self.next / 8 % 8_589_934_592 * 8 + self.next % 2 == Place::to_word(next) + 1
+    }
+}
+
+// What a call writes, by one comparison of a word. Other bits are looked at more closely, by the calls that take any words.
+impl RawTwo {
+    // Whether these are the words of a linked place, with `next` behind it.
+    #[inline]
+    pub(crate) fn is_before(&self, next: Option<Place>) -> bool
+        ensures linked { result ≡ true → is_linked_two self.now ≡ true }
+        ensures next { result ≡ true → place_in self.now.next ≡ next }
+    {
+        self.next == Place::to_word(next) + 1
+    }
+
+    // Whether these are the words of a linked place, with `prev` before it.
+    #[inline]
+    pub(crate) fn is_behind(&self, prev: Option<Place>) -> bool
+        ensures linked { result ≡ true → is_linked_two self.now ≡ true }
+        ensures prev { result ≡ true → place_in self.now.prev ≡ prev }
+    {
+        self.prev == Place::to_word(prev) && self.next % 2 == 1
+    }
+}
+
+impl Words for RawThree {
+    ghost use Rattle.ic_raw.specs.Words.{no_tree_words, is_linked_three};
+    ghost use Rattle.std.specs.Prelude.{refl};
+
+    ghost unlinked = { no_tree_words };
+
+    ghost is_linked = { is_linked_three };
+
+    #[inline]
+    fn unlinked() -> Self {
+        RawThree {
+            left: 0,
+            right: 0,
+            parent: 0,
+        }
+    }
+
+    #[inline]
+    fn is_linked(&self) -> bool {
+        self.left % 2 == 1
+    }
+
+    #[inline]
+    fn link(&mut self) {
+        self.left = 1;
+    }
+
+    #[inline]
+    fn unlink(&mut self) {
+        self.left = 0;
+    }
+
+    ghost starts_unlinked = { refl };
+}
+
+impl RawFront {
+    // Writes this front.
+    #[inline]
+    #[tactic(auto, using(crate::proofs::Entries::place_kept))]
+    pub(crate) fn set(&mut self, first: Option<Place>)
+        ensures set { front_of self.new ≡ first }
+        ensures words { self.new ≡ word_of_front (front_of self.new) }
+    {
+        self.head = Place::to_word(first);
+    }
+}
+
+impl RawEnds {
+    // Writes this last place, and leaves the first as it is.
+    #[inline]
+    #[tactic(auto, using(crate::proofs::Entries::place_kept))]
+    pub(crate) fn set_last(&mut self, last: Option<Place>)
+        ensures set { ends_of self.new ≡ record { head = (ends_of self.old).head; tail = last } }
+        ensures words { self.old ≡ words_of (ends_of self.old) → self.new ≡ words_of (ends_of self.new) }
+    {
+        self.tail = Place::to_word(last);
+    }
+
+    // Writes this first place, and leaves the last as it is.
+    #[inline]
+    #[tactic(auto, using(crate::proofs::Entries::place_kept))]
+    pub(crate) fn set_first(&mut self, first: Option<Place>)
+        ensures set { ends_of self.new ≡ record { head = first; tail = (ends_of self.old).tail } }
+        ensures words { self.old ≡ words_of (ends_of self.old) → self.new ≡ words_of (ends_of self.new) }
+    {
+        self.head = Place::to_word(first);
+    }
+
+    // Writes these ends.
+    #[inline]
+    #[tactic(auto, using(crate::proofs::Entries::place_kept))]
+    pub(crate) fn set(&mut self, first: Option<Place>, last: Option<Place>)
+        ensures set { ends_of self.new ≡ record { head = first; tail = last } }
+        ensures words { self.new ≡ words_of (ends_of self.new) }
+    {
+        *self = RawEnds {
+            head: Place::to_word(first),
+            tail: Place::to_word(last),
+        };
+    }
+
+    // Whether these are the ends of a list with no members.
+    #[inline]
+    pub(crate) fn is_empty(&self) -> bool
+        ensures { (result ≡ true) ↔ (ends_of self.now ≡ no_members) }
+    {
+        place_in(self.head).is_none() && place_in(self.tail).is_none()
+    }
+}
+
+impl RawRoot {
+    // Writes this root.
+    #[inline]
+    #[tactic(auto, using(crate::proofs::Entries::place_kept))]
+    pub(crate) fn set(&mut self, root: Option<Place>)
+        ensures set { root_in self.new ≡ root }
+        ensures words { self.new ≡ word_of_root (root_in self.new) }
+    {
+        self.root = Place::to_word(root);
+    }
+}

@@ -1,0 +1,405 @@
+//! The XOR linked list: what its calls test, and its edits over a view of the table.
+//!
+//! ```text
+//! let made = insert(&mut links, &mut list, before, place, behind);
+//! ```
+
+ghost use Rattle.std.specs.Prelude.{◌≡◌, ◌≢◌, ◌↔◌, ◌++◌, ◌∷◌, [], List, Option, Some, None, true, false};
+ghost use Rattle.ic_unsafe_ref.specs.declared.place.Place.{Place};
+ghost use Rattle.ic_link_ops.specs.Sequences.{Cut, join, first, last, IsDisjoint, IsAfter, IsBefore};
+ghost use Rattle.ic_link_ops.specs.Tables.{IsLinked, IsUnlinked};
+ghost use Rattle.ic_link_ops.specs.Edits.{Inserts, Removes, Replaces, Splices, Splits};
+ghost use Rattle.ic_raw.specs.Calls.{Clears};
+ghost use Rattle.ic_raw.specs.Gaps.{Stands};
+ghost use Rattle.ic_raw.specs.Gaps as gaps;
+ghost use Rattle.ic_raw.specs.Tables.{IsFree};
+ghost use Rattle.ic_raw.specs.Words.{is_linked_one};
+ghost use Rattle.ic_raw.specs.Singly.{lent_table};
+ghost use Rattle.ic_raw.specs.Xor.{Shows, GoesOn, Faces, TellsGap, TellsMember, TellsMemberBehind, TellsMemberBefore, TellsEnds, LeadsThrough};
+
+use crate::gap::begin_alike;
+use crate::table::RawTable;
+use crate::words::RawOne;
+use ic_link_ops::LinkOps;
+use ic_link_ops::xor_linked_list::XorLinkedListOps;
+use ic_unsafe_ref::Place;
+use ic_xor_linked_list::XorLinkedList;
+
+/// A list of the caller's.
+pub(crate) type List = XorLinkedList<()>;
+
+// Whether what stands beyond `place` is linked, or `place` is the end of the list where nothing does.
+#[inline]
+fn goes_on(
+    links: &RawTable<'_, RawOne>,
+    end: Option<Place>,
+    place: Place,
+    beyond: Option<Place>,
+) -> bool
+    ensures { (result ≡ true) ↔ GoesOn (lent_table links.now).entry end place beyond }
+{
+    match beyond {
+        None => Place::to_word(end) == Place::to_word(Some(place)),
+        Some(beyond) => links.is_linked(beyond),
+    }
+}
+
+// Whether `place` is linked, and the list goes on beyond it, where `neighbor` stands on its other side. Where there is no place,
+// whether `neighbor` is the end of the list.
+#[inline]
+fn faces(
+    links: &RawTable<'_, RawOne>,
+    end: Option<Place>,
+    place: Option<Place>,
+    neighbor: Option<Place>,
+) -> bool
+    ensures told { (result ≡ true) ↔ Faces (lent_table links.now).entry end place neighbor }
+    ensures stands { result ≡ true → Stands is_linked_one (lent_table links.now) place }
+{
+    let Some(place) = place else {
+        return Place::to_word(end) == Place::to_word(neighbor);
+    };
+    if !links.is_linked(place) {
+        return false;
+    }
+    goes_on(links, end, place, links.next(place, neighbor))
+}
+
+// Whether the words tell of a gap between two places, which are none beyond an end.
+#[inline]
+pub(crate) fn is_gap(
+    links: &RawTable<'_, RawOne>,
+    list: &List,
+    before: Option<Place>,
+    behind: Option<Place>,
+) -> bool
+    ensures told { result ≡ true → TellsGap (lent_table links.now) list.now before behind }
+    ensures before { result ≡ true → Stands is_linked_one (lent_table links.now) before }
+    ensures behind { result ≡ true → Stands is_linked_one (lent_table links.now) behind }
+    ensures shown { (cut : Cut) → Shows (lent_table links.now) list.now (join cut) → IsAfter cut before → IsBefore cut behind
+        → result ≡ true }
+{
+    faces(links, list.first(), before, behind) && faces(links, list.last(), behind, before)
+}
+
+// Whether the words tell of a member between two places, which are none beyond an end.
+#[inline]
+fn is_between(
+    links: &RawTable<'_, RawOne>,
+    list: &List,
+    before: Option<Place>,
+    member: Place,
+    behind: Option<Place>,
+) -> bool
+    ensures told { result ≡ true → TellsMember (lent_table links.now) list.now before member behind }
+    ensures before { result ≡ true → Stands is_linked_one (lent_table links.now) before }
+    ensures behind { result ≡ true → Stands is_linked_one (lent_table links.now) behind }
+    ensures shown { (front back : List Place) → Shows (lent_table links.now) list.now (front ++ member ∷ back)
+        → before ≡ last front → behind ≡ first back → result ≡ true }
+{
+    let at = Some(member);
+    faces(links, list.first(), before, at) && faces(links, list.last(), behind, at)
+}
+
+// Puts the place into the gap between two places, and says whether it could. Always inlined: a call of it takes an insertion between
+// neighbors some 40 instructions more.
+#[inline(always)]
+pub(crate) fn insert(
+    links: &mut RawTable<'_, RawOne>,
+    list: &mut List,
+    before: Option<Place>,
+    place: Option<Place>,
+    behind: Option<Place>,
+) -> bool
+    ensures inserted { (cut : Cut) (p : Place) → Shows (lent_table links.old) list.old (join cut) → IsAfter cut before → IsBefore cut behind
+        → place ≡ Some p → IsFree is_linked_one (lent_table links.old) p
+        → (result ≡ true) × Inserts Shows (lent_table links.old) (lent_table links.new) list.new cut p }
+    ensures free { result ≡ true → (p : Place) × (place ≡ Some p) × IsFree is_linked_one (lent_table links.old) p }
+    ensures told { result ≡ true → TellsGap (lent_table links.old) list.old before behind }
+    ensures before { result ≡ true → Stands is_linked_one (lent_table links.old) before }
+    ensures behind { result ≡ true → Stands is_linked_one (lent_table links.old) behind }
+    ensures refused { result ≡ false → (links.new ≡ links.old) × (list.new ≡ list.old) }
+    ensures extent { (lent_table links.new).extent ≡ (lent_table links.old).extent }
+{
+    if !is_gap(&*links, &*list, before, behind) {
+        return false;
+    }
+    let Some(place) = links.acquire(place) else {
+        return false;
+    };
+    list.insert_linked(links, before, place, behind);
+    true
+}
+
+// Takes the member out from between two places, and says whether it could.
+#[inline]
+fn take_out(
+    links: &mut RawTable<'_, RawOne>,
+    list: &mut List,
+    before: Option<Place>,
+    member: Place,
+    behind: Option<Place>,
+) -> bool
+    requires { IsLinked is_linked_one (lent_table links.old) member }
+    ensures removed { (front back : List Place) → Shows (lent_table links.old) list.old (front ++ member ∷ back)
+        → before ≡ last front → behind ≡ first back
+        → (result ≡ true) × Removes Shows (lent_table links.old) (lent_table links.new) list.new (gaps.before member front back)
+        × IsUnlinked is_linked_one (lent_table links.new) member }
+    ensures told { result ≡ true → TellsMember (lent_table links.old) list.old before member behind }
+    ensures before { result ≡ true → Stands is_linked_one (lent_table links.old) before }
+    ensures refused { result ≡ false → (links.new ≡ links.old) × (list.new ≡ list.old) }
+    ensures extent { (lent_table links.new).extent ≡ (lent_table links.old).extent }
+{
+    if !is_between(&*links, &*list, before, member, behind) {
+        return false;
+    }
+    list.bypass(links, before, member, behind);
+    links.release_link(member);
+    true
+}
+
+// Takes the member behind `before` off, and says whether it could.
+#[inline]
+pub(crate) fn remove(
+    links: &mut RawTable<'_, RawOne>,
+    list: &mut List,
+    before: Option<Place>,
+    member: Place,
+) -> bool
+    ensures removed { (front back : List Place) → Shows (lent_table links.old) list.old (front ++ member ∷ back) → before ≡ last front
+        → (result ≡ true) × Removes Shows (lent_table links.old) (lent_table links.new) list.new (gaps.before member front back)
+        × IsUnlinked is_linked_one (lent_table links.new) member }
+    ensures stands { result ≡ true → Stands is_linked_one (lent_table links.old) (Some member) }
+    ensures before { result ≡ true → Stands is_linked_one (lent_table links.old) before }
+    ensures told { result ≡ true → TellsMemberBehind (lent_table links.old) list.old before (Some member) }
+    ensures refused { result ≡ false → (links.new ≡ links.old) × (list.new ≡ list.old) }
+    ensures extent { (lent_table links.new).extent ≡ (lent_table links.old).extent }
+{
+    if !links.is_linked(member) {
+        return false;
+    }
+    let behind = links.next(member, before);
+    take_out(links, list, before, member, behind)
+}
+
+// Takes the first member off, where two are behind it. Else it changes nothing.
+#[inline]
+pub(crate) fn pop_before_others(links: &mut RawTable<'_, RawOne>, list: &mut List) -> Option<Place>
+    ensures removed { (p q : Place) (s : List Place) → result ≡ Some q → Shows (lent_table links.old) list.old (p ∷ s)
+        → (q ≡ p) × Removes Shows (lent_table links.old) (lent_table links.new) list.new (gaps.before p [] s)
+        × IsUnlinked is_linked_one (lent_table links.new) p }
+    ensures tail { (p q : Place) (s : List Place) → result ≡ Some q → Shows (lent_table links.old) list.old (p ∷ s) → list.new.tail ≡ list.old.tail }
+    ensures first { (q : Place) → result ≡ Some q → list.old.head ≡ Some q }
+    ensures stands { (q : Place) → result ≡ Some q → Stands is_linked_one (lent_table links.old) (Some q) }
+    ensures told { (q : Place) → result ≡ Some q → TellsMemberBehind (lent_table links.old) list.old None (Some q) }
+    ensures refused { result ≡ None → (links.new ≡ links.old) × (list.new ≡ list.old) }
+    ensures extent { (lent_table links.new).extent ≡ (lent_table links.old).extent }
+{
+    let Some(first) = list.first() else {
+        return None;
+    };
+    if !links.is_linked(first) {
+        return None;
+    }
+    let Some(second) = links.next(first, None) else {
+        return None;
+    };
+    if !links.is_linked(second) {
+        return None;
+    }
+    let Some(third) = links.next(second, Some(first)) else {
+        return None;
+    };
+    if !links.is_linked(third) {
+        return None;
+    }
+    list.bypass(links, None, first, Some(second));
+    links.release_link(first);
+    Some(first)
+}
+
+// Takes the last member off, and says whether it could.
+#[inline]
+pub(crate) fn remove_last(links: &mut RawTable<'_, RawOne>, list: &mut List, member: Place) -> bool
+    ensures removed { (front : List Place) → Shows (lent_table links.old) list.old (front ++ member ∷ [])
+        → (result ≡ true) × Removes Shows (lent_table links.old) (lent_table links.new) list.new (gaps.before member front [])
+        × IsUnlinked is_linked_one (lent_table links.new) member }
+    ensures stands { result ≡ true → Stands is_linked_one (lent_table links.old) (Some member) }
+    ensures told { result ≡ true → TellsMemberBefore (lent_table links.old) list.old None (Some member) }
+    ensures refused { result ≡ false → (links.new ≡ links.old) × (list.new ≡ list.old) }
+    ensures extent { (lent_table links.new).extent ≡ (lent_table links.old).extent }
+{
+    if !links.is_linked(member) {
+        return false;
+    }
+    let before = links.prev(member, None);
+    take_out(links, list, before, member, None)
+}
+
+// Puts the place where the member behind `before` is, which is unlinked then, and says whether it could.
+#[inline]
+pub(crate) fn replace(
+    links: &mut RawTable<'_, RawOne>,
+    list: &mut List,
+    before: Option<Place>,
+    member: Place,
+    place: Option<Place>,
+) -> bool
+    ensures replaced { (front back : List Place) (p : Place) → Shows (lent_table links.old) list.old (front ++ member ∷ back)
+        → before ≡ last front → place ≡ Some p → IsFree is_linked_one (lent_table links.old) p
+        → (result ≡ true) × Replaces Shows (lent_table links.old) (lent_table links.new) list.new (gaps.before member front back) p
+        × IsUnlinked is_linked_one (lent_table links.new) member }
+    ensures free { result ≡ true → (p : Place) × (place ≡ Some p) × IsFree is_linked_one (lent_table links.old) p }
+    ensures stands { result ≡ true → Stands is_linked_one (lent_table links.old) (Some member) }
+    ensures before { result ≡ true → Stands is_linked_one (lent_table links.old) before }
+    ensures told { result ≡ true → TellsMemberBehind (lent_table links.old) list.old before (Some member) }
+    ensures refused { result ≡ false → (links.new ≡ links.old) × (list.new ≡ list.old) }
+    ensures extent { (lent_table links.new).extent ≡ (lent_table links.old).extent }
+{
+    if !links.is_linked(member) {
+        return false;
+    }
+    let behind = links.next(member, before);
+    if !is_between(&*links, &*list, before, member, behind) {
+        return false;
+    }
+    let Some(place) = links.acquire(place) else {
+        return false;
+    };
+    list.replace_linked(links, before, member, place, behind);
+    links.release_link(member);
+    true
+}
+
+// Whether the words tell of a list between both ends.
+#[inline]
+fn has_ends(links: &RawTable<'_, RawOne>, list: &List) -> bool
+    ensures told { result ≡ true → TellsEnds (lent_table links.now) list.now }
+    ensures first { result ≡ true → Stands is_linked_one (lent_table links.now) list.now.head }
+    ensures last { result ≡ true → Stands is_linked_one (lent_table links.now) list.now.tail }
+    ensures shown { (s : List Place) → Shows (lent_table links.now) list.now s → result ≡ true }
+{
+    let (first, last) = (list.first(), list.last());
+    faces(links, last, first, None) && faces(links, first, last, None)
+}
+
+// Puts all of the given list into the gap between two places, and says whether it could.
+#[inline]
+pub(crate) fn splice(
+    links: &mut RawTable<'_, RawOne>,
+    list: &mut List,
+    before: Option<Place>,
+    given: List,
+    behind: Option<Place>,
+) -> bool
+    ensures spliced { (cut : Cut) (t : List Place) → Shows (lent_table links.old) list.old (join cut) → IsAfter cut before
+        → IsBefore cut behind → Shows (lent_table links.old) given t → IsDisjoint t (join cut)
+        → (result ≡ true) × Splices Shows (lent_table links.old) (lent_table links.new) list.new cut t }
+    ensures told { result ≡ true → TellsGap (lent_table links.old) list.old before behind }
+    ensures ends { result ≡ true → TellsEnds (lent_table links.old) given }
+    ensures apart { result ≡ true → (p : Place) → given.head ≡ Some p → list.old.head ≢ Some p }
+    ensures before { result ≡ true → Stands is_linked_one (lent_table links.old) before }
+    ensures behind { result ≡ true → Stands is_linked_one (lent_table links.old) behind }
+    ensures refused { result ≡ false → (links.new ≡ links.old) × (list.new ≡ list.old) }
+    ensures extent { (lent_table links.new).extent ≡ (lent_table links.old).extent }
+{
+    if begin_alike(&*list, &given) {
+        return false;
+    }
+    if !is_gap(&*links, &*list, before, behind) {
+        return false;
+    }
+    if !has_ends(&*links, &given) {
+        return false;
+    }
+    let end = given.last();
+    list.splice_between(links, before, given, end, behind);
+    true
+}
+
+// Cuts the list at the gap between two places, and says whether it could. The list keeps what is in front of the cut, and the rest is
+// handed out.
+#[inline]
+pub(crate) fn split(
+    links: &mut RawTable<'_, RawOne>,
+    list: &mut List,
+    before: Option<Place>,
+    behind: Option<Place>,
+    rest: &mut List,
+) -> bool
+    ensures split { (cut : Cut) → Shows (lent_table links.old) list.old (join cut) → IsAfter cut before → IsBefore cut behind
+        → (result ≡ true) × Splits Shows (lent_table links.old) (lent_table links.new) list.new rest.new cut.front cut.back }
+    ensures told { result ≡ true → TellsGap (lent_table links.old) list.old before behind }
+    ensures before { result ≡ true → Stands is_linked_one (lent_table links.old) before }
+    ensures behind { result ≡ true → Stands is_linked_one (lent_table links.old) behind }
+    ensures refused { result ≡ false → (links.new ≡ links.old) × (list.new ≡ list.old) × (rest.new ≡ rest.old) }
+    ensures extent { (lent_table links.new).extent ≡ (lent_table links.old).extent }
+{
+    if !is_gap(&*links, &*list, before, behind) {
+        return false;
+    }
+    *rest = list.split_between(links, before, behind);
+    true
+}
+
+// Whether the places lead from the first member to the last, within as many steps as the table has places.
+fn leads_to_last(links: &RawTable<'_, RawOne>, list: &List) -> bool
+    ensures ended { result ≡ true → (s : List Place) × LeadsThrough (lent_table links.now) list.now s }
+    ensures shown { (s : List Place) → Shows (lent_table links.now) list.now s → result ≡ true }
+{
+    let Some(front) = list.first() else {
+        return Place::to_word(list.last()) == Place::to_word(None);
+    };
+    let mut prev = None;
+    let mut at = front;
+    let mut left = links.places();
+    while left > 0 {
+        if !links.is_linked(at) {
+            return false;
+        }
+        let Some(next) = links.next(at, prev) else {
+            return Place::to_word(list.last()) == Place::to_word(Some(at));
+        };
+        prev = Some(at);
+        at = next;
+        left -= 1;
+    }
+    false
+}
+
+// Unlinks the places from the first member on, one after the other.
+fn release_all(links: &mut RawTable<'_, RawOne>, list: &List)
+    ensures cleared { (s : List Place) → Shows (lent_table links.old) list.now s → Clears is_linked_one (lent_table links.old) (lent_table links.new) s }
+    ensures extent { (lent_table links.new).extent ≡ (lent_table links.old).extent }
+{
+    let mut prev = None;
+    let mut at = list.first();
+    let mut left = links.places();
+    while left > 0 {
+        let Some(member) = at else {
+            return;
+        };
+        if !links.is_linked(member) {
+            return;
+        }
+        at = links.next(member, prev);
+        links.release_link(member);
+        prev = Some(member);
+        left -= 1;
+    }
+}
+
+// Takes all members off, and says whether it could: the places lead from the first to the last.
+pub(crate) fn clear(links: &mut RawTable<'_, RawOne>, list: &List) -> bool
+    ensures cleared { (s : List Place) → Shows (lent_table links.old) list.now s
+        → (result ≡ true) × Clears is_linked_one (lent_table links.old) (lent_table links.new) s }
+    ensures ended { result ≡ true → (s : List Place) × LeadsThrough (lent_table links.old) list.now s }
+    ensures refused { result ≡ false → links.new ≡ links.old }
+    ensures extent { (lent_table links.new).extent ≡ (lent_table links.old).extent }
+{
+    if !leads_to_last(&*links, list) {
+        return false;
+    }
+    release_all(links, list);
+    true
+}
