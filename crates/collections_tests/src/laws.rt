@@ -5,11 +5,12 @@ ghost use Rattle.ic_link_ops.specs.DoublyEntries.{plain_table, PlainShowsSome};
 
 use crate::doubly::DoublyFixture;
 use crate::lists::list_of;
-use crate::notes::{write_object, write_places};
+use crate::notes::{assert_words, write_object};
 use ic_link_ops::linked_list::LinkOps;
 use ic_linked_list::{DoublyLinked, laws};
+use ic_test_support::answers::write_places;
 use ic_test_support::notes::{Answer, Text};
-use ic_test_support::objects::reference;
+use ic_test_support::objects::{place_at, reference};
 use ic_test_support::tables::write_linked;
 use std::process::Abort;
 
@@ -57,7 +58,7 @@ fn write_apart(
     requires second_covers { (plain_table second.old.links).extent.places ≡ 8 }
     requires second_shown { PlainShowsSome second.old.links second.old.list }
 {
-    let place = reference(5).place();
+    let place = place_at(5);
     assert!(rt; !first.links.is_linked(place) && !second.links.is_linked(place));
     let are_in = laws::fields_are_apart(
         &mut first.list,
@@ -76,12 +77,10 @@ fn write_apart(
 fn laws_of_lists(rt: HostRuntime) {
     let alloc = rt.alloc();
     let mut notes = Text::new(alloc);
-    let mut fixture: DoublyFixture = list_of(&rt, alloc, 2);
-    write_front(&mut notes, &mut fixture);
-    let mut fixture: DoublyFixture = list_of(&rt, alloc, 2);
-    write_back(&mut notes, &mut fixture);
-    let mut first: DoublyFixture = list_of(&rt, alloc, 2);
-    let mut second: DoublyFixture = list_of(&rt, alloc, 0);
+    write_front(&mut notes, &mut list_of(&rt, alloc, 2));
+    write_back(&mut notes, &mut list_of(&rt, alloc, 2));
+    let mut first = list_of(&rt, alloc, 2);
+    let mut second = list_of(&rt, alloc, 0);
     write_apart(&rt, &mut notes, &mut first, &mut second);
-    assert!(rt; notes.has_words("5 no  5 0 1  yes 0 1 5  5"));
+    assert_words(&rt, &notes, "5 no  5 0 1  yes 0 1 5  5");
 }

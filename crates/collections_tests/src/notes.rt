@@ -1,8 +1,9 @@
 //! What the calls of a test answered.
 
-use ic_test_support::answers::{object, standing, value};
+use ic_test_support::answers::{object, value};
 use ic_test_support::notes::Text;
-use ic_unsafe_ref::{Place, UnsafeRef};
+use ic_unsafe_ref::UnsafeRef;
+use std::process::Abort;
 
 /// Notes these objects.
 pub(crate) fn write_values(notes: &mut Text, found: &[Option<&u64>]) {
@@ -11,14 +12,14 @@ pub(crate) fn write_values(notes: &mut Text, found: &[Option<&u64>]) {
     }
 }
 
-/// Notes these positions.
-pub(crate) fn write_places(notes: &mut Text, found: &[Option<Place>]) {
-    for at in found {
-        notes.add(standing(*at), " ");
-    }
-}
-
 /// Notes where this object stands, which was taken off.
 pub(crate) fn write_object(notes: &mut Text, taken: Option<UnsafeRef<u64>>) {
     notes.add(object(taken), " ");
+}
+
+/// Ends the test unless the notes have these words.
+///
+/// What comes of it is proved once, here, and not again in each test.
+pub(crate) fn assert_words(rt: &impl Abort, notes: &Text, words: &str) {
+    assert!(rt; notes.has_words(words));
 }

@@ -3,15 +3,15 @@
 use crate::lists::list_of;
 use crate::singly::SinglyFixture;
 use crate::tree::trees::tree_of;
-use ic_test_support::objects::reference;
+use ic_test_support::objects::place_at;
 
 // A list on one line, a tree with each object on a line of its own, and two links.
 #[test]
 fn printed(rt: HostRuntime) {
     let alloc = rt.alloc();
     let lists: SinglyFixture = list_of(&rt, alloc, 2);
-    let linked = lists.links.link(reference(0).place());
-    let unlinked = lists.links.link(reference(2).place());
+    let linked = lists.links.link(place_at(0));
+    let unlinked = lists.links.link(place_at(2));
     let list = lists.list.debug(&lists.links, &lists.objects);
     let trees = tree_of(&rt, alloc, 2);
     let tree = trees.tree.debug(&trees.links, &trees.objects);

@@ -7,9 +7,10 @@ ghost use Rattle.ic_link_ops.specs.Readings.{XorJoins};
 ghost use Rattle.ic_link_ops.specs.XorLinkedList.{Shows, ShowsSome};
 
 use crate::lists::{ListFixture, list_of};
-use crate::notes::{write_places, write_values};
+use crate::notes::{assert_words, write_values};
 use ic_link_ops::OneWord;
 use ic_link_ops::xor_linked_list::Xor;
+use ic_test_support::answers::write_places;
 use ic_test_support::notes::{Answer, Text};
 use ic_xor_linked_list::XorLinked;
 
@@ -49,5 +50,5 @@ fn xor_linked_list(rt: HostRuntime) {
     let fixture: XorFixture = list_of(&rt, alloc, 5);
     write_walk(&mut notes, &fixture);
     write_read(&mut notes, &fixture);
-    assert!(rt; notes.has_words("10 20 30  50 40 30  4 3 3 4 no"));
+    assert_words(&rt, &notes, "10 20 30  50 40 30  4 3 3 4 no");
 }

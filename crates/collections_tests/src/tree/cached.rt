@@ -7,11 +7,12 @@ ghost use Rattle.ic_link_ops.specs.Tables.{IsCovered};
 ghost use Rattle.ic_rbtree_cached.specs.Ends.{ShowsCached, ShowsCachedSome};
 ghost use Rattle.ic_rbtree_cached.specs.Tree.{ends_of};
 
-use crate::notes::{write_object, write_places};
+use crate::notes::{assert_words, write_object};
 use crate::tree::trees::OwnKey;
 use ic_link_ops::LinkOps;
 use ic_link_ops::rbtree::RBTreeOps;
 use ic_rbtree_cached::RBTreeCached;
+use ic_test_support::answers::write_places;
 use ic_test_support::notes::Text;
 use ic_test_support::objects::{TENS, eight_objects, reference};
 use ic_unsafe_ref::{Objects, UnsafeRef};
@@ -76,5 +77,5 @@ fn ends(rt: HostRuntime) {
     write_inserted(&mut notes, &mut tree, &mut links, &objects, reference(1));
     write_split(&mut notes, &mut tree, &mut links);
     write_taken(&mut notes, &mut tree, &mut links);
-    assert!(rt; notes.has_words("2 2 2 4 1 4  1 2 4 4 1 4 none  1 4 2 2"));
+    assert_words(&rt, &notes, "2 2 2 4 1 4  1 2 4 4 1 4 none  1 4 2 2");
 }

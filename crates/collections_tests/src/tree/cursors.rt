@@ -8,8 +8,9 @@ ghost use Rattle.ic_link_ops.specs.PlacedObjects.{ShowsPlaced};
 ghost use Rattle.ic_rbtree.specs.PlainTrees.{plain_table, PlainShows, PlainShowsSome};
 ghost use Rattle.ic_rbtree.specs.Tree.{root_of};
 
-use crate::notes::write_places;
+use crate::notes::assert_words;
 use crate::tree::trees::{TreeFixture, tree_of};
+use ic_test_support::answers::write_places;
 use ic_test_support::notes::{Answer, Text};
 use ic_test_support::objects::reference;
 use ic_test_support::tables::write_linked;
@@ -46,21 +47,21 @@ fn write_inserted(notes: &mut Text, fixture: &mut TreeFixture)
 }
 
 // Does the same by a cursor that keeps the tree, and is made on that member by its reference.
-fn write_kept(rt: &impl Abort, notes: &mut Text, fixture: TreeFixture)
-    requires covers { (plain_table fixture.links).extent.places ≡ 8 }
-    requires placed { (q : Place) → index_of q < 8 → is_placed fixture.objects q ≡ true }
-    requires shown { ShowsPlaced (PlainShows fixture.links (root_of fixture.tree)) fixture.objects }
+fn write_kept(rt: &impl Abort, notes: &mut Text, fixture: &mut TreeFixture)
+    requires covers { (plain_table fixture.old.links).extent.places ≡ 8 }
+    requires placed { (q : Place) → index_of q < 8 → is_placed fixture.old.objects q ≡ true }
+    requires shown { ShowsPlaced (PlainShows fixture.old.links (root_of fixture.old.tree)) fixture.old.objects }
 {
     let TreeFixture {
         objects,
-        mut links,
+        links,
         tree,
     } = fixture;
     let object = reference(2);
-    assert!(rt; tree.contains(&links, object.place()));
-    let mut cursor = tree.cursor_owning_from_ptr(&links, object);
-    let _ = cursor.insert(&mut links, &objects, reference(3));
-    cursor.move_next(&links);
+    assert!(rt; tree.contains(links, object.place()));
+    let mut cursor = tree.take().cursor_owning_from_ptr(links, object);
+    let _ = cursor.insert(links, objects, reference(3));
+    cursor.move_next(links);
     write_places(notes, &[cursor.get_ptr()]);
 }
 
@@ -70,6 +71,6 @@ fn cursors(rt: HostRuntime) {
     let mut notes = Text::new(alloc);
     write_ends(&mut notes, &mut tree_of(&rt, alloc, 3));
     write_inserted(&mut notes, &mut tree_of(&rt, alloc, 3));
-    write_kept(&rt, &mut notes, tree_of(&rt, alloc, 3));
-    assert!(rt; notes.has_words("none 2  0 2  yes 0 1 2  3  3"));
+    write_kept(&rt, &mut notes, &mut tree_of(&rt, alloc, 3));
+    assert_words(&rt, &notes, "none 2  0 2  yes 0 1 2  3  3");
 }

@@ -33,11 +33,21 @@ impl KeyAdapter for OwnKey {
 }
 
 /// A tree, the table of its links, which covers the places 0 to 7, and its objects: 10 to 80 stand there, in this order.
-#[derive(Drop)]
 pub(crate) struct TreeFixture {
     pub(crate) objects: Objects<u64>,
     pub(crate) links: LinkOps,
     pub(crate) tree: RBTree<OwnKey>,
+}
+
+// Not derived: so a function that lets a fixture go has one call of this to prove, and not the drop of each part.
+impl Drop for TreeFixture {
+    fn drop(self) {
+        let TreeFixture {
+            objects: _,
+            links: _,
+            tree: _,
+        } = self;
+    }
 }
 
 // Puts the objects at the first places into a new tree, as many as that, each behind all members.

@@ -4,7 +4,7 @@ ghost use Rattle.ic_link_ops.specs.PlacedObjects.{ShowsPlaced};
 ghost use Rattle.ic_rbtree.specs.PlainTrees.{PlainShows, PlainShowsSome};
 ghost use Rattle.ic_rbtree.specs.Tree.{root_of};
 
-use crate::notes::{write_object, write_values};
+use crate::notes::{assert_words, write_object, write_values};
 use crate::tree::trees::{TreeFixture, tree_of};
 use ic_rbtree::Bound;
 use ic_test_support::notes::Text;
@@ -22,28 +22,23 @@ fn write_range(notes: &mut Text, fixture: &TreeFixture)
 }
 
 // Takes a member off at each end, and notes them and what is linked then, and when the walk is dropped.
-fn write_taken(notes: &mut Text, fixture: TreeFixture)
-    requires shown { PlainShowsSome fixture.links (root_of fixture.tree) }
+fn write_taken(notes: &mut Text, fixture: &mut TreeFixture)
+    requires shown { PlainShowsSome fixture.old.links (root_of fixture.old.tree) }
 {
-    let TreeFixture {
-        objects: _,
-        mut links,
-        tree,
-    } = fixture;
-    let mut rest = tree.into_iter(&mut links);
+    let mut rest = fixture.tree.take().into_iter(&mut fixture.links);
     write_object(notes, rest.next());
     write_object(notes, rest.next_back());
     write_linked(notes, rest.links());
     drop(rest);
-    write_linked(notes, &links);
+    write_linked(notes, &fixture.links);
 }
 
 #[test]
 fn walks(rt: HostRuntime) {
     let alloc = rt.alloc();
     let mut notes = Text::new(alloc);
-    let fixture = tree_of(&rt, alloc, 7);
+    let mut fixture = tree_of(&rt, alloc, 7);
     write_range(&mut notes, &fixture);
-    write_taken(&mut notes, fixture);
-    assert!(rt; notes.has_words("30 20 none  0 6 1 2 3 4 5  1 2 3 4 5"));
+    write_taken(&mut notes, &mut fixture);
+    assert_words(&rt, &notes, "30 20 none  0 6 1 2 3 4 5  1 2 3 4 5");
 }

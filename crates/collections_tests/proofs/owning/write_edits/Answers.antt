@@ -7,7 +7,7 @@ use Rattle.collections_tests.proofs.owning.write_edits.Goals as goal
 
 pub replace_with-requires-clause-covered : goal.replace_with-requires-clause-covered
 replace_with-requires-clause-covered c =
-    let at = c.front_owning-cursor.ensures.kept c.requires.shown in
+    let at = c.front_owning-cursor.ensures.kept (rw c.take.ensures.whole c.requires.shown) in
     let behind = covered_behind (λ x y q r. ap plain_table r.1) (stands at) c.insert_after.result c.insert_after.ensures.inserted in
     let in_front = covered_in_front (λ x y q r. ap plain_table r.1) (stands c.move_next.ensures.kept) c.insert_before.result c.insert_before.ensures.inserted in
     rw (in_front, behind, c.requires.covers, c.reference-3.ensures) (omega arith)
