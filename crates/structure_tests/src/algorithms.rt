@@ -8,6 +8,7 @@ ghost use Rattle.ic_link_ops.specs.PlainTables.{table};
 ghost use Rattle.ic_list_algorithms.specs.Runs.{FewLooks, TwoShown};
 ghost use Rattle.ic_list_algorithms.specs.TwoLists.{TwoLists};
 
+use crate::same::assert_same;
 use ic_chain::{Chain, DoubleEnded, ForwardLinks, ListKind, SingleEnded};
 use ic_link_ops::linked_list::{LinkOpsWith, TwoWords};
 use ic_link_ops::singly_linked_list::Singly;
@@ -16,17 +17,27 @@ use ic_linked_list::DoublyLinked;
 use ic_list_algorithms as algorithms;
 use ic_list_algorithms::{By, Counted, Following, Natural};
 use ic_singly_linked_list::SinglyLinked;
-use ic_test_support::objects::{TENS, eight_objects, reference};
+use ic_test_support::objects::{TENS, eight_objects, place_at};
 use ic_unsafe_ref::{Objects, Place, UnsafeRef};
 use std::alloc::Global;
 use std::process::Abort;
 
 // A list, the table of its links, which covers the places 0 to 7, and its objects: 10 to 80 stand there, in this order.
-#[derive(Drop)]
 struct Fixture<K: ListKind, W: Words> {
     objects: Objects<u64>,
     links: PlainTable<W>,
     list: Chain<K, u64>,
+}
+
+// Not derived: so a function that lets a fixture go has one call of this to prove, and not the drop of each part.
+impl<K: ListKind, W: Words> Drop for Fixture<K, W> {
+    fn drop(self) {
+        let Fixture {
+            objects: _,
+            links: _,
+            list: _,
+        } = self;
+    }
 }
 
 // Puts the objects at the first places into a new list, as many as that and in their order.
@@ -224,26 +235,29 @@ fn algorithms_over_doubly_lists(rt: HostRuntime) {
     let alloc = rt.alloc();
     let mut eight_there: Fixture<DoublyLinked, TwoWords> = eight(&rt, alloc);
     let found = walked(&eight_there.list, &eight_there.links, &eight_there.objects);
-    assert!(rt; found.0 && found.1 == 8);
-    assert!(rt; found.2 == Some(3) && found.3 == Some(4) && found.4 == Some(4));
+    assert_same(&rt, found, (true, 8, Some(3), Some(4), Some(4)));
     sort_down(
         &mut eight_there.list,
         &mut eight_there.links,
         &eight_there.objects,
     );
-    assert!(rt; index_of_first(&eight_there.list) == Some(7));
-    assert!(rt; turned(&mut eight_there.list, &mut eight_there.links) == Some(5));
+    assert_same(&rt, index_of_first(&eight_there.list), Some(7));
+    let first = turned(&mut eight_there.list, &mut eight_there.links);
+    assert_same(&rt, first, Some(5));
     let mut other: Fixture<DoublyLinked, TwoWords> = eight(&rt, alloc);
-    assert!(rt; merged(&mut other.list, &mut other.links, &other.objects) == Some(2));
+    let first = merged(&mut other.list, &mut other.links, &other.objects);
+    assert_same(&rt, first, Some(2));
     let mut other: Fixture<DoublyLinked, TwoWords> = eight(&rt, alloc);
-    assert!(rt; sifted(&mut other.list, &mut other.links, &other.objects) == Some(3));
+    let first = sifted(&mut other.list, &mut other.links, &other.objects);
+    assert_same(&rt, first, Some(3));
     let mut other: Fixture<DoublyLinked, TwoWords> = eight(&rt, alloc);
-    assert!(rt; deduped(&mut other.list, &mut other.links, &other.objects) == 1);
+    let members = deduped(&mut other.list, &mut other.links, &other.objects);
+    assert_same(&rt, members, 1);
     let mut other: Fixture<DoublyLinked, TwoWords> = eight(&rt, alloc);
-    assert!(rt; appended(&mut other.list, &mut other.links));
+    assert_same(&rt, appended(&mut other.list, &mut other.links), true);
     let mut other: Fixture<DoublyLinked, TwoWords> = eight(&rt, alloc);
     let looks = sort_and_count(&mut other.list, &mut other.links, &other.objects);
-    assert!(rt; looks == 12);
+    assert_same(&rt, looks, 12);
 }
 
 #[test]
@@ -255,11 +269,13 @@ fn algorithms_over_singly_lists(rt: HostRuntime) {
         &mut eight_there.links,
         &eight_there.objects,
     );
-    assert!(rt; index_of_first(&eight_there.list) == Some(7));
+    assert_same(&rt, index_of_first(&eight_there.list), Some(7));
     let mut other: Fixture<SinglyLinked, OneWord<Singly>> = eight(&rt, alloc);
-    assert!(rt; merged(&mut other.list, &mut other.links, &other.objects) == Some(2));
+    let first = merged(&mut other.list, &mut other.links, &other.objects);
+    assert_same(&rt, first, Some(2));
     let mut other: Fixture<SinglyLinked, OneWord<Singly>> = eight(&rt, alloc);
-    assert!(rt; appended_walking(&mut other.list, &mut other.links));
+    let is_empty = appended_walking(&mut other.list, &mut other.links);
+    assert_same(&rt, is_empty, true);
 }
 
 // The numbers 30, 10 and 20 stand beside the links.
@@ -268,11 +284,11 @@ fn sorts_by_what_stands_beside_links(rt: HostRuntime) {
     let mut links: LinkOpsWith<u64> = LinkOpsWith::new(rt.alloc());
     let _ = links.cover(8);
     assert!(rt; links.covers() == 8);
-    links.set_value(reference(0).place(), 30);
-    links.set_value(reference(1).place(), 10);
-    links.set_value(reference(2).place(), 20);
+    links.set_value(place_at(0), 30);
+    links.set_value(place_at(1), 10);
+    links.set_value(place_at(2), 20);
     let mut list: Chain<DoublyLinked, u64> = filled(&mut links, 3);
-    assert!(rt; sorted_down_keyed(&mut list, &mut links) == Some(0));
-    assert!(rt; merged_keyed(&mut list, &mut links) == Some(1));
-    assert!(rt; turned(&mut list, &mut links) == Some(0));
+    assert_same(&rt, sorted_down_keyed(&mut list, &mut links), Some(0));
+    assert_same(&rt, merged_keyed(&mut list, &mut links), Some(1));
+    assert_same(&rt, turned(&mut list, &mut links), Some(0));
 }

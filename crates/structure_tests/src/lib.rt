@@ -12,3 +12,5 @@ pub mod containers;
 mod listed;
 #[cfg(test)]
 mod ring;
+#[cfg(test)]
+mod same;

@@ -3,6 +3,7 @@
 ghost use Rattle.std.specs.Prelude.{◌≡◌, IfSome, Some};
 ghost use Rattle.ic_unsafe_ref.specs.Objects.{object_at};
 
+use crate::same::assert_same;
 use ic_container::Listed;
 use ic_unsafe_ref::UnsafeRef;
 
@@ -27,14 +28,14 @@ fn forget_oldest(numbers: &mut Listed<u64>) -> Option<u64> {
 #[test]
 fn numbers_are_met(rt: HostRuntime) {
     let mut numbers: Listed<u64> = Listed::new(rt.alloc());
-    assert!(rt; forget_oldest(&mut numbers).is_none());
+    assert_same(&rt, forget_oldest(&mut numbers), None);
     let first = numbers.place_front(10).expect(&rt, "memory");
     let second = numbers.place_front(20).expect(&rt, "memory");
-    assert!(rt; numbers.first() == Some(second.place()));
-    assert!(rt; renew(&mut numbers, &first, 11) == Some(10));
-    assert!(rt; numbers.first() == Some(first.place()));
-    assert!(rt; forget_oldest(&mut numbers) == Some(20));
-    assert!(rt; numbers.get(&second).is_none());
-    assert!(rt; renew(&mut numbers, &second, 21).is_none());
-    assert!(rt; forget_oldest(&mut numbers) == Some(11));
+    assert_same(&rt, numbers.first(), Some(second.place()));
+    assert_same(&rt, renew(&mut numbers, &first, 11), Some(10));
+    assert_same(&rt, numbers.first(), Some(first.place()));
+    assert_same(&rt, forget_oldest(&mut numbers), Some(20));
+    assert_same(&rt, numbers.get(&second).is_none(), true);
+    assert_same(&rt, renew(&mut numbers, &second, 21), None);
+    assert_same(&rt, forget_oldest(&mut numbers), Some(11));
 }

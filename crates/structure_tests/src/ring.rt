@@ -17,12 +17,13 @@ use crate::ring::cursors::{
     take_over_before_last, take_over_behind_first,
 };
 use crate::ring::pairs::{exchange_heads, move_over, move_over_to_front, splice, split, two_rings};
+use crate::same::assert_same;
 use ic_link_ops::LinkOps as _;
 use ic_link_ops::linked_list::{LinkOps, LinkedListOps};
 use ic_ring::{Ring, bypass, insert_after, insert_before, next, prev, replace, turn_to};
 use ic_test_support::answers::{object, value, write_places};
 use ic_test_support::notes::{Answer, Text};
-use ic_test_support::objects::{TENS, eight_objects, reference};
+use ic_test_support::objects::{TENS, eight_objects, place_at, reference};
 use ic_unsafe_ref::{Objects, UnsafeRef};
 use std::alloc::{AllocError, Global};
 use std::process::Abort;
@@ -37,7 +38,7 @@ pub(crate) fn opened<L: LinkedListOps>(rt: &impl Abort, links: &mut L, head: usi
     ensures others { (r : List Place) → IsCircle L.neighbors (L.table links.old).entry r
         → IsCircle L.neighbors (L.table links.new).entry r × IsAbsent result r }
 {
-    let opened: Option<Ring<u64>> = Ring::open(links, reference(head).place());
+    let opened: Option<Ring<u64>> = Ring::open(links, place_at(head));
     let ring = opened.expect(rt, "a head that is not linked");
     Ring::from_head(ring.head())
 }
@@ -259,7 +260,7 @@ fn one_ring(rt: HostRuntime) {
     let mut notes = Text::new(alloc);
     let (objects, mut links): (_, LinkOps) = eight_objects(alloc, TENS).expect(&rt, "memory");
     write_edits(&rt, &mut notes, &mut links, &objects);
-    assert!(rt; notes.has_words(EDITS));
+    assert_same(&rt, notes.has_words(EDITS), true);
 }
 
 // Notes what two rings are after the calls that take both.
@@ -292,10 +293,12 @@ fn two_rings_of_one_table(rt: HostRuntime) {
     let mut notes = Text::new(alloc);
     let (objects, mut links): (_, LinkOps) = eight_objects(alloc, TENS).expect(&rt, "memory");
     write_pairs(&rt, &mut notes, &mut links, &objects);
-    assert!(rt;
+    assert_same(
+        &rt,
         notes.has_words(
-            "10 20 30 30,  40 10 20 30 30,  40 40,  10 20 30 30,  40 10 20 30 30,  80 40 10 20 30 30,"
-        )
+            "10 20 30 30,  40 10 20 30 30,  40 40,  10 20 30 30,  40 10 20 30 30,  80 40 10 20 30 30,",
+        ),
+        true,
     );
 }
 
@@ -309,7 +312,7 @@ fn a_ring_is_printed(rt: HostRuntime) {
     put_back(&mut links, &ring, 1);
     let text = printed(alloc, &links, &objects, &ring);
     let text = text.expect(&rt, "memory for a text");
-    assert!(rt; text.as_str() == "[10, 20]");
+    assert_same(&rt, text.as_str() == "[10, 20]", true);
 }
 
 // Notes what one queue is after each edit by a cursor.
@@ -345,7 +348,11 @@ fn a_ring_by_cursors(rt: HostRuntime) {
     let mut notes = Text::new(alloc);
     let (objects, mut links): (_, LinkOps) = eight_objects(alloc, TENS).expect(&rt, "memory");
     write_cursors(&rt, &mut notes, &mut links, &objects);
-    assert!(rt; notes.has_words("10 30 40 20 20,  0 2 3 30 40 50 50,  yes none yes"));
+    assert_same(
+        &rt,
+        notes.has_words("10 30 40 20 20,  0 2 3 30 40 50 50,  yes none yes"),
+        true,
+    );
 }
 
 // Notes what a queue is that keeps its first member alone.
@@ -394,5 +401,9 @@ fn two_rings_by_cursors(rt: HostRuntime) {
     write_taken_over(&rt, &mut notes, &mut links, &objects, true);
     let (objects, mut links): (_, LinkOps) = eight_objects(alloc, TENS).expect(&rt, "memory");
     write_taken_over(&rt, &mut notes, &mut links, &objects, false);
-    assert!(rt; notes.has_words("10 10,  10 30 40 20 20,  10 30 40 20 20,"));
+    assert_same(
+        &rt,
+        notes.has_words("10 10,  10 30 40 20 20,  10 30 40 20 20,"),
+        true,
+    );
 }

@@ -1,6 +1,7 @@
 //! Each call once.
 
 use crate::containers::{Job, JobQueue, Priority};
+use crate::same::assert_same;
 use ic_unsafe_ref::UnsafeRef;
 use std::process::Abort;
 
@@ -29,11 +30,11 @@ fn urgent_first_and_cancelled(rt: HostRuntime) {
     let second = added(&rt, &mut queue, Priority::Normal, 20);
     let third = added(&rt, &mut queue, Priority::Low, 30);
     let _urgent = added(&rt, &mut queue, Priority::Urgent, 1);
-    assert!(rt; queue.reprioritize(&third, Priority::Normal));
-    assert!(rt; value(queue.cancel(&second)) == Some(20));
-    assert!(rt; !queue.reprioritize(&second, Priority::Urgent));
-    assert!(rt; value(queue.pop()) == Some(1));
-    assert!(rt; value(queue.pop()) == Some(10));
-    assert!(rt; value(queue.pop()) == Some(30));
-    assert!(rt; queue.pop().is_none());
+    assert_same(&rt, queue.reprioritize(&third, Priority::Normal), true);
+    assert_same(&rt, value(queue.cancel(&second)), Some(20));
+    assert_same(&rt, queue.reprioritize(&second, Priority::Urgent), false);
+    assert_same(&rt, value(queue.pop()), Some(1));
+    assert_same(&rt, value(queue.pop()), Some(10));
+    assert_same(&rt, value(queue.pop()), Some(30));
+    assert_same(&rt, value(queue.pop()), None);
 }

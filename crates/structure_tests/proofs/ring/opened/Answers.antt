@@ -21,5 +21,5 @@ pub returns-clause-others : goal.returns-clause-others
 returns-clause-others g c r circle =
     let k = rw c.expect-ring.ensures at c.open-opened.ensures.opened in
     let did = rw c.expect-ring.ensures at c.open-opened.ensures.acquired in
-    let off = (g.met.L.LinkOps.does_replay _ _ (acquires c.place.result ∷ []) did).was in
+    let off = (g.met.L.LinkOps.does_replay _ _ (acquires c.place_at.result ∷ []) did).was in
     (c.open-opened.ensures.others.rings r circle tt, rw (c.from_head.ensures, c.head.ensures, k.0) (free_outside g.met.L.LinkedListOps.linked_alike circle off))
