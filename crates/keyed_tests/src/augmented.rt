@@ -21,6 +21,7 @@ ghost use Rattle.keyed_tests.specs.Ready.{IsReady};
 mod intervals;
 
 use crate::keyed::{OwnKey, keyed_links};
+use crate::same::assert_same;
 use ic_augmented::{
     Counts, Greatest, Joins, RenewSums, SumTable, Summed, first_greater, first_overlap, index_of,
     insert_keyed, len, nth, propagate, refresh, remove, set_value,
@@ -162,12 +163,12 @@ fn members_by_position(rt: HostRuntime) {
         put(&mut tree, &mut summed, reference(index));
     }
     put_and_propagate(&rt, &mut tree, &mut summed, reference(3));
-    assert!(rt; position_of_nth(&tree, &summed, 2) == 2);
-    assert!(rt; position_of_nth(&tree, &summed, 9) == 4);
-    assert!(rt; take_nth(&mut tree, &mut summed, 1) == Some(place_at(3)));
-    assert!(rt; take_nth(&mut tree, &mut summed, 3).is_none());
-    assert!(rt; position_of_nth(&tree, &summed, 9) == 3);
-    assert!(rt; take_nth(&mut tree, &mut summed, 1) == Some(place_at(2)));
+    assert_same(&rt, position_of_nth(&tree, &summed, 2), 2);
+    assert_same(&rt, position_of_nth(&tree, &summed, 9), 4);
+    assert_same(&rt, take_nth(&mut tree, &mut summed, 1), Some(place_at(3)));
+    assert_same(&rt, take_nth(&mut tree, &mut summed, 3), None);
+    assert_same(&rt, position_of_nth(&tree, &summed, 9), 3);
+    assert_same(&rt, take_nth(&mut tree, &mut summed, 1), Some(place_at(2)));
 }
 
 // The first member with a number above a bound, before and after one is raised, and the first interval that overlaps another.
@@ -178,10 +179,15 @@ fn the_first_above(rt: HostRuntime) {
     for index in 0..3 {
         put(&mut tree, &mut summed, reference(index));
     }
-    assert!(rt; first_above(&tree, &mut summed, place_at(2), 50, 0) == Some(place_at(2)));
-    assert!(rt; first_above(&tree, &mut summed, place_at(0), 60, 40) == Some(place_at(0)));
-    assert!(rt; first_above(&tree, &mut summed, place_at(0), 40, 40) == Some(place_at(2)));
-    assert!(rt; first_above(&tree, &mut summed, place_at(1), 50, 50).is_none());
-    assert!(rt; first_overlapping(&tree, &summed, 45, 46) == Some(place_at(1)));
-    assert!(rt; first_overlapping(&tree, &summed, 50, 60).is_none());
+    let found = first_above(&tree, &mut summed, place_at(2), 50, 0);
+    assert_same(&rt, found, Some(place_at(2)));
+    let found = first_above(&tree, &mut summed, place_at(0), 60, 40);
+    assert_same(&rt, found, Some(place_at(0)));
+    let found = first_above(&tree, &mut summed, place_at(0), 40, 40);
+    assert_same(&rt, found, Some(place_at(2)));
+    let found = first_above(&tree, &mut summed, place_at(1), 50, 50);
+    assert_same(&rt, found, None);
+    let found = first_overlapping(&tree, &summed, 45, 46);
+    assert_same(&rt, found, Some(place_at(1)));
+    assert_same(&rt, first_overlapping(&tree, &summed, 50, 60), None);
 }

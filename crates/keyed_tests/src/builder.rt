@@ -12,6 +12,7 @@ ghost use Rattle.ic_rbtree.specs.Tree.{root_of};
 ghost use Rattle.ic_rbtree.specs.Vines.{ShowsVineSome};
 
 use crate::keyed::{OwnKey, keyed_links};
+use crate::same::assert_same;
 use ic_link_ops::LinkOps;
 use ic_link_ops::rbtree::{LinkOpsWith, RBTreeOps};
 use ic_rbtree::{KeyAdapter, RBTree, RBTreeBuilder};
@@ -65,11 +66,13 @@ fn built_of_objects_in_order(rt: HostRuntime) {
     let mut links = keyed_links(&rt, alloc, &[10, 20, 30, 40]);
     let mut builder = RBTreeBuilder::new(OwnKey);
     for index in 0..3 {
-        assert!(rt; push(&mut builder, &mut links, reference(index)) == Some(place_at(index)));
+        let last = push(&mut builder, &mut links, reference(index));
+        assert_same(&rt, last, Some(place_at(index)));
     }
-    assert!(rt; push(&mut builder, &mut links, reference(0)) == Some(place_at(2)));
+    let last = push(&mut builder, &mut links, reference(0));
+    assert_same(&rt, last, Some(place_at(2)));
     let tree = builder.build(&mut links);
     let (first, tree) = built_anew(tree, &mut links, reference(3));
-    assert!(rt; first == Some(place_at(0)));
-    assert!(rt; has_keys(&tree, &links, &[10, 20, 30, 40]));
+    assert_same(&rt, first, Some(place_at(0)));
+    assert_same(&rt, has_keys(&tree, &links, &[10, 20, 30, 40]), true);
 }

@@ -16,12 +16,13 @@ mod words;
 
 use crate::hash_table::equals::{grow_beside, put_all, shrink_beside, take_beside};
 use crate::hash_table::keyed::{put_keyed, take_by_keyed, take_keyed};
+use crate::same::assert_same;
 use ic_hash_table::{Buckets, Entry, HashAdapter, HashTable, KeyOf, KeyProbe, StdHash};
 use ic_link_ops::singly_linked_list::{LinkOps, LinkOpsWith, SinglyLinkedListOps};
 use ic_link_ops::{LinkOps as _, LinkValues, PlaceWord};
 use ic_test_support::answers::{object, write_places};
 use ic_test_support::notes::{Answer, Text};
-use ic_test_support::objects::{eight_objects, reference};
+use ic_test_support::objects::{eight_objects, place_at, reference};
 use ic_unsafe_ref::{Objects, UnsafeRef, Values};
 use std::alloc::{AllocError, Global};
 use std::hash::{BuildHasherDefault, FoldHasher};
@@ -436,7 +437,7 @@ fn a_table_over_a_vector(rt: HostRuntime) {
     let (mut notes, objects, mut links, buckets) = fixture(&rt, rt.alloc());
     let mut table = HashTable::new(OwnKey, buckets);
     write_edits(&mut notes, &mut table, &mut links, &objects, &10);
-    assert!(rt; notes.has_words(EDITS));
+    assert_same(&rt, notes.has_words(EDITS), true);
 }
 
 #[test]
@@ -447,7 +448,7 @@ fn a_table_over_an_array(rt: HostRuntime) {
     let none = || PlaceWord::of(None);
     let mut table = HashTable::new(OwnKey, [none(), none(), none(), none()]);
     write_edits(&mut notes, &mut table, &mut links, &objects, &10);
-    assert!(rt; notes.has_words(EDITS));
+    assert_same(&rt, notes.has_words(EDITS), true);
 }
 
 // Notes the looks of a search in a new table, and what the table prints.
@@ -485,8 +486,8 @@ fn a_search_is_counted(rt: HostRuntime) {
         &10,
     );
     let text = text.expect(&rt, "memory for a text");
-    assert!(rt; text.as_str() == "[30, 10]");
-    assert!(rt; notes.has_words("0 2"));
+    assert_same(&rt, text.as_str() == "[30, 10]", true);
+    assert_same(&rt, notes.has_words("0 2"), true);
 }
 
 // Notes what a new table is where an object goes in and another comes out, each by one search.
@@ -520,7 +521,7 @@ fn write_entries<A: HashAdapter<Value = u64>, L: SinglyLinkedListOps, B: Buckets
 fn entries(rt: HostRuntime) {
     let (mut notes, objects, mut links, buckets) = fixture(&rt, rt.alloc());
     write_entries(&mut notes, OwnKey, buckets, &mut links, &objects, &10);
-    assert!(rt; notes.has_words("50 30 10  none 6  0  20 50 30"));
+    assert_same(&rt, notes.has_words("50 30 10  none 6  0  20 50 30"), true);
 }
 
 // Notes whether a new table with one chain in use can grow and shrink, and what it holds then.
@@ -556,7 +557,11 @@ fn write_growth<A: HashAdapter<Value = u64>, L: SinglyLinkedListOps, B: Buckets 
 fn a_table_grows_and_shrinks(rt: HostRuntime) {
     let (mut notes, objects, mut links, buckets) = fixture(&rt, rt.alloc());
     write_growth(&mut notes, OwnKey, buckets, &mut links, &objects, &10);
-    assert!(rt; notes.has_words("yes yes yes no  0 none  3 4 no  yes yes yes no  3 1 no"));
+    assert_same(
+        &rt,
+        notes.has_words("yes yes yes no  0 none  3 4 no  yes yes yes no  3 1 no"),
+        true,
+    );
 }
 
 // The same over buckets that are lent.
@@ -569,7 +574,7 @@ fn a_table_over_a_slice(rt: HostRuntime) {
     let mut words = [none(), none(), none(), none()];
     let mut table = HashTable::new(OwnKey, &mut words[..]);
     write_edits(&mut notes, &mut table, &mut links, &objects, &10);
-    assert!(rt; notes.has_words(EDITS));
+    assert_same(&rt, notes.has_words(EDITS), true);
 }
 
 // Notes how many looks the searches of two keys that std hashes find.
@@ -581,7 +586,7 @@ fn a_table_by_stds_hash(rt: HostRuntime) {
         BuildHasherDefault::new(),
     );
     write_found(&mut notes, by_std, buckets, &mut links, &objects, &10);
-    assert!(rt; notes.has_words("0  2 4 no  none"));
+    assert_same(&rt, notes.has_words("0  2 4 no  none"), true);
 }
 
 // Notes which member has this key in a new table of two, and whether it has it once it is taken out.
@@ -636,7 +641,11 @@ fn write_equal_keys<A: HashAdapter<Value = u64>, L: SinglyLinkedListOps, B: Buck
 fn equal_keys_stand_side_by_side(rt: HostRuntime) {
     let (mut notes, objects, mut links, buckets) = fixture(&rt, rt.alloc());
     write_equal_keys(&mut notes, OwnKey, buckets, &mut links, &objects);
-    assert!(rt; notes.has_words("10 10 50 20 20  10 50 20 20  20 20 10 50  10 50 20 20"));
+    assert_same(
+        &rt,
+        notes.has_words("10 10 50 20 20  10 50 20 20  20 20 10 50  10 50 20 20"),
+        true,
+    );
 }
 
 // Notes what a new table is whose keys stand beside the links.
@@ -667,12 +676,12 @@ fn keys_beside_the_links(rt: HostRuntime) {
     let mut links: LinkOpsWith<u64> = LinkOpsWith::new(alloc);
     let _ = links.cover(8);
     assert!(rt; links.covers() == 8);
-    links.set_value(reference(0).place(), 10);
-    links.set_value(reference(1).place(), 20);
-    links.set_value(reference(2).place(), 10);
+    links.set_value(place_at(0), 10);
+    links.set_value(place_at(1), 20);
+    links.set_value(place_at(2), 10);
     let buckets = empty_buckets(alloc, 4).expect(&rt, "memory for buckets");
     write_keyed(&mut notes, OwnKey, buckets, &mut links, &10);
-    assert!(rt; notes.has_words("2 yes no 0  1 4 no"));
+    assert_same(&rt, notes.has_words("2 yes no 0  1 4 no"), true);
 }
 
 // Notes which member has the key of the object at 2, or 1, in a new table with the object at 0: the one at 0, or the object itself.
@@ -703,5 +712,5 @@ fn an_entry_or_the_object(rt: HostRuntime) {
     write_entered(&mut notes, OwnKey, buckets, &mut links, &objects, 2);
     let (_, objects, mut links, buckets) = fixture(&rt, rt.alloc());
     write_entered(&mut notes, OwnKey, buckets, &mut links, &objects, 1);
-    assert!(rt; notes.has_words("0 1 4 no  1 2 4 no"));
+    assert_same(&rt, notes.has_words("0 1 4 no  1 2 4 no"), true);
 }

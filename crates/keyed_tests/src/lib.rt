@@ -11,4 +11,6 @@ mod hash_table;
 #[cfg(test)]
 mod keyed;
 #[cfg(test)]
+mod same;
+#[cfg(test)]
 mod tree_merges;

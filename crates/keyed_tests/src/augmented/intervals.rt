@@ -13,6 +13,7 @@ ghost use Rattle.keyed_tests.specs.Ready.{AreIntervals};
 
 use super::empty_tree;
 use crate::keyed::OwnKey;
+use crate::same::assert_same;
 use ic_augmented::{
     Greatest, Summed, first_overlap, insert_fresh, next_overlap, refresh, remove, set_value,
 };
@@ -142,11 +143,11 @@ fn intervals_at_random(rt: HostRuntime) {
         for _ in 0..100 {
             let point = random.next();
             let count = count_overlaps(&tree, &summed, point, point + 1);
-            assert!(rt; count == plain_count(&starts, &ends, point));
+            assert_same(&rt, count, plain_count(&starts, &ends, point));
         }
         for _ in 0..100 {
             assert!(rt; take_first(&mut tree, &mut summed, 0, u64::MAX).is_some());
         }
-        assert!(rt; count_overlaps(&tree, &summed, 0, u64::MAX) == 0);
+        assert_same(&rt, count_overlaps(&tree, &summed, 0, u64::MAX), 0);
     }
 }
