@@ -9,6 +9,13 @@ use ic_unsafe_ref::{Place, UnsafeRef};
 use std::alloc::Global;
 use std::process::Abort;
 
+/// Asserts that it is so.
+///
+/// What comes of it is proved once, here, and not again at each call.
+pub(crate) fn check(rt: &impl Abort, is_so: bool) {
+    assert!(rt; is_so);
+}
+
 /// A table that covers four places.
 pub(crate) fn covering<W: Words>(rt: &impl Abort, alloc: Global) -> PlainTable<W> {
     let mut links = PlainTable::new(alloc);

@@ -3,7 +3,7 @@
 ghost use Rattle.ic_link_ops.specs.DoublyEntries.{is_linked, plain_table, PlainShowsSome};
 ghost use Rattle.ic_link_ops.specs.Tables.{IsCovered, IsUnlinked};
 
-use crate::fixtures::{covering, index, index_of, unlinked};
+use crate::fixtures::{check, covering, index, index_of, unlinked};
 use ic_linked_list::{LinkOps, LinkedList};
 use ic_plain::{linked_list, singly_linked_list, xor_linked_list};
 use ic_singly_linked_list::SinglyLinkedList;
@@ -47,7 +47,7 @@ fn push_and_remove(list: &mut LinkedList<u64>, links: &mut LinkOps, object: Unsa
 fn doubly_linked(rt: HostRuntime) {
     let mut links: LinkOps = covering(&rt, rt.alloc());
     let mut list: LinkedList<u64> = linked_list::new();
-    assert!(rt; linked_list::is_empty(&list, &links));
+    check(&rt, linked_list::is_empty(&list, &links));
     let object = unlinked(&rt, &links, 1);
     linked_list::push_back(&mut list, &mut links, object);
     let object = unlinked(&rt, &links, 0);
@@ -67,7 +67,7 @@ fn doubly_linked(rt: HostRuntime) {
         index_of(linked_list::pop_front(&mut list, &mut links)),
         index_of(linked_list::pop_front(&mut list, &mut links)),
     ];
-    assert!(rt; ends == [3, 2] && left == [2, 3, 0]);
+    check(&rt, ends == [3, 2] && left == [2, 3, 0]);
 }
 
 #[test]
@@ -86,8 +86,8 @@ fn xor_linked(rt: HostRuntime) {
         index_of(xor_linked_list::pop_back(&mut list, &mut links)),
         index_of(xor_linked_list::pop_front(&mut list, &mut links)),
     ];
-    assert!(rt; ends == [1, 2] && left == [2, 1]);
-    assert!(rt; xor_linked_list::is_empty(&list, &links));
+    check(&rt, ends == [1, 2] && left == [2, 1]);
+    check(&rt, xor_linked_list::is_empty(&list, &links));
 }
 
 #[test]
@@ -103,6 +103,6 @@ fn singly_linked(rt: HostRuntime) {
         index_of(singly_linked_list::pop_front(&mut list, &mut links)),
         index_of(singly_linked_list::pop_front(&mut list, &mut links)),
     ];
-    assert!(rt; first == 2 && left == [2, 1]);
-    assert!(rt; singly_linked_list::is_empty(&list, &links));
+    check(&rt, first == 2 && left == [2, 1]);
+    check(&rt, singly_linked_list::is_empty(&list, &links));
 }

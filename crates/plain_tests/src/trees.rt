@@ -6,7 +6,7 @@ ghost use Rattle.ic_rbtree.specs.PlainTrees.{plain_table, PlainShowsSome};
 ghost use Rattle.ic_rbtree.specs.Tree.{root_of};
 ghost use Rattle.ic_plain.specs.SortedTrees.{IsInOrder};
 
-use crate::fixtures::{covering, index, index_of, unlinked};
+use crate::fixtures::{check, covering, index, index_of, unlinked};
 use ic_plain::example::{ByDeadline, Timer, first_from};
 use ic_plain::rbtree;
 use ic_rbtree::{KeyAdapter, LinkOps, RBTree};
@@ -64,7 +64,7 @@ fn tree_in_order(rt: HostRuntime) {
     let objects = timers_at(&rt, rt.alloc(), &[30, 10, 20, 10]);
     let mut links: LinkOps = covering(&rt, rt.alloc());
     let mut tree = rbtree::new(ByDeadline);
-    assert!(rt; rbtree::is_empty(&tree, &links));
+    check(&rt, rbtree::is_empty(&tree, &links));
     // they stand as 1, 3, 2, 0
     add(&rt, &mut tree, &mut links, &objects, 0);
     add(&rt, &mut tree, &mut links, &objects, 1);
@@ -88,7 +88,7 @@ fn tree_in_order(rt: HostRuntime) {
         index_of(rbtree::pop_back(&mut tree, &mut links)),
         index_of(rbtree::pop_front(&mut tree, &mut links)),
     ];
-    assert!(rt; ends == [1, 0] && found == [1, 9, 2, 9]);
-    assert!(rt; sides == [1, 2] && left == [1, 0, 3]);
-    assert!(rt; first_from(&tree, &links, &objects, 20) == Some(7));
+    check(&rt, ends == [1, 0] && found == [1, 9, 2, 9]);
+    check(&rt, sides == [1, 2] && left == [1, 0, 3]);
+    check(&rt, first_from(&tree, &links, &objects, 20) == Some(7));
 }
