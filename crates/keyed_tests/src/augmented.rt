@@ -20,8 +20,8 @@ ghost use Rattle.keyed_tests.specs.Ready.{IsReady};
 
 mod intervals;
 
+use crate::asserts::assert_same;
 use crate::keyed::{OwnKey, keyed_links};
-use crate::same::assert_same;
 use ic_augmented::{
     Counts, Greatest, Joins, RenewSums, SumTable, Summed, first_greater, first_overlap, index_of,
     insert_keyed, len, nth, propagate, refresh, remove, set_value,

@@ -11,8 +11,8 @@ ghost use Rattle.ic_rbtree.specs.KeyedTrees.{keyed_table};
 ghost use Rattle.ic_rbtree.specs.Tree.{root_of};
 ghost use Rattle.ic_rbtree.specs.Vines.{ShowsVineSome};
 
+use crate::asserts::{assert_same, assert_true};
 use crate::keyed::{OwnKey, keyed_links};
-use crate::same::assert_same;
 use ic_link_ops::LinkOps;
 use ic_link_ops::rbtree::{LinkOpsWith, RBTreeOps};
 use ic_rbtree::{KeyAdapter, RBTree, RBTreeBuilder};
@@ -74,5 +74,5 @@ fn built_of_objects_in_order(rt: HostRuntime) {
     let tree = builder.build(&mut links);
     let (first, tree) = built_anew(tree, &mut links, reference(3));
     assert_same(&rt, first, Some(place_at(0)));
-    assert_same(&rt, has_keys(&tree, &links, &[10, 20, 30, 40]), true);
+    assert_true(&rt, has_keys(&tree, &links, &[10, 20, 30, 40]));
 }

@@ -14,9 +14,9 @@ mod equals;
 mod keyed;
 mod words;
 
+use crate::asserts::assert_true;
 use crate::hash_table::equals::{grow_beside, put_all, shrink_beside, take_beside};
 use crate::hash_table::keyed::{put_keyed, take_by_keyed, take_keyed};
-use crate::same::assert_same;
 use ic_hash_table::{Buckets, Entry, HashAdapter, HashTable, KeyOf, KeyProbe, StdHash};
 use ic_link_ops::singly_linked_list::{LinkOps, LinkOpsWith, SinglyLinkedListOps};
 use ic_link_ops::{LinkOps as _, LinkValues, PlaceWord};
@@ -437,7 +437,7 @@ fn a_table_over_a_vector(rt: HostRuntime) {
     let (mut notes, objects, mut links, buckets) = fixture(&rt, rt.alloc());
     let mut table = HashTable::new(OwnKey, buckets);
     write_edits(&mut notes, &mut table, &mut links, &objects, &10);
-    assert_same(&rt, notes.has_words(EDITS), true);
+    assert_true(&rt, notes.has_words(EDITS));
 }
 
 #[test]
@@ -448,7 +448,7 @@ fn a_table_over_an_array(rt: HostRuntime) {
     let none = || PlaceWord::of(None);
     let mut table = HashTable::new(OwnKey, [none(), none(), none(), none()]);
     write_edits(&mut notes, &mut table, &mut links, &objects, &10);
-    assert_same(&rt, notes.has_words(EDITS), true);
+    assert_true(&rt, notes.has_words(EDITS));
 }
 
 // Notes the looks of a search in a new table, and what the table prints.
@@ -486,8 +486,8 @@ fn a_search_is_counted(rt: HostRuntime) {
         &10,
     );
     let text = text.expect(&rt, "memory for a text");
-    assert_same(&rt, text.as_str() == "[30, 10]", true);
-    assert_same(&rt, notes.has_words("0 2"), true);
+    assert_true(&rt, text.as_str() == "[30, 10]");
+    assert_true(&rt, notes.has_words("0 2"));
 }
 
 // Notes what a new table is where an object goes in and another comes out, each by one search.
@@ -521,7 +521,7 @@ fn write_entries<A: HashAdapter<Value = u64>, L: SinglyLinkedListOps, B: Buckets
 fn entries(rt: HostRuntime) {
     let (mut notes, objects, mut links, buckets) = fixture(&rt, rt.alloc());
     write_entries(&mut notes, OwnKey, buckets, &mut links, &objects, &10);
-    assert_same(&rt, notes.has_words("50 30 10  none 6  0  20 50 30"), true);
+    assert_true(&rt, notes.has_words("50 30 10  none 6  0  20 50 30"));
 }
 
 // Notes whether a new table with one chain in use can grow and shrink, and what it holds then.
@@ -557,10 +557,9 @@ fn write_growth<A: HashAdapter<Value = u64>, L: SinglyLinkedListOps, B: Buckets 
 fn a_table_grows_and_shrinks(rt: HostRuntime) {
     let (mut notes, objects, mut links, buckets) = fixture(&rt, rt.alloc());
     write_growth(&mut notes, OwnKey, buckets, &mut links, &objects, &10);
-    assert_same(
+    assert_true(
         &rt,
         notes.has_words("yes yes yes no  0 none  3 4 no  yes yes yes no  3 1 no"),
-        true,
     );
 }
 
@@ -574,7 +573,7 @@ fn a_table_over_a_slice(rt: HostRuntime) {
     let mut words = [none(), none(), none(), none()];
     let mut table = HashTable::new(OwnKey, &mut words[..]);
     write_edits(&mut notes, &mut table, &mut links, &objects, &10);
-    assert_same(&rt, notes.has_words(EDITS), true);
+    assert_true(&rt, notes.has_words(EDITS));
 }
 
 // Notes how many looks the searches of two keys that std hashes find.
@@ -586,7 +585,7 @@ fn a_table_by_stds_hash(rt: HostRuntime) {
         BuildHasherDefault::new(),
     );
     write_found(&mut notes, by_std, buckets, &mut links, &objects, &10);
-    assert_same(&rt, notes.has_words("0  2 4 no  none"), true);
+    assert_true(&rt, notes.has_words("0  2 4 no  none"));
 }
 
 // Notes which member has this key in a new table of two, and whether it has it once it is taken out.
@@ -641,10 +640,9 @@ fn write_equal_keys<A: HashAdapter<Value = u64>, L: SinglyLinkedListOps, B: Buck
 fn equal_keys_stand_side_by_side(rt: HostRuntime) {
     let (mut notes, objects, mut links, buckets) = fixture(&rt, rt.alloc());
     write_equal_keys(&mut notes, OwnKey, buckets, &mut links, &objects);
-    assert_same(
+    assert_true(
         &rt,
         notes.has_words("10 10 50 20 20  10 50 20 20  20 20 10 50  10 50 20 20"),
-        true,
     );
 }
 
@@ -681,7 +679,7 @@ fn keys_beside_the_links(rt: HostRuntime) {
     links.set_value(place_at(2), 10);
     let buckets = empty_buckets(alloc, 4).expect(&rt, "memory for buckets");
     write_keyed(&mut notes, OwnKey, buckets, &mut links, &10);
-    assert_same(&rt, notes.has_words("2 yes no 0  1 4 no"), true);
+    assert_true(&rt, notes.has_words("2 yes no 0  1 4 no"));
 }
 
 // Notes which member has the key of the object at 2, or 1, in a new table with the object at 0: the one at 0, or the object itself.
@@ -712,5 +710,5 @@ fn an_entry_or_the_object(rt: HostRuntime) {
     write_entered(&mut notes, OwnKey, buckets, &mut links, &objects, 2);
     let (_, objects, mut links, buckets) = fixture(&rt, rt.alloc());
     write_entered(&mut notes, OwnKey, buckets, &mut links, &objects, 1);
-    assert_same(&rt, notes.has_words("0 1 4 no  1 2 4 no"), true);
+    assert_true(&rt, notes.has_words("0 1 4 no  1 2 4 no"));
 }

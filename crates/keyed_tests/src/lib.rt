@@ -3,6 +3,8 @@
 #![tactic(auto)]
 
 #[cfg(test)]
+mod asserts;
+#[cfg(test)]
 mod augmented;
 #[cfg(test)]
 mod builder;
@@ -10,7 +12,5 @@ mod builder;
 mod hash_table;
 #[cfg(test)]
 mod keyed;
-#[cfg(test)]
-mod same;
 #[cfg(test)]
 mod tree_merges;

@@ -9,8 +9,8 @@ ghost use Rattle.ic_link_ops.specs.RedBlackTree.{Shows};
 ghost use Rattle.ic_rbtree.specs.Tree.{root_of};
 ghost use Rattle.ic_tree_merges.specs.TwoTrees.{TwoShown};
 
+use crate::asserts::assert_true;
 use crate::keyed::OwnKey;
-use crate::same::assert_same;
 use ic_link_ops::LinkOps as _;
 use ic_link_ops::rbtree::{LinkOps, RBTreeOps};
 use ic_rbtree::RBTree;
@@ -138,17 +138,16 @@ fn two_trees_in_one(rt: HostRuntime) {
     let (objects, mut links): (_, LinkOps) = eight_objects(alloc, NUMBERS).expect(&rt, "memory");
     let (mut tree, other) = two_trees(&mut links, &objects);
     let looks = merged(&mut tree, &mut links, &objects, other);
-    assert_same(&rt, looks <= 8, true);
+    assert_true(&rt, looks <= 8);
     write_members(&mut notes, &tree, &links, &objects);
     let (objects, mut links): (_, LinkOps) = eight_objects(alloc, NUMBERS).expect(&rt, "memory");
     let (mut tree, other) = two_trees(&mut links, &objects);
     let doubles = united(&mut tree, &mut links, &objects, other);
     write_members(&mut notes, &tree, &links, &objects);
     write_members(&mut notes, &doubles, &links, &objects);
-    assert_same(
+    assert_true(
         &rt,
         notes.has_words("10 20 20 30 30 40 50 60  10 20 30 40 50 60  20 30"),
-        true,
     );
 }
 
@@ -166,5 +165,5 @@ fn a_tree_parted_by_another(rt: HostRuntime) {
     let common = kept_rest(&mut tree, &mut links, &objects, &other);
     write_members(&mut notes, &tree, &links, &objects);
     write_members(&mut notes, &common, &links, &objects);
-    assert_same(&rt, notes.has_words("20 30  10 40  10 40  20 30"), true);
+    assert_true(&rt, notes.has_words("20 30  10 40  10 40  20 30"));
 }

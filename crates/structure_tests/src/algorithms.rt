@@ -8,7 +8,7 @@ ghost use Rattle.ic_link_ops.specs.PlainTables.{table};
 ghost use Rattle.ic_list_algorithms.specs.Runs.{FewLooks, TwoShown};
 ghost use Rattle.ic_list_algorithms.specs.TwoLists.{TwoLists};
 
-use crate::same::assert_same;
+use crate::asserts::{assert_same, assert_true};
 use ic_chain::{Chain, DoubleEnded, ForwardLinks, ListKind, SingleEnded};
 use ic_link_ops::linked_list::{LinkOpsWith, TwoWords};
 use ic_link_ops::singly_linked_list::Singly;
@@ -254,7 +254,7 @@ fn algorithms_over_doubly_lists(rt: HostRuntime) {
     let members = deduped(&mut other.list, &mut other.links, &other.objects);
     assert_same(&rt, members, 1);
     let mut other: Fixture<DoublyLinked, TwoWords> = eight(&rt, alloc);
-    assert_same(&rt, appended(&mut other.list, &mut other.links), true);
+    assert_true(&rt, appended(&mut other.list, &mut other.links));
     let mut other: Fixture<DoublyLinked, TwoWords> = eight(&rt, alloc);
     let looks = sort_and_count(&mut other.list, &mut other.links, &other.objects);
     assert_same(&rt, looks, 12);
@@ -275,7 +275,7 @@ fn algorithms_over_singly_lists(rt: HostRuntime) {
     assert_same(&rt, first, Some(2));
     let mut other: Fixture<SinglyLinked, OneWord<Singly>> = eight(&rt, alloc);
     let is_empty = appended_walking(&mut other.list, &mut other.links);
-    assert_same(&rt, is_empty, true);
+    assert_true(&rt, is_empty);
 }
 
 // The numbers 30, 10 and 20 stand beside the links.

@@ -8,7 +8,7 @@ ghost use Rattle.ic_link_ops.specs.PlainTables.{table};
 ghost use Rattle.ic_rbtree.specs.PlainTrees.{PlainShowsSome};
 ghost use Rattle.ic_rbtree.specs.Tree.{root_of};
 
-use crate::same::assert_same;
+use crate::asserts::assert_true;
 use ic_chain::Chain;
 use ic_check::{NamesItsNext, TellsLinks, check, check_all, check_tree, is_sorted};
 use ic_link_ops::linked_list::LinkedListOps;
@@ -76,7 +76,7 @@ fn a_doubly_linked_list_is_checked(rt: HostRuntime) {
     let alloc = rt.alloc();
     let mut notes = Text::new(alloc);
     write_list::<DoublyLinked, linked_list::TwoWords>(&rt, alloc, &mut notes);
-    assert_same(&rt, notes.has_words("3 no none 3"), true);
+    assert_true(&rt, notes.has_words("3 no none 3"));
 }
 
 #[test]
@@ -84,7 +84,7 @@ fn a_singly_linked_list_is_checked(rt: HostRuntime) {
     let alloc = rt.alloc();
     let mut notes = Text::new(alloc);
     write_list::<SinglyLinked, OneWord<singly_linked_list::Singly>>(&rt, alloc, &mut notes);
-    assert_same(&rt, notes.has_words("3 no none 3"), true);
+    assert_true(&rt, notes.has_words("3 no none 3"));
 }
 
 #[test]
@@ -99,7 +99,7 @@ fn a_whole_table_is_checked(rt: HostRuntime) {
     write_found(&mut notes, check_all(&[list], &links, &mut marks));
     let none: [LinkedList<u64>; 0] = [];
     write_found(&mut notes, check_all(&none, &links, &mut marks));
-    assert_same(&rt, notes.has_words("3 none"), true);
+    assert_true(&rt, notes.has_words("3 none"));
 }
 
 // Says that a number is its own key.
@@ -143,7 +143,7 @@ fn a_tree_is_checked(rt: HostRuntime) {
     write_found(&mut notes, check_tree(&tree, &links));
     links.force_unlink(place(1));
     write_found(&mut notes, check_tree(&tree, &links));
-    assert_same(&rt, notes.has_words("3 none"), true);
+    assert_true(&rt, notes.has_words("3 none"));
 }
 
 // Notes whether a tree of three objects with these keys is in their order.
@@ -165,7 +165,7 @@ fn the_order_of_a_tree_is_checked(rt: HostRuntime) {
     let mut notes = Text::new(alloc);
     write_sorted(&rt, alloc, &mut notes, &[10, 20, 20]);
     write_sorted(&rt, alloc, &mut notes, &[10, 30, 20]);
-    assert_same(&rt, notes.has_words("yes no"), true);
+    assert_true(&rt, notes.has_words("yes no"));
 }
 
 // The end that a file names: 0 for none, else one more than the place's index.
@@ -223,5 +223,5 @@ fn a_list_from_a_file_is_checked(rt: HostRuntime) {
     let mut notes = Text::new(alloc);
     write_from_file(&rt, alloc, &mut notes, &[(0, 2), (1, 0)]);
     write_from_file(&rt, alloc, &mut notes, &[(0, 2), (2, 0)]);
-    assert_same(&rt, notes.has_words("0 none"), true);
+    assert_true(&rt, notes.has_words("0 none"));
 }

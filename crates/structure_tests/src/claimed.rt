@@ -5,8 +5,8 @@ ghost use Rattle.ic_link_ops.specs.DoublyEntries.{plain_table};
 ghost use Rattle.ic_atomic.specs.AtomicLinks.{links_of};
 ghost use Rattle.ic_atomic.specs.Holders.{places_of, record_of, IsOf};
 
+use crate::asserts::assert_true;
 use crate::ring;
-use crate::same::assert_same;
 use ic_atomic::linked_list::AtomicLinkOps;
 use ic_atomic::{Claims, Holder};
 use ic_link_ops::PlainTable;
@@ -41,5 +41,5 @@ fn one_ring_over_claims(rt: HostRuntime) {
     let (claims, mut holders) = Claims::new(alloc, 8, 1).expect(&rt, "claims");
     let mut links = claimed_links(&rt, alloc, &claims, &mut holders);
     ring::write_edits(&rt, &mut notes, &mut links, &objects);
-    assert_same(&rt, notes.has_words(ring::EDITS), true);
+    assert_true(&rt, notes.has_words(ring::EDITS));
 }

@@ -4,6 +4,8 @@
 #[cfg(test)]
 mod algorithms;
 #[cfg(test)]
+mod asserts;
+#[cfg(test)]
 mod check;
 #[cfg(test)]
 mod claimed;
@@ -12,5 +14,3 @@ pub mod containers;
 mod listed;
 #[cfg(test)]
 mod ring;
-#[cfg(test)]
-mod same;

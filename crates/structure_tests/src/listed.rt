@@ -3,7 +3,7 @@
 ghost use Rattle.std.specs.Prelude.{◌≡◌, IfSome, Some};
 ghost use Rattle.ic_unsafe_ref.specs.Objects.{object_at};
 
-use crate::same::assert_same;
+use crate::asserts::{assert_same, assert_true};
 use ic_container::Listed;
 use ic_unsafe_ref::UnsafeRef;
 
@@ -35,7 +35,7 @@ fn numbers_are_met(rt: HostRuntime) {
     assert_same(&rt, renew(&mut numbers, &first, 11), Some(10));
     assert_same(&rt, numbers.first(), Some(first.place()));
     assert_same(&rt, forget_oldest(&mut numbers), Some(20));
-    assert_same(&rt, numbers.get(&second).is_none(), true);
+    assert_true(&rt, numbers.get(&second).is_none());
     assert_same(&rt, renew(&mut numbers, &second, 21), None);
     assert_same(&rt, forget_oldest(&mut numbers), Some(11));
 }

@@ -11,13 +11,13 @@ mod connections;
 mod cursors;
 mod pairs;
 
+use crate::asserts::assert_true;
 use crate::ring::connections::{close, close_oldest, touch};
 use crate::ring::cursors::{
     close_first, close_last, keep_first, put_last_but_one, put_second, renew_last, second,
     take_over_before_last, take_over_behind_first,
 };
 use crate::ring::pairs::{exchange_heads, move_over, move_over_to_front, splice, split, two_rings};
-use crate::same::assert_same;
 use ic_link_ops::LinkOps as _;
 use ic_link_ops::linked_list::{LinkOps, LinkedListOps};
 use ic_ring::{Ring, bypass, insert_after, insert_before, next, prev, replace, turn_to};
@@ -260,7 +260,7 @@ fn one_ring(rt: HostRuntime) {
     let mut notes = Text::new(alloc);
     let (objects, mut links): (_, LinkOps) = eight_objects(alloc, TENS).expect(&rt, "memory");
     write_edits(&rt, &mut notes, &mut links, &objects);
-    assert_same(&rt, notes.has_words(EDITS), true);
+    assert_true(&rt, notes.has_words(EDITS));
 }
 
 // Notes what two rings are after the calls that take both.
@@ -293,12 +293,11 @@ fn two_rings_of_one_table(rt: HostRuntime) {
     let mut notes = Text::new(alloc);
     let (objects, mut links): (_, LinkOps) = eight_objects(alloc, TENS).expect(&rt, "memory");
     write_pairs(&rt, &mut notes, &mut links, &objects);
-    assert_same(
+    assert_true(
         &rt,
         notes.has_words(
             "10 20 30 30,  40 10 20 30 30,  40 40,  10 20 30 30,  40 10 20 30 30,  80 40 10 20 30 30,",
         ),
-        true,
     );
 }
 
@@ -312,7 +311,7 @@ fn a_ring_is_printed(rt: HostRuntime) {
     put_back(&mut links, &ring, 1);
     let text = printed(alloc, &links, &objects, &ring);
     let text = text.expect(&rt, "memory for a text");
-    assert_same(&rt, text.as_str() == "[10, 20]", true);
+    assert_true(&rt, text.as_str() == "[10, 20]");
 }
 
 // Notes what one queue is after each edit by a cursor.
@@ -348,10 +347,9 @@ fn a_ring_by_cursors(rt: HostRuntime) {
     let mut notes = Text::new(alloc);
     let (objects, mut links): (_, LinkOps) = eight_objects(alloc, TENS).expect(&rt, "memory");
     write_cursors(&rt, &mut notes, &mut links, &objects);
-    assert_same(
+    assert_true(
         &rt,
         notes.has_words("10 30 40 20 20,  0 2 3 30 40 50 50,  yes none yes"),
-        true,
     );
 }
 
@@ -401,9 +399,8 @@ fn two_rings_by_cursors(rt: HostRuntime) {
     write_taken_over(&rt, &mut notes, &mut links, &objects, true);
     let (objects, mut links): (_, LinkOps) = eight_objects(alloc, TENS).expect(&rt, "memory");
     write_taken_over(&rt, &mut notes, &mut links, &objects, false);
-    assert_same(
+    assert_true(
         &rt,
         notes.has_words("10 10,  10 30 40 20 20,  10 30 40 20 20,"),
-        true,
     );
 }

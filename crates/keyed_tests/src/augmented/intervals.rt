@@ -12,8 +12,8 @@ ghost use Rattle.ic_augmented.specs.Summed.{links_of, sums_of};
 ghost use Rattle.keyed_tests.specs.Ready.{AreIntervals};
 
 use super::empty_tree;
+use crate::asserts::assert_same;
 use crate::keyed::OwnKey;
-use crate::same::assert_same;
 use ic_augmented::{
     Greatest, Summed, first_overlap, insert_fresh, next_overlap, refresh, remove, set_value,
 };

@@ -6,8 +6,8 @@ ghost use Rattle.ic_unsafe_ref.specs.declared.place.Place.{Place};
 ghost use Rattle.ic_unsafe_ref.specs.Objects.{is_placed};
 ghost use Rattle.ic_unsafe_ref.specs.Places.{index_of};
 
+use crate::asserts::assert_true;
 use crate::hash_table::{NUMBERS, OwnKey, put};
-use crate::same::assert_same;
 use ic_hash_table::{Buckets, HashAdapter, HashTable};
 use ic_link_ops::LinkOps as _;
 use ic_link_ops::singly_linked_list::{LinkOps, SinglyLinkedListOps};
@@ -52,5 +52,5 @@ fn a_table_over_words(rt: HostRuntime) {
     for word in words {
         notes.add(Answer::Number(word), " ");
     }
-    assert_same(&rt, notes.has_words("0  0 7 32 1099511627776"), true);
+    assert_true(&rt, notes.has_words("0  0 7 32 1099511627776"));
 }

@@ -1,7 +1,7 @@
 //! Each call once.
 
+use crate::asserts::{assert_same, assert_true};
 use crate::containers::{Job, JobQueue, Priority};
-use crate::same::assert_same;
 use ic_unsafe_ref::UnsafeRef;
 use std::process::Abort;
 
@@ -30,7 +30,7 @@ fn urgent_first_and_cancelled(rt: HostRuntime) {
     let second = added(&rt, &mut queue, Priority::Normal, 20);
     let third = added(&rt, &mut queue, Priority::Low, 30);
     let _urgent = added(&rt, &mut queue, Priority::Urgent, 1);
-    assert_same(&rt, queue.reprioritize(&third, Priority::Normal), true);
+    assert_true(&rt, queue.reprioritize(&third, Priority::Normal));
     assert_same(&rt, value(queue.cancel(&second)), Some(20));
     assert_same(&rt, queue.reprioritize(&second, Priority::Urgent), false);
     assert_same(&rt, value(queue.pop()), Some(1));
