@@ -16,7 +16,9 @@ import shutil
 import subprocess
 import sys
 
-ROOT = pathlib.Path(__file__).resolve().parent.parent
+import built
+from built import ROOT, kit, run
+
 CRATE = ROOT / "crates/ic_ffi"
 HEADER = ROOT / "include/ic.h"
 
@@ -47,19 +49,6 @@ targets.compile_kept({clang!r}, {name!r}, {room!r}, sys.argv[1:])
 """
 
 
-def run(words, **more):
-    """Runs a command, which has to succeed, and returns what it prints."""
-    how = {"stdout": subprocess.PIPE, "stderr": subprocess.STDOUT, "stdin": subprocess.DEVNULL, **more}
-    return subprocess.run(list(map(str, words)), check=True, text=True, errors="replace", **how).stdout
-
-
-def kit():
-    """The kit's folder, or None if there is no kit."""
-    found = shutil.which("rt")
-    folders = pathlib.Path(run([found, "doc"]).strip()).parents if found else []
-    return next((folder for folder in folders if (folder / "bin/rattle").exists()), None)
-
-
 def clang():
     return kit() / "toolchain/bin/clang"
 
@@ -79,30 +68,12 @@ def version_name():
     return "ic_version_" + "_".join(version()[:2])
 
 
-def crates_below(name, of):
-    """The crates that one stands on, lowest first, by the lines of crates.txt."""
-    found = []
-    for crate in of[name]:
-        found += [it for it in [*crates_below(crate, of), crate] if it not in found]
-    return found
-
-
 def rattle_words(triple, toolchain, archive):
     """The command that proves the crate over the libraries that are built, and compiles it."""
-    lines = [line.partition("#")[0].partition(":") for line in (ROOT / "crates.txt").read_text().splitlines()]
-    of = {head.split()[0]: rest.split() for head, _, rest in lines if head.strip()}
-    of = {name: [crate for crate in crates if crate in of] for name, crates in of.items()}
-    rlib, folder = {name: ROOT / "crates" / name / "out/rlib" for name in of}, kit()
-    words = [folder / "bin/rattle", "build", "--crate-name", "ic_ffi", "src/lib.rt", "--extern", f"std={folder}/rlibs/std.rlib"]
-    for name in of["ic_ffi"]:
-        words += ["--extern", f"{name}={rlib[name]}/{name}.rlib"]
-    for below in [folder / "rlibs", *(rlib[name] for name in crates_below("ic_ffi", of))]:
-        words += ["-L", f"dependency={below}"]
-    words += ["--antt-project", folder / "rattle/logic/antt-project.json", "--logic-built", folder / "logic_built", "--links", "ic_ffi="]
     # What one target's proof keeps, the next takes. A second job is of use only to a proof from nothing.
     kept = "out/incremental"
-    words += ["--incremental", kept, "--jobs", "1" if (CRATE / kept).is_dir() else "2", "--crate-type", "staticlib", "--backend", "llvm"]
-    words += ["--cpu", "x86-64"] if triple.startswith("x86_64") else []
+    words = [*built.words("build", "ic_ffi"), "--links", "ic_ffi=", "--incremental", kept, "--jobs", "1" if (CRATE / kept).is_dir() else "2"]
+    words += ["--crate-type", "staticlib", "--backend", "llvm", *(["--cpu", "x86-64"] if triple.startswith("x86_64") else [])]
     return [*words, "--target", triple, "--toolchain", toolchain, "-o", archive]
 
 
@@ -166,7 +137,7 @@ def sum_of_files():
     found = hashlib.sha256(f"{run(['rt', 'version'])}{version_name()}".encode())
     own = [file for part in ("src", "specs", "proofs") for file in (CRATE / part).rglob("*") if file.is_file()]
     below = ROOT.glob("crates/*/out/rlib/*.rlib/format")
-    for file in sorted([*own, *below, ROOT / "crates.txt", pathlib.Path(__file__)]):
+    for file in sorted([*own, *below, ROOT / "crates.txt", pathlib.Path(built.__file__), pathlib.Path(__file__)]):
         found.update(f"{file.relative_to(ROOT)} {hashlib.sha256(file.read_bytes()).hexdigest()}\n".encode())
     return found.hexdigest()
 
