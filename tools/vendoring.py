@@ -10,6 +10,10 @@ NAME, LOCK = "fasciahyssop", "fasciahyssop.lock"
 # The crate that --new begins with.
 OWN = "job_queue"
 PARTS = ("src", "specs", "proofs")
+# Crates that stand as templates, each in its folder, and not in crates/, where the gate would prove them. Each file of a template has `.txt` behind
+# its name, since `rt ci` refuses any source outside the crates of crates.txt. LINE is the crate's own line there.
+TEMPLATES = {"bench": ROOT / "bench/rattle", "intrusive_collections": ROOT / "tools/intrusive_collections"}
+LINE = "crate-line.txt"
 BLOCK = re.compile(rf"^# {NAME} \S+: begin\n(.*?)^# {NAME} \S+: end\n\n?", re.M | re.S)
 ASKED = re.compile(r"^# Crates: ?(.*)$", re.M)
 LINES = re.compile(r"^# crates\.txt: (\w{64})$", re.M)
@@ -35,10 +39,15 @@ def crate_lines(text):
     return found
 
 
+def all_lines():
+    """The lines of all crates of this repository, lowest first, and then those of the templates."""
+    return crate_lines("".join(it.read_text() for it in (ROOT / "crates.txt", *(folder / LINE for folder in TEMPLATES.values()))))
+
+
 def with_all_below(names):
     """The crates, and those of this repository that they stand on, lowest first, each with its line."""
-    lines = crate_lines((ROOT / "crates.txt").read_text())
-    unknown = [it for it in names if it not in lines or not (ROOT / "crates" / it / "src/lib.rt").is_file()]
+    lines = all_lines()
+    unknown = [it for it in names if it not in TEMPLATES and (it not in lines or not (ROOT / "crates" / it / "src/lib.rt").is_file())]
     if unknown:
         raise Refused(f"no library of {ROOT / 'crates.txt'}: {' '.join(unknown)}")
     needed, left = set(), list(names)
@@ -50,8 +59,17 @@ def with_all_below(names):
     return {crate: line for crate, (line, _) in lines.items() if crate in needed}
 
 
+def template_of(crate):
+    """The files of a template, by their paths where it is copied to."""
+    folder = TEMPLATES[crate]
+    files = (it for it in sorted(folder.rglob("*.txt")) if it.name != LINE)
+    return {f"crates/{crate}/{it.relative_to(folder).as_posix().removesuffix('.txt')}": it.read_bytes() for it in files}
+
+
 def files_of(crate, root=ROOT):
     """The files of a crate that are copied, by their paths."""
+    if root == ROOT and crate in TEMPLATES:
+        return template_of(crate)
     folder = root / "crates" / crate
     files = [folder / "README.md", *(it for part in PARTS for it in sorted((folder / part).rglob("*")))]
     return {it.relative_to(root).as_posix(): it.read_bytes() for it in files if it.is_file()}
