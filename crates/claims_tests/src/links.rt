@@ -62,6 +62,7 @@ impl Gate for Watch<'_> {
 
 // Gathers the first two places, takes the first of them off the list, and gives it up by force once it is there again. Whether
 // all that was done, and the gate was told in time.
+// Promise: a gate between claims.
 fn gathers(links: &mut linked_list::AtomicLinkOps, watch: &Watch) -> bool {
     let mut list: LinkedList<u64> = LinkedList::new();
     let (Some(first), Some(second)) = (Place::new(0), Place::new(1)) else {
@@ -104,6 +105,7 @@ fn turns_with(links: AnyLinks) -> bool {
 }
 
 // Two parties in turn, then four in threads, and one at last.
+// Promise: four tables of claims.
 #[test]
 fn parties_share_places(rt: HostRuntime) {
     let alloc = rt.alloc();

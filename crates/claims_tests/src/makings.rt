@@ -79,6 +79,7 @@ fn are_made_so(alloc: Global, memory: &Rationed, makings: &[Making]) -> bool {
     as_wanted
 }
 
+// Promise: claims without memory, texts of errors of claims, always-out-of-memory in claims.
 #[test]
 fn limits_and_each_request_refused_in_turn(rt: HostRuntime) {
     let memory = Rationed::new(rt.alloc(), NONE);
@@ -108,6 +109,7 @@ fn is_replayed(memory: &Rationed) -> bool {
         && answers.as_slice() == [true, false, true, true, true, true, false].as_slice()
 }
 
+// Promise: a core without memory, always-out-of-memory in a core.
 #[test]
 fn a_core_is_refused_memory(rt: HostRuntime) {
     let memory = Rationed::new(rt.alloc(), 0);

@@ -68,6 +68,7 @@ pub(crate) fn are_linked<L: Links>(links: &mut L, count: usize) -> bool
 }
 
 /// Puts the first seven objects in, which another party can't, until they are given up. Whether both parties see them.
+// Promise: two holders and one place.
 pub(crate) fn are_seen<L: Links, C: Collection<L>, M: Links + LinkedListOps>(
     mut collection: C,
     links: &mut L,
@@ -89,6 +90,7 @@ pub(crate) fn are_seen<L: Links, C: Collection<L>, M: Links + LinkedListOps>(
 
 /// Puts the first seven objects in a tree, and clears it. Whether the other party sees each of them linked, and nothing else, until the tree is
 /// cleared, and nothing then.
+// Promise: a tree over claims.
 pub(crate) fn is_cleared<L: Links + RBTreeOps, M: Links>(links: &mut L, other: &mut M) -> bool {
     let mut tree = RBTree::new(ByValue);
     let mut as_wanted = true;

@@ -45,6 +45,7 @@ fn share<R: Abort + Threads + Sync>(rt: &R, alloc: Global, places: usize, holder
 }
 
 // Two threads try one place, and eight share four places beside it.
+// Promise: two threads and one place, eight threads and four places.
 #[test]
 fn threads_share_places(rt: HostRuntime) {
     let alloc = rt.alloc();

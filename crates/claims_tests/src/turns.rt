@@ -88,6 +88,7 @@ fn is_right_of_claims(rt: &impl Abort, alloc: Global, places: usize, rows: &[Row
     as_wanted
 }
 
+// Promise: claims in turn, a holder that left.
 #[test]
 fn cores_and_holders_in_turn(rt: HostRuntime) {
     let alloc = rt.alloc();

@@ -138,6 +138,7 @@ fn are_shared<R: Threads + Wait + Clock + Sync>(
     as_wanted
 }
 
+// Promise: workers overlap, workers-in-turn.
 #[test]
 fn workers_meet_and_share_places_out(rt: HostRuntime) {
     assert!(rt; are_shared(&rt, rt.alloc(), ROWS));

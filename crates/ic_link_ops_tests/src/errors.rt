@@ -25,6 +25,7 @@ fn text(alloc: Global, place: Place) -> Result<String, AllocError> {
     format!(in alloc; "{place:?} {object:?} {refused:?} {many} {memory}")
 }
 
+// Promise: text of a reference, texts of errors of tables.
 #[test]
 fn what_refusals_give_back_and_say(rt: HostRuntime) {
     let place = at(&rt, 0);

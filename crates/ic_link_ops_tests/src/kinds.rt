@@ -97,6 +97,7 @@ fn four_kinds_by_view(links: &mut [rbtree::Link], place: Place) -> [bool; 4] {
     [false; 4]
 }
 
+// Promise: words of a tree link, third word below the last place.
 #[test]
 fn four_kinds_in_a_table_of_trees(rt: HostRuntime) {
     let (mut links, place): (rbtree::LinkOps, Place) = one_linked(&rt, rt.alloc());
@@ -131,6 +132,7 @@ fn is_read<L: LinkedListOps + SinglyLinkedListOps + XorLinkedListOps>(
 }
 
 // A word of an XOR list is that of a place, of one that no table reaches, or of none.
+// Promise: a word of another kind.
 #[test]
 fn what_an_xor_list_wrote_is_read_by_others(rt: HostRuntime) {
     let (mut links, place): (linked_list::LinkOps, Place) = one_linked(&rt, rt.alloc());
@@ -142,6 +144,7 @@ fn what_an_xor_list_wrote_is_read_by_others(rt: HostRuntime) {
     check(&rt, [second, beyond, none] == [true; 3]);
 }
 
+// Promise: numbers of the first and the last place.
 #[test]
 fn words_of_an_xor_list(rt: HostRuntime) {
     let (mut links, place): (xor_linked_list::LinkOps, Place) = one_linked(&rt, rt.alloc());

@@ -31,6 +31,7 @@ fn look(objects: &Objects<u64, &Rationed>, place: Place) -> (Option<u64>, bool) 
     (objects.get(place).copied(), objects.at(place).is_some())
 }
 
+// Promise: an object without memory, always-out-of-memory in objects.
 #[test]
 fn objects_come_and_go(rt: HostRuntime) {
     let rationed = Rationed::new(rt.alloc(), 0);

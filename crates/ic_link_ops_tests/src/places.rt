@@ -22,6 +22,7 @@ fn limits() -> [Option<usize>; 7] {
     ]
 }
 
+// Promise: limits of places.
 #[test]
 fn how_far_places_reach(rt: HostRuntime) {
     let wanted = [

@@ -48,6 +48,7 @@ fn grows<W: Words>(mut links: PlainTable<W, &Rationed>, memory: &Rationed, place
         && cover(&mut links, 9) == [0, 9]
 }
 
+// Promise: limits of a table, a table without memory, always-out-of-memory in a table.
 #[test]
 fn tables_grow_where_there_is_memory(rt: HostRuntime) {
     let memory = Rationed::new(rt.alloc(), 0);

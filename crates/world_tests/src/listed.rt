@@ -90,6 +90,7 @@ fn is_right(alloc: Global, lists: &[List]) -> bool {
     is_back && are_answered(alloc, &rationed, &mut world, lists)
 }
 
+// Promise: a list of calls as one, a run without memory, always-out-of-memory in a run.
 #[test]
 fn lists_of_commands(rt: HostRuntime) {
     assert!(rt; is_right(rt.alloc(), LISTS));

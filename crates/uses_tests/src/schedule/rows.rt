@@ -11,6 +11,7 @@ type Row = (Call, Answer);
 const BYTES: u64 = 2304;
 
 // A tick moves what is due, and what has the same deadline in the order of entry. There are eight queues.
+// Promise: ticks by deadline, a second tick, a deadline that has passed, the last deadline, eight queues, add-always-refused.
 const TICKS: &[Row] = &[
     (Call::Add(5, 0, 10), Answer::Done),
     (Call::Add(3, 1, 11), Answer::Done),
@@ -38,6 +39,7 @@ const TICKS: &[Row] = &[
 ];
 
 // What a later tick moves stands behind what an earlier one did, whatever the deadlines.
+// Promise: ticks behind one another.
 const TWO_TICKS: &[Row] = &[
     (Call::Add(7, 2, 16), Answer::Done),
     (Call::Tick(7), Answer::Moved(1)),
@@ -94,6 +96,7 @@ fn is_refused_in_turn(alloc: Global, rows: &[Row], others: &[Row]) -> bool {
     as_wanted
 }
 
+// Promise: a scheduler without memory.
 #[test]
 fn rows_with_each_growth_refused_in_turn(rt: HostRuntime) {
     assert!(rt; is_refused_in_turn(rt.alloc(), TICKS, TWO_TICKS));
