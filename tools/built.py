@@ -1,5 +1,7 @@
-"""How tools call the kit's prover on one crate, over the libraries that this checkout has built. `rt` would prove these anew."""
+"""What this checkout has built: how tools call the kit's prover on one crate over its libraries, which `rt` would prove anew, and whether a
+program is of the sources that stand here now."""
 
+import hashlib
 import pathlib
 import shutil
 import subprocess
@@ -44,3 +46,40 @@ def words(verb, crate):
     for below in [folder / "rlibs", *(rlib[name] for name in crates_below(crate, of))]:
         found += ["-L", f"dependency={below}"]
     return [*found, "--antt-project", folder / "rattle/logic/antt-project.json", "--logic-built", folder / "logic_built"]
+
+
+def sum_of_sources(crate):
+    """A sum of all that a proof and a build of the crate read: the kit, and the sources of it and of all that it stands on."""
+    found, of = hashlib.sha256(run(["rt", "version"]).encode()), listed()
+    for name in [*crates_below(crate, of), crate]:
+        found.update(f"{name}: {of[name]}\n".encode())
+        files = (it for part in ("src", "specs", "proofs") for it in (ROOT / "crates" / name / part).rglob("*") if it.is_file())
+        for file in sorted(files):
+            found.update(f"{file.relative_to(ROOT)} {hashlib.sha256(file.read_bytes()).hexdigest()}\n".encode())
+    return found.hexdigest()
+
+
+def stamp_of(crate):
+    """The file in which the sum of the sources stands that the crate's program was proved and built from."""
+    return ROOT / "crates" / crate / "out" / f"{crate}.sources"
+
+
+def stamp(crate, sum_before):
+    """Notes that the crate's program was proved and built from the sources of this sum, which was taken before, if they are still the same."""
+    if sum_of_sources(crate) == sum_before:
+        stamp_of(crate).write_text(sum_before)
+
+
+def is_current(crate):
+    """Whether the crate's program was proved and built from the sources that stand here now."""
+    stamp, program = stamp_of(crate), ROOT / "crates" / crate / "out" / crate
+    return program.is_file() and stamp.is_file() and stamp.read_text() == sum_of_sources(crate)
+
+
+def proved_program(crate):
+    """The path of the crate's program, which `rt run` proves and builds first unless it is current."""
+    if not is_current(crate):
+        sum_before = sum_of_sources(crate)
+        run(["rt", "run"], cwd=ROOT / "crates" / crate)
+        stamp(crate, sum_before)
+    return ROOT / "crates" / crate / "out" / crate
