@@ -1,7 +1,15 @@
 //! The doubly linked list: edits by a cursor that borrows the list, cursors that keep it, and a walk that takes its members off.
 
+ghost use Rattle.std.specs.Prelude.{◌≡◌};
+ghost use Rattle.ic_link_ops.specs.Chains.{ShowsChain, ShowsSomeChain};
+ghost use Rattle.ic_cursors.specs.CursorMut as edits;
+ghost use Rattle.ic_chain.specs.Standing.{StandsAt};
+
 use crate::lists::{ListFixture, list_of};
 use crate::notes::{assert_words, write_object, write_values};
+use ic_chain::{BidirectionalLinks, Chain, DoubleEnded, NamesNext};
+use ic_cursors::CursorMut;
+use ic_link_ops::LinkOps;
 use ic_link_ops::linked_list::TwoWords;
 use ic_linked_list::DoublyLinked;
 use ic_test_support::answers::write_places;
@@ -9,40 +17,74 @@ use ic_test_support::notes::{Answer, Text};
 use ic_test_support::objects::{place_at, reference};
 use ic_test_support::tables::write_linked;
 use ic_unsafe_ref::UnsafeRef;
+use std::process::Abort;
 
 /// A doubly linked list, its links and its objects.
 pub(crate) type DoublyFixture = ListFixture<DoublyLinked, TwoWords>;
+
+// Makes each edit by a cursor on the last of the members 0, 1 and 2, and notes what came out. Notes what is in front of the cursor, none, when
+// that part was put behind it, and whether it is at null two steps on.
+fn write_edits<K: DoubleEnded + BidirectionalLinks<L>, L: LinkOps>(
+    notes: &mut Text,
+    cursor: &mut CursorMut<'_, Chain<K, u64>, L>,
+)
+    requires covers { (L.table (edits.links_of cursor.old)).extent.places ≡ 8 }
+    requires stands { edits.IsStanding (StandsAt (ShowsChain K.Between K.kept) L.table K.Position.member K.Position.CachesNext) cursor.old }
+    ensures stands { edits.IsStanding (StandsAt (ShowsChain K.Between K.kept) L.table K.Position.member K.Position.CachesNext) cursor.new }
+    ensures borrows { edits.SameBorrows cursor.old cursor.new }
+{
+    let _ = cursor.insert_after(reference(3));
+    let _ = cursor.insert_before(reference(4));
+    write_object(notes, cursor.replace_with(reference(5)).ok());
+    cursor.move_prev();
+    cursor.move_prev();
+    write_object(notes, cursor.remove());
+    let behind = cursor.split_after();
+    cursor.splice_before(behind);
+    let in_front = cursor.split_before();
+    write_places(notes, &[in_front.last()]);
+    cursor.splice_after(in_front);
+    cursor.move_prev();
+    write_places(notes, &[cursor.get_ptr()]);
+    cursor.move_next();
+    cursor.move_next();
+    notes.add(Answer::Truth(cursor.is_null()), " ");
+}
 
 #[test]
 fn doubly_linked_list(rt: HostRuntime) {
     let alloc = rt.alloc();
     let mut notes = Text::new(alloc);
-    {
-        // The object at 3 in the place of the last member, which comes out, and the object that the cursor is on a step back.
-        let mut fixture: DoublyFixture = list_of(&rt, alloc, 3);
-        let mut cursor = fixture.list.back_mut(&mut fixture.links);
-        write_object(&mut notes, cursor.replace_with(reference(3)).ok());
-        cursor.move_prev();
-        notes.add(Answer::Truth(cursor.is_null()), " ");
-        write_values(&mut notes, &[cursor.into_ref(&fixture.objects)]);
-    }
-    {
-        // The object at 3 behind the last member, which is behind the cursor then.
-        let mut fixture: DoublyFixture = list_of(&rt, alloc, 3);
-        let mut cursor = fixture.list.back_mut(&mut fixture.links);
-        let _ = cursor.insert_after(reference(3));
-        write_places(&mut notes, &[cursor.peek_next().get_ptr()]);
-    }
-    {
-        // A split in front of the last member, and what is in front of the cursor then, and when both parts are together again.
-        let mut fixture: DoublyFixture = list_of(&rt, alloc, 3);
-        let mut cursor = fixture.list.back_mut(&mut fixture.links);
-        let in_front = cursor.split_before();
-        write_places(&mut notes, &[in_front.last(), cursor.peek_prev().get_ptr()]);
-        cursor.splice_before(in_front);
-        write_places(&mut notes, &[cursor.as_cursor().peek_prev().get_ptr()]);
-    }
-    assert_words(&rt, &notes, "2 no 20  3  1 none 1");
+    let mut fixture: DoublyFixture = list_of(&rt, alloc, 3);
+    let mut cursor = fixture.list.back_mut(&mut fixture.links);
+    write_edits(&mut notes, &mut cursor);
+    let beside = [
+        cursor.get_ptr(),
+        cursor.peek_prev().get_ptr(),
+        cursor.peek_next().get_ptr(),
+        cursor.as_cursor().peek_prev().get_ptr(),
+    ];
+    write_places(&mut notes, &beside);
+    write_values(&mut notes, &[cursor.into_ref(&fixture.objects)]);
+    assert_words(&rt, &notes, "2 1 3 none no  0 4 5 4  10");
+}
+
+// Notes where a cursor is that reads the list, on the second member by its reference, and those that keep it, there and at the back.
+fn write_on_member<K: NamesNext + DoubleEnded + BidirectionalLinks<L>, L: LinkOps>(
+    rt: &impl Abort,
+    notes: &mut Text,
+    list: Chain<K, u64>,
+    links: &L,
+)
+    requires shown { ShowsSomeChain K.Between K.kept (L.table links.now) list }
+{
+    let place = place_at(1);
+    assert!(rt; list.contains(links, place));
+    let read = list.cursor_from_ptr(links, UnsafeRef::new(place)).get_ptr();
+    let on_second = list.cursor_owning_from_ptr(links, UnsafeRef::new(place));
+    let second = on_second.as_cursor(links).get_ptr();
+    let at_back = on_second.into_inner().back_owning(links);
+    write_places(notes, &[read, second, at_back.get_ptr()]);
 }
 
 #[test]
@@ -50,16 +92,8 @@ fn doubly_linked_list_by_value(rt: HostRuntime) {
     let alloc = rt.alloc();
     let mut notes = Text::new(alloc);
     {
-        // Where a cursor is that reads the list, on the second member by its reference, and those that keep it, there and at the back.
         let mut fixture: DoublyFixture = list_of(&rt, alloc, 3);
-        let (links, list) = (&fixture.links, fixture.list.take());
-        let place = place_at(1);
-        assert!(rt; list.contains(links, place));
-        let read = list.cursor_from_ptr(links, UnsafeRef::new(place)).get_ptr();
-        let on_second = list.cursor_owning_from_ptr(links, UnsafeRef::new(place));
-        let second = on_second.as_cursor(links).get_ptr();
-        let at_back = on_second.into_inner().back_owning(links);
-        write_places(&mut notes, &[read, second, at_back.get_ptr()]);
+        write_on_member(&rt, &mut notes, fixture.list.take(), &fixture.links);
     }
     {
         // The first member, which is taken off, and what is linked then, and when the walk has unlinked the rest.

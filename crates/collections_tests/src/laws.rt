@@ -1,13 +1,17 @@
 //! The laws of several calls together, on doubly linked lists.
 
-ghost use Rattle.std.specs.Prelude.{◌≡◌};
+ghost use Rattle.std.specs.Prelude.{◌≡◌, None};
+ghost use Rattle.ic_link_ops.specs.Chains.{ShowsChain, ShowsSomeChain};
 ghost use Rattle.ic_link_ops.specs.DoublyEntries.{plain_table, PlainShowsSome};
+ghost use Rattle.ic_cursors.specs.Cursor as reads;
+ghost use Rattle.ic_chain.specs.Standing.{StandsAt};
 
 use crate::doubly::DoublyFixture;
 use crate::lists::list_of;
 use crate::notes::{assert_words, write_object};
-use ic_link_ops::linked_list::LinkOps;
-use ic_linked_list::{DoublyLinked, laws};
+use ic_chain::{BidirectionalLinks, Chain, DoubleEnded, ForwardLinks, laws};
+use ic_cursors::Cursor;
+use ic_link_ops::LinkOps;
 use ic_test_support::answers::write_places;
 use ic_test_support::notes::{Answer, Text};
 use ic_test_support::objects::{place_at, reference};
@@ -15,33 +19,50 @@ use ic_test_support::tables::write_linked;
 use std::process::Abort;
 
 // Puts an object at the front and takes it off again, which leaves the list as it was, and notes whether it is a member.
-fn write_front(notes: &mut Text, fixture: &mut DoublyFixture)
-    requires covers { (plain_table fixture.old.links).extent.places ≡ 8 }
-    requires shown { PlainShowsSome fixture.old.links fixture.old.list }
+fn write_front<K: ForwardLinks<L>, L: LinkOps>(
+    notes: &mut Text,
+    list: &mut Chain<K, u64>,
+    links: &mut L,
+)
+    requires covers { (L.table links.old).extent.places ≡ 8 }
+    requires shown { ShowsSomeChain K.Between K.kept (L.table links.old) list.old }
 {
     let object = reference(5);
     let place = object.place();
-    laws::push_then_pop_front::<DoublyLinked, LinkOps>();
-    let Ok(()) = fixture.list.push_front(&mut fixture.links, object) else {
+    laws::push_then_pop_front::<K, L>();
+    let Ok(()) = list.push_front(links, object) else {
         return;
     };
-    write_object(notes, fixture.list.pop_front(&mut fixture.links));
-    let is_member = fixture.list.contains(&fixture.links, place);
+    write_object(notes, list.pop_front(links));
+    let is_member = list.contains(&*links, place);
     notes.add(Answer::Truth(is_member), " ");
 }
 
-// Puts an object at the back and takes it off again, which leaves the list as it was, and notes both ends, by a cursor at null that
-// moves there and back.
-fn write_back(notes: &mut Text, fixture: &mut DoublyFixture)
-    requires covers { (plain_table fixture.old.links).extent.places ≡ 8 }
-    requires shown { PlainShowsSome fixture.old.links fixture.old.list }
+// Puts an object at the back and takes it off again, which leaves the list as it was, and notes both ends.
+fn write_back<K: DoubleEnded + BidirectionalLinks<L>, L: LinkOps>(
+    notes: &mut Text,
+    list: &mut Chain<K, u64>,
+    links: &mut L,
+)
+    requires covers { (L.table links.old).extent.places ≡ 8 }
+    requires shown { ShowsSomeChain K.Between K.kept (L.table links.old) list.old }
 {
-    laws::push_then_pop::<DoublyLinked, LinkOps>();
-    let Ok(()) = fixture.list.push_back(&mut fixture.links, reference(5)) else {
+    laws::push_then_pop::<K, L>();
+    let Ok(()) = list.push_back(links, reference(5)) else {
         return;
     };
-    write_object(notes, fixture.list.pop_back(&mut fixture.links));
-    let mut cursor = fixture.list.cursor(&fixture.links);
+    write_object(notes, list.pop_back(links));
+    write_ends(notes, list.cursor(&*links));
+}
+
+// Notes both ends of a list, by a cursor at null that moves there and back.
+fn write_ends<K: DoubleEnded + BidirectionalLinks<L>, L: LinkOps>(
+    notes: &mut Text,
+    mut cursor: Cursor<'_, Chain<K, u64>, L>,
+)
+    requires stands { reads.IsStanding (StandsAt (ShowsChain K.Between K.kept) L.table K.Position.member K.Position.CachesNext) cursor }
+    requires null { reads.position K.Position.member cursor ≡ None }
+{
     let (front, back) = laws::null_there_and_back(&mut cursor);
     write_places(notes, &[front, back]);
 }
@@ -77,8 +98,14 @@ fn write_apart(
 fn laws_of_lists(rt: HostRuntime) {
     let alloc = rt.alloc();
     let mut notes = Text::new(alloc);
-    write_front(&mut notes, &mut list_of(&rt, alloc, 2));
-    write_back(&mut notes, &mut list_of(&rt, alloc, 2));
+    {
+        let mut fixture: DoublyFixture = list_of(&rt, alloc, 2);
+        write_front(&mut notes, &mut fixture.list, &mut fixture.links);
+    }
+    {
+        let mut fixture: DoublyFixture = list_of(&rt, alloc, 2);
+        write_back(&mut notes, &mut fixture.list, &mut fixture.links);
+    }
     let mut first = list_of(&rt, alloc, 2);
     let mut second = list_of(&rt, alloc, 0);
     write_apart(&rt, &mut notes, &mut first, &mut second);

@@ -1,6 +1,6 @@
 //! The collections: the calls that no session of the program makes, since a world does not make them, and that no other test or use
-//! makes. Cursors that read, and those that borrow their collection, walks, laws, and what is printed. Each test makes its calls one
-//! after the other, notes what each answers, and compares the notes with what they are to be.
+//! makes. Cursors that read, and those that borrow their collection, walks, laws, the words and the shapes that links have, and what is
+//! printed. Each test makes its calls one after the other, notes what each answers, and compares the notes with what they are to be.
 #![tactic(auto)]
 
 #[cfg(test)]
@@ -21,5 +21,9 @@ mod printed;
 mod singly;
 #[cfg(test)]
 mod tree;
+#[cfg(test)]
+mod walks;
+#[cfg(test)]
+mod words;
 #[cfg(test)]
 mod xor;

@@ -6,8 +6,10 @@ ghost use Rattle.ic_link_ops.specs.PlacedObjects.{ShowsPlaced};
 ghost use Rattle.ic_link_ops.specs.PlainTables.{table};
 
 use ic_chain::{Chain, ForwardLinks, ListKind};
-use ic_link_ops::{PlainTable, Words};
-use ic_test_support::objects::{TENS, eight_objects, reference};
+use ic_link_ops::{LinkOps, PlainTable, Words};
+use ic_test_support::notes::Text;
+use ic_test_support::objects::{TENS, eight_objects, place_at, reference};
+use ic_test_support::tables::write_linked;
 use ic_unsafe_ref::Objects;
 use std::alloc::Global;
 use std::process::Abort;
@@ -30,15 +32,12 @@ impl<K: ListKind, W: Words> Drop for ListFixture<K, W> {
     }
 }
 
-// Puts the objects at the first places into a new list, as many as that and in their order.
-fn filled<K: ForwardLinks<PlainTable<W>>, W: Words>(
-    links: &mut PlainTable<W>,
-    members: usize,
-) -> Chain<K, u64>
-    requires covered { (table W.unlinked links.old).extent.places ≡ 8 }
+/// Puts the objects at the first places into a new list, as many as that and in their order.
+pub(crate) fn filled<K: ForwardLinks<L>, L: LinkOps>(links: &mut L, members: usize) -> Chain<K, u64>
+    requires covered { (L.table links.old).extent.places ≡ 8 }
     requires few { members ≤ 8 }
-    ensures covers { (table W.unlinked links.new).extent.places ≡ 8 }
-    ensures shown { ShowsSomeChain K.Between K.kept (table W.unlinked links.new) result }
+    ensures covers { (L.table links.new).extent.places ≡ 8 }
+    ensures shown { ShowsSomeChain K.Between K.kept (L.table links.new) result }
 {
     let mut list = Chain::new();
     for given in 0..members {
@@ -64,4 +63,18 @@ pub(crate) fn list_of<K: ForwardLinks<PlainTable<W>>, W: Words>(
         links,
         list,
     }
+}
+
+/// Unlinks each linked place by force, one after the other, and notes before each what is linked.
+pub(crate) fn free_each<W: Words>(rt: &impl Abort, notes: &mut Text, links: &mut PlainTable<W>)
+    ensures covers { (table W.unlinked links.new).extent.places ≡ 8 }
+{
+    for index in 0..8 {
+        let place = place_at(index);
+        if index < links.covers() && links.is_linked(place) {
+            write_linked(notes, links);
+            links.force_unlink(place);
+        }
+    }
+    assert!(rt; links.covers() == 8);
 }

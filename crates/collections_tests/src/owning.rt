@@ -1,53 +1,74 @@
-//! Cursors that keep their list, in each edit. A world makes these edits at a position of its own, and no use keeps a list in a cursor.
+//! Cursors that keep their list, in each move and edit. A world makes these edits at a position of its own, and no use keeps a list in a
+//! cursor.
 
 ghost use Rattle.std.specs.Prelude.{◌≡◌};
-ghost use Rattle.ic_link_ops.specs.DoublyEntries.{plain_table, PlainShowsSome};
-ghost use Rattle.ic_link_ops.specs.OneWord.{no_word, has_word, next_word_of};
-ghost use Rattle.ic_link_ops.specs.PlainTables.{table};
-ghost use Rattle.ic_link_ops.specs.Readings.{successor_of};
-ghost use Rattle.ic_link_ops.specs.SinglyLinkedList.{ShowsSome};
+ghost use Rattle.ic_link_ops.specs.Chains.{ShowsSomeChain};
 
 use crate::doubly::DoublyFixture;
 use crate::lists::list_of;
 use crate::notes::{assert_words, write_object};
 use crate::singly::SinglyFixture;
+use ic_chain::{BidirectionalLinks, Chain, DoubleEnded, ForwardLinks, SingleEnded};
+use ic_link_ops::LinkOps;
 use ic_test_support::answers::write_places;
 use ic_test_support::notes::Text;
 use ic_test_support::objects::reference;
 
-// Puts objects beside the first of the members 0, 1 and 2, and takes them out again, and notes both that came out. Then the list is split
-// behind the cursor and in front of it, the parts change places, and it notes where the cursor is, the first member, and two cursors at null.
-fn write_edits(notes: &mut Text, fixture: &mut DoublyFixture)
-    requires covers { (plain_table fixture.old.links).extent.places ≡ 8 }
-    requires shown { PlainShowsSome fixture.old.links fixture.old.list }
+// Notes where a cursor is: at null, at the front, a step on, and at the back.
+fn write_moves<K: DoubleEnded + BidirectionalLinks<L>, L: LinkOps>(
+    notes: &mut Text,
+    list: Chain<K, u64>,
+    links: &L,
+)
+    requires shown { ShowsSomeChain K.Between K.kept (L.table links.now) list }
 {
-    let links = &mut fixture.links;
-    let mut cursor = fixture.list.take().front_owning(links);
-    let _ = cursor.insert_after(links, reference(3));
+    let at_null = list.cursor_owning();
+    let null = at_null.get_ptr();
+    let mut cursor = at_null.into_inner().front_owning(links);
+    let front = cursor.get_ptr();
     cursor.move_next(links);
+    let second = cursor.get_ptr();
+    let at_back = cursor.into_inner().back_owning(links);
+    write_places(notes, &[null, front, second, at_back.get_ptr()]);
+}
+
+// Puts objects beside the first of the members 0, 1 and 2, and takes them out again, and notes both that came out. Then the list is split
+// behind the cursor and in front of it, the parts change places, and it notes where the cursor is, the first member, and the cursor at null.
+fn write_edits<K: DoubleEnded + BidirectionalLinks<L>, L: LinkOps>(
+    notes: &mut Text,
+    list: Chain<K, u64>,
+    links: &mut L,
+)
+    requires covers { (L.table links.old).extent.places ≡ 8 }
+    requires shown { ShowsSomeChain K.Between K.kept (L.table links.old) list }
+{
+    let mut cursor = list.front_owning(&*links);
+    let _ = cursor.insert_after(links, reference(3));
+    cursor.move_next(&*links);
     let _ = cursor.insert_before(links, reference(4));
     write_object(notes, cursor.replace_with(links, reference(5)).ok());
     write_object(notes, cursor.remove(links));
-    cursor.move_prev(links);
+    cursor.move_prev(&*links);
     let behind = cursor.split_after(links);
     cursor.splice_before(links, behind);
     let in_front = cursor.split_before(links);
     cursor.splice_after(links, in_front);
-    cursor.move_next(links);
+    cursor.move_next(&*links);
     write_places(notes, &[cursor.get_ptr(), cursor.list().first()]);
     cursor.go_null();
-    let null = cursor.get_ptr();
-    let anew = cursor.into_inner().cursor_owning();
-    write_places(notes, &[null, anew.get_ptr()]);
+    write_places(notes, &[cursor.get_ptr()]);
 }
 
 // Puts the object at 3 in the place of the member behind a cursor on the first, takes it off again, and notes both that came out.
-fn write_edits_behind(notes: &mut Text, fixture: &mut SinglyFixture)
-    requires covers { (table no_word fixture.old.links).extent.places ≡ 8 }
-    requires shown { ShowsSome (successor_of next_word_of has_word) (table no_word fixture.old.links) fixture.old.list }
+fn write_edits_behind<K: SingleEnded + ForwardLinks<L>, L: LinkOps>(
+    notes: &mut Text,
+    list: Chain<K, u64>,
+    links: &mut L,
+)
+    requires covers { (L.table links.old).extent.places ≡ 8 }
+    requires shown { ShowsSomeChain K.Between K.kept (L.table links.old) list }
 {
-    let links = &mut fixture.links;
-    let mut cursor = fixture.list.take().front_owning(links);
+    let mut cursor = list.front_owning(&*links);
     write_object(notes, cursor.replace_next_with(links, reference(3)).ok());
     write_object(notes, cursor.remove_next(links));
 }
@@ -56,7 +77,15 @@ fn write_edits_behind(notes: &mut Text, fixture: &mut SinglyFixture)
 fn owning_cursors(rt: HostRuntime) {
     let alloc = rt.alloc();
     let mut notes = Text::new(alloc);
-    write_edits(&mut notes, &mut list_of(&rt, alloc, 3));
-    write_edits_behind(&mut notes, &mut list_of(&rt, alloc, 2));
-    assert_words(&rt, &notes, "3 5  0 4  none none  1 3");
+    {
+        let mut fixture: DoublyFixture = list_of(&rt, alloc, 4);
+        write_moves(&mut notes, fixture.list.take(), &fixture.links);
+    }
+    {
+        let mut fixture: DoublyFixture = list_of(&rt, alloc, 3);
+        write_edits(&mut notes, fixture.list.take(), &mut fixture.links);
+    }
+    let mut fixture: SinglyFixture = list_of(&rt, alloc, 2);
+    write_edits_behind(&mut notes, fixture.list.take(), &mut fixture.links);
+    assert_words(&rt, &notes, "none 0 1 3  3 5  0 4  none  1 3");
 }

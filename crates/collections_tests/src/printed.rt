@@ -1,21 +1,28 @@
 //! What lists, trees and links print.
 
+use crate::doubly::DoublyFixture;
 use crate::lists::list_of;
-use crate::singly::SinglyFixture;
 use crate::tree::trees::tree_of;
 use ic_test_support::objects::place_at;
 
-// A list on one line, a tree with each object on a line of its own, and two links.
+// A list on one line, a tree with each object on a line of its own, and the link of the list's first member, while it is one and when it was
+// taken off.
 #[test]
 fn printed(rt: HostRuntime) {
     let alloc = rt.alloc();
-    let lists: SinglyFixture = list_of(&rt, alloc, 2);
-    let linked = lists.links.link(place_at(0));
-    let unlinked = lists.links.link(place_at(2));
-    let list = lists.list.debug(&lists.links, &lists.objects);
-    let trees = tree_of(&rt, alloc, 2);
-    let tree = trees.tree.debug(&trees.links, &trees.objects);
-    let text = format!(in alloc; "{list:?} {tree:#?} {linked:?} {unlinked:?}");
-    let text = text.expect(&rt, "memory for a text");
-    assert!(rt; text.as_str() == "[10, 20] [\n    10,\n    20,\n] linked unlinked");
+    let mut lists: DoublyFixture = list_of(&rt, alloc, 4);
+    {
+        let trees = tree_of(&rt, alloc, 2);
+        let list = lists.list.debug(&lists.links, &lists.objects);
+        let tree = trees.tree.debug(&trees.links, &trees.objects);
+        let link = lists.links.link(place_at(0));
+        let text = format!(in alloc; "{list:?} {tree:#?} {link:?}");
+        let text = text.expect(&rt, "memory for a text");
+        assert!(rt; text.as_str() == "[10, 20, 30, 40] [\n    10,\n    20,\n] linked");
+    }
+    let _ = lists.list.pop_front(&mut lists.links);
+    assert!(rt; lists.links.covers() == 8);
+    let link = lists.links.link(place_at(0));
+    let text = format!(in alloc; "{link:?}").expect(&rt, "memory for a text");
+    assert!(rt; text.as_str() == "unlinked");
 }

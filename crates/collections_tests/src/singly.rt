@@ -1,9 +1,16 @@
 //! The singly linked list: a walk with no last member to end at, and the edits behind a cursor.
 
+ghost use Rattle.std.specs.Prelude.{◌≡◌};
+ghost use Rattle.ic_link_ops.specs.Chains.{ShowsChain};
+ghost use Rattle.ic_cursors.specs.CursorMut as edits;
+ghost use Rattle.ic_chain.specs.Standing.{StandsAt};
+
 use crate::lists::{ListFixture, list_of};
 use crate::notes::{assert_words, write_object, write_values};
-use ic_link_ops::OneWord;
-use ic_link_ops::singly_linked_list::{LinkOps, Singly};
+use ic_chain::{Chain, ForwardLinks, SingleEnded};
+use ic_cursors::CursorMut;
+use ic_link_ops::singly_linked_list::Singly;
+use ic_link_ops::{LinkOps, OneWord};
 use ic_singly_linked_list::{SinglyLinked, laws};
 use ic_test_support::answers::write_places;
 use ic_test_support::notes::Text;
@@ -11,6 +18,34 @@ use ic_test_support::objects::reference;
 
 /// A singly linked list, its links and its objects.
 pub(crate) type SinglyFixture = ListFixture<SinglyLinked, OneWord<Singly>>;
+
+// Puts the object at 3 in the place of the member behind the cursor, takes it off again, and notes both that came out.
+fn write_edits<K: SingleEnded + ForwardLinks<L>, L: LinkOps>(
+    notes: &mut Text,
+    cursor: &mut CursorMut<'_, Chain<K, u64>, L>,
+)
+    requires covers { (L.table (edits.links_of cursor.old)).extent.places ≡ 8 }
+    requires stands { edits.IsStanding (StandsAt (ShowsChain K.Between K.kept) L.table K.Position.member K.Position.CachesNext) cursor.old }
+{
+    write_object(notes, cursor.replace_next_with(reference(3)).ok());
+    write_object(notes, cursor.remove_next());
+}
+
+// Splits the list behind the cursor, and notes where the cursor is and the other part begins, and where a step on leads when the parts are
+// together again.
+fn write_parts<K: SingleEnded + ForwardLinks<L>, L: LinkOps>(
+    notes: &mut Text,
+    cursor: &mut CursorMut<'_, Chain<K, u64>, L>,
+)
+    requires stands { edits.IsStanding (StandsAt (ShowsChain K.Between K.kept) L.table K.Position.member K.Position.CachesNext) cursor.old }
+{
+    laws::split_then_splice::<K, L>();
+    let rest = cursor.split_after();
+    write_places(notes, &[cursor.get_ptr(), rest.first()]);
+    cursor.splice_after(rest);
+    cursor.move_next();
+    write_places(notes, &[cursor.get_ptr()]);
+}
 
 #[test]
 fn singly_linked_list(rt: HostRuntime) {
@@ -22,21 +57,8 @@ fn singly_linked_list(rt: HostRuntime) {
         let mut walk = fixture.list.iter(&fixture.links, &fixture.objects);
         write_values(&mut notes, &[walk.next(), walk.next(), walk.next()]);
     }
-    {
-        // The object at 3 in the place of the member behind a cursor on the first, and taken off again, and both that came out.
-        let mut cursor = fixture.list.front_mut(&mut fixture.links);
-        write_object(&mut notes, cursor.replace_next_with(reference(3)).ok());
-        write_object(&mut notes, cursor.remove_next());
-    }
-    {
-        // A split behind the first member, and where the parts begin, and what is behind the cursor when they are together again.
-        let mut fixture: SinglyFixture = list_of(&rt, alloc, 3);
-        let mut cursor = fixture.list.front_mut(&mut fixture.links);
-        laws::split_then_splice::<SinglyLinked, LinkOps>();
-        let rest = cursor.split_after();
-        write_places(&mut notes, &[cursor.get_ptr(), rest.first()]);
-        cursor.splice_after(rest);
-        write_places(&mut notes, &[cursor.peek_next().get_ptr()]);
-    }
+    write_edits(&mut notes, &mut fixture.list.front_mut(&mut fixture.links));
+    let mut fixture: SinglyFixture = list_of(&rt, alloc, 3);
+    write_parts(&mut notes, &mut fixture.list.front_mut(&mut fixture.links));
     assert_words(&rt, &notes, "10 20 none  1 3  0 1  1");
 }

@@ -3,5 +3,6 @@
 mod cached;
 mod cursors;
 mod keys;
+mod shape;
 pub(crate) mod trees;
 mod walks;

@@ -5,33 +5,34 @@ ghost use Rattle.ic_unsafe_ref.specs.declared.place.Place.{Place};
 ghost use Rattle.ic_unsafe_ref.specs.Objects.{is_placed};
 ghost use Rattle.ic_unsafe_ref.specs.Places.{index_of};
 ghost use Rattle.ic_link_ops.specs.PlacedObjects.{ShowsPlaced};
-ghost use Rattle.ic_rbtree.specs.PlainTrees.{plain_table, PlainShows, PlainShowsSome};
+ghost use Rattle.ic_link_ops.specs.RedBlackTree.{ShowsSome};
+ghost use Rattle.ic_rbtree.specs.PlainTrees.{plain_table, PlainShows};
 ghost use Rattle.ic_rbtree.specs.Tree.{root_of};
 
 use crate::notes::assert_words;
-use crate::tree::trees::{TreeFixture, tree_of};
+use crate::tree::trees::{OwnKey, TreeFixture, tree_of};
+use ic_link_ops::rbtree::RBTreeOps;
+use ic_rbtree::RBTree;
 use ic_test_support::answers::write_places;
 use ic_test_support::notes::{Answer, Text};
 use ic_test_support::objects::reference;
 use ic_test_support::tables::write_linked;
 use std::process::Abort;
 
-// Notes where cursors begin: at null and at the back, and, where they keep the tree, at the front and at the back. Empties the tree, and
-// notes what is linked then.
-fn write_ends(notes: &mut Text, fixture: &mut TreeFixture)
-    requires shown { PlainShowsSome fixture.old.links (root_of fixture.old.tree) }
+// Notes where cursors begin: at null and at the back, and, where they keep the tree, at the front and at the back. Empties the tree.
+fn write_ends<L: RBTreeOps>(notes: &mut Text, tree: RBTree<OwnKey>, links: &L)
+    requires shown { ShowsSome L.node (L.table links.now) (root_of tree) }
 {
-    let null = fixture.tree.cursor(&fixture.links).get_ptr();
-    let back = fixture.tree.back(&fixture.links).get_ptr();
+    let null = tree.cursor(links).get_ptr();
+    let back = tree.back(links).get_ptr();
     write_places(notes, &[null, back]);
-    let at_front = fixture.tree.take().front_owning(&fixture.links);
+    let at_front = tree.front_owning(links);
     let front = at_front.get_ptr();
-    let at_back = at_front.into_inner().back_owning(&fixture.links);
+    let at_back = at_front.into_inner().back_owning(links);
     write_places(notes, &[front, at_back.get_ptr()]);
-    fixture.tree = at_back.into_inner();
-    fixture.tree.fast_clear();
-    notes.add(Answer::Truth(fixture.tree.is_empty()), " ");
-    write_linked(notes, &fixture.links);
+    let mut tree = at_back.into_inner();
+    tree.fast_clear();
+    notes.add(Answer::Truth(tree.is_empty()), " ");
 }
 
 // Inserts the object at 3 by a cursor on the last of the members 0, 1 and 2, and notes what is behind it then.
@@ -69,7 +70,11 @@ fn write_kept(rt: &impl Abort, notes: &mut Text, fixture: &mut TreeFixture)
 fn cursors(rt: HostRuntime) {
     let alloc = rt.alloc();
     let mut notes = Text::new(alloc);
-    write_ends(&mut notes, &mut tree_of(&rt, alloc, 3));
+    {
+        let mut fixture = tree_of(&rt, alloc, 3);
+        write_ends(&mut notes, fixture.tree.take(), &fixture.links);
+        write_linked(&mut notes, &fixture.links);
+    }
     write_inserted(&mut notes, &mut tree_of(&rt, alloc, 3));
     write_kept(&rt, &mut notes, &mut tree_of(&rt, alloc, 3));
     assert_words(&rt, &notes, "none 2  0 2  yes 0 1 2  3  3");

@@ -1,16 +1,20 @@
 //! Searches by keys that borrow the tree, the entry of a key, and keys in an array.
 
-ghost use Rattle.std.specs.Prelude.{◌<◌, length};
+ghost use Rattle.std.specs.Prelude.{◌≡◌, ◌<◌, length};
 ghost use Rattle.ic_unsafe_ref.specs.Places.{index_of};
+ghost use Rattle.ic_link_ops.specs.PlacedObjects.{ShowsPlaced};
+ghost use Rattle.ic_link_ops.specs.RedBlackTree.{Shows};
+ghost use Rattle.ic_rbtree.specs.Tree.{root_of};
 
 use crate::notes::{assert_words, write_values};
-use crate::tree::trees::tree_of;
-use ic_rbtree::Bound;
+use crate::tree::trees::{OwnKey, tree_of};
+use ic_link_ops::rbtree::RBTreeOps;
+use ic_rbtree::{Bound, RBTree};
 use ic_test_support::answers::write_places;
 use ic_test_support::notes::{Answer, Text};
 use ic_test_support::objects::{place_at, reference};
 use ic_test_support::tables::write_linked;
-use ic_unsafe_ref::{Place, Values};
+use ic_unsafe_ref::{Objects, Place, Values};
 
 // The key of a place in an array of keys.
 fn key_at(keys: &[u64], place: Place) -> u64
@@ -19,39 +23,76 @@ fn key_at(keys: &[u64], place: Place) -> u64
     *keys.value(place)
 }
 
+// Notes where searches of 40 lead: to the first member of it, to the first one from it on, and to the last one below it.
+fn write_searches<L: RBTreeOps>(
+    notes: &mut Text,
+    tree: &mut RBTree<OwnKey>,
+    links: &mut L,
+    objects: &Objects<u64>,
+)
+    requires { ShowsPlaced (Shows L.node (L.table links.old) (root_of tree.old)) objects.now }
+{
+    let (from, below) = (Bound::Included(&40), Bound::Excluded(&40));
+    let found = tree.find_mut(links, objects, &40).into_ref(objects);
+    write_values(notes, &[found]);
+    let found = tree.lower_bound_mut(links, objects, from).into_ref(objects);
+    write_values(notes, &[found]);
+    let found = tree
+        .upper_bound_mut(links, objects, below)
+        .into_ref(objects);
+    write_values(notes, &[found]);
+}
+
+// Puts the object at 7 in at the entry of the key, if it has no member. Notes whether the object was made, and which member the cursor is on
+// then.
+fn write_entry<L: RBTreeOps>(
+    notes: &mut Text,
+    tree: &mut RBTree<OwnKey>,
+    links: &mut L,
+    objects: &Objects<u64>,
+    key: &u64,
+)
+    requires covers { (L.table links.old).extent.places ≡ 8 }
+    requires shown { ShowsPlaced (Shows L.node (L.table links.old) (root_of tree.old)) objects.now }
+{
+    let object = reference(7);
+    let entry = tree.entry(links, objects, key);
+    let at = match &entry.or_insert_with(|| {
+        notes.word("made ");
+        object
+    }) {
+        Ok(cursor) => cursor.get_ptr(),
+        Err(_) => None,
+    };
+    write_places(notes, &[at]);
+}
+
+// The searches in a tree of seven members. Of 10, 20 and 30, the entry of a key that none of them has, and that of the last one's.
 #[test]
 fn searches_and_entries(rt: HostRuntime) {
     let alloc = rt.alloc();
     let mut notes = Text::new(alloc);
     {
-        // Where searches of 40 lead: to the first member of it, to the first one from it on, and to the last one below it.
         let mut fixture = tree_of(&rt, alloc, 7);
-        let (tree, links, objects) = (&mut fixture.tree, &mut fixture.links, &fixture.objects);
-        let (from, below) = (Bound::Included(&40), Bound::Excluded(&40));
-        let found = [
-            tree.find_mut(links, objects, &40).into_ref(objects),
-            tree.lower_bound_mut(links, objects, from).into_ref(objects),
-            tree.upper_bound_mut(links, objects, below)
-                .into_ref(objects),
-        ];
-        write_values(&mut notes, &found);
+        write_searches(
+            &mut notes,
+            &mut fixture.tree,
+            &mut fixture.links,
+            &fixture.objects,
+        );
     }
-    {
-        // The object at 7, put in at the entry of 25: which member the cursor is on then, and the places that are linked.
+    for key in &[25, 30] {
         let mut fixture = tree_of(&rt, alloc, 3);
-        let (tree, links) = (&mut fixture.tree, &mut fixture.links);
-        let object = reference(7);
-        let at = {
-            let entry = tree.entry(links, &fixture.objects, &25);
-            match &entry.or_insert_with(|| object) {
-                Ok(cursor) => cursor.get_ptr(),
-                Err(_) => None,
-            }
-        };
-        write_places(&mut notes, &[at]);
+        write_entry(
+            &mut notes,
+            &mut fixture.tree,
+            &mut fixture.links,
+            &fixture.objects,
+            key,
+        );
         write_linked(&mut notes, &fixture.links);
     }
     let key = key_at(&[30, 10, 40], place_at(1));
     notes.add(Answer::Number(key), " ");
-    assert_words(&rt, &notes, "40 40 30  7 0 1 2 7  10");
+    assert_words(&rt, &notes, "40 40 30  made 7 0 1 2 7  2 0 1 2  10");
 }

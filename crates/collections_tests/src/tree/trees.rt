@@ -50,8 +50,8 @@ impl Drop for TreeFixture {
     }
 }
 
-// Puts the objects at the first places into a new tree, as many as that, each behind all members.
-fn filled(links: &mut LinkOps, members: usize) -> RBTree<OwnKey>
+/// Puts the objects at the first places into a new tree, as many as that, each behind all members, or in front of them.
+pub(crate) fn filled(links: &mut LinkOps, members: usize, in_front: bool) -> RBTree<OwnKey>
     requires { members ≤ 8 }
     ensures shown { PlainShowsSome links.new (root_of result) }
 {
@@ -59,7 +59,11 @@ fn filled(links: &mut LinkOps, members: usize) -> RBTree<OwnKey>
     for index in 0..members {
         if index < links.covers() {
             let mut cursor = tree.cursor_mut(links);
-            let _ = cursor.insert_before(reference(index));
+            let _ = if in_front {
+                cursor.insert_after(reference(index))
+            } else {
+                cursor.insert_before(reference(index))
+            };
         }
     }
     tree
@@ -73,7 +77,7 @@ pub(crate) fn tree_of(rt: &impl Abort, alloc: Global, members: usize) -> TreeFix
     ensures shown { ShowsPlaced (PlainShows result.links (root_of result.tree)) result.objects }
 {
     let (objects, mut links) = eight_objects(alloc, TENS).expect(rt, "memory");
-    let tree = filled(&mut links, members);
+    let tree = filled(&mut links, members, false);
     assert!(rt; links.covers() == 8);
     assert!(rt; are_placed(&links, &objects));
     TreeFixture {

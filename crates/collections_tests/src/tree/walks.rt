@@ -1,44 +1,85 @@
 //! A walk over the objects of a tree whose keys are in a range, and one that takes members off.
 
 ghost use Rattle.ic_link_ops.specs.PlacedObjects.{ShowsPlaced};
-ghost use Rattle.ic_rbtree.specs.PlainTrees.{PlainShows, PlainShowsSome};
+ghost use Rattle.ic_link_ops.specs.RedBlackTree.{Shows};
+ghost use Rattle.ic_rbtree.specs.PlainTrees.{PlainShowsSome};
 ghost use Rattle.ic_rbtree.specs.Tree.{root_of};
 
-use crate::notes::{assert_words, write_object, write_values};
-use crate::tree::trees::{TreeFixture, tree_of};
-use ic_rbtree::Bound;
+use crate::lists::free_each;
+use crate::notes::{assert_words, write_object};
+use crate::tree::trees::{OwnKey, TreeFixture, filled, tree_of};
+use ic_link_ops::rbtree::RBTreeOps;
+use ic_rbtree::{Bound, RBTree};
+use ic_test_support::answers::value;
 use ic_test_support::notes::Text;
 use ic_test_support::tables::write_linked;
+use ic_unsafe_ref::Objects;
 
 // Notes what the walk from 20 on and below 40 gives: one at the back, one at the front, and none.
-fn write_range(notes: &mut Text, fixture: &TreeFixture)
-    requires { ShowsPlaced (PlainShows fixture.now.links (root_of fixture.now.tree)) fixture.now.objects }
+fn write_range<'a, L: RBTreeOps>(
+    notes: &mut Text,
+    tree: &RBTree<OwnKey>,
+    links: &'a L,
+    objects: &'a Objects<u64>,
+)
+    requires { ShowsPlaced (Shows L.node (L.table links.now) (root_of tree.now)) objects.now }
 {
     let (from, below) = (Bound::Included(&20), Bound::Excluded(&40));
-    let mut walk = fixture
-        .tree
-        .range(&fixture.links, &fixture.objects, from, below);
-    write_values(notes, &[walk.next_back(), walk.next(), walk.next_back()]);
+    let mut walk = tree.range(links, objects, from, below);
+    notes.add(value(walk.next_back()), " ");
+    notes.add(value(walk.next()), " ");
+    notes.add(value(walk.next_back()), " ");
 }
 
-// Takes a member off at each end, and notes them and what is linked then, and when the walk is dropped.
-fn write_taken(notes: &mut Text, fixture: &mut TreeFixture)
+// How many members a walk is over that takes them off, whether it takes the last one off behind the first, and whether it is finished then, or
+// dropped.
+const TAKEN: &[(usize, bool, bool)] = &[
+    (7, true, true),
+    (7, true, false),
+    (2, false, true),
+    (0, true, true),
+    (4, false, false),
+];
+
+// Takes the first member off, and the last one too if that is said, notes them and what is linked then, and finishes the walk or drops it.
+fn write_taken(notes: &mut Text, fixture: &mut TreeFixture, from_back: bool, finishes: bool)
     requires shown { PlainShowsSome fixture.old.links (root_of fixture.old.tree) }
 {
     let mut rest = fixture.tree.take().into_iter(&mut fixture.links);
     write_object(notes, rest.next());
-    write_object(notes, rest.next_back());
+    if from_back {
+        write_object(notes, rest.next_back());
+    }
     write_linked(notes, rest.links());
-    drop(rest);
-    write_linked(notes, &fixture.links);
+    if finishes {
+        rest.finish();
+    }
 }
 
 #[test]
 fn walks(rt: HostRuntime) {
     let alloc = rt.alloc();
     let mut notes = Text::new(alloc);
-    let mut fixture = tree_of(&rt, alloc, 7);
-    write_range(&mut notes, &fixture);
-    write_taken(&mut notes, &mut fixture);
-    assert_words(&rt, &notes, "30 20 none  0 6 1 2 3 4 5  1 2 3 4 5");
+    {
+        let fixture = tree_of(&rt, alloc, 7);
+        write_range(&mut notes, &fixture.tree, &fixture.links, &fixture.objects);
+    }
+    for (members, from_back, finishes) in TAKEN {
+        let mut fixture = tree_of(&rt, alloc, *members % 8);
+        write_taken(&mut notes, &mut fixture, *from_back, *finishes);
+        notes.word("then ");
+        free_each(&rt, &mut notes, &mut fixture.links);
+        let _ = filled(&mut fixture.links, *members % 8, false);
+        write_linked(&mut notes, &fixture.links);
+    }
+    assert_words(
+        &rt,
+        &notes,
+        "30 20 none
+        0 6 1 2 3 4 5 then 0 1 2 3 4 5 6
+        0 6 1 2 3 4 5 then 1 2 3 4 5 2 3 4 5 3 4 5 4 5 5 0 1 2 3 4 5 6
+        0 1 then 0 1
+        none none then
+        0 1 2 3 then 1 2 3 2 3 3 0 1 2 3",
+    );
 }

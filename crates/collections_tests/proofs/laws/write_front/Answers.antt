@@ -3,9 +3,9 @@ use Rattle.ic_link_ops.specs.Positions.{site}
 use Rattle.collections_tests.proofs.laws.write_front.Goals as goal
 
 pub contains-is_member-requires : goal.contains-is_member-requires
-contains-is_member-requires c =
+contains-is_member-requires g c =
     let s = c.requires.shown in
-    let old = site c.args.fixture.now.links c.args.fixture.now.list None in
+    let old = site c.args.links.now c.args.list.now None in
     let pushed = site c.push_front.new.links c.push_front.new.self None in
     let new = site c.pop_front.new.links c.pop_front.new.self None in
     let law = c.push_then_pop_front.ensures old pushed new c.reference-object.result c.pop_front.result s.0 s.1 in

@@ -5,6 +5,5 @@ use Rattle.collections_tests.proofs.neighbors.second.Goals as goal
 
 pub returns : goal.returns
 returns g c =
-    let f = c.front-cursor.ensures in
-    let h = member_behind (stands (f.kept c.requires.shown)) c.move_next.ensures.moved (sym c.clone_pointer.ensures ∙ c.expect.ensures) in
-    rw (c.clone_pointer-first.ensures, ← f.list, ← f.links) h
+    let h = member_behind (stands c.requires.stands) c.move_next.ensures.moved (sym c.clone_pointer.ensures ∙ c.expect.ensures) in
+    rw c.clone_pointer-first.ensures h

@@ -1,0 +1,75 @@
+//! The shape of a tree, as the table of its links has it.
+
+ghost use Rattle.std.specs.Prelude.{◌≡◌, ◌<◌};
+ghost use Rattle.ic_rbtree.specs.PlainTrees.{plain_table, PlainShowsSome};
+ghost use Rattle.ic_rbtree.specs.Tree.{root_of};
+
+use crate::notes::assert_words;
+use crate::tree::trees::{TreeFixture, filled, tree_of};
+use ic_link_ops::rbtree::LinkOps;
+use ic_rbtree::{Color, RBTreeOps};
+use ic_test_support::answers::{number, write_places};
+use ic_test_support::notes::{Answer, Text};
+use ic_test_support::objects::reference;
+use ic_unsafe_ref::Place;
+
+// Notes what the table says of each place: `3b 1 none 19` for a black 3 with 1 on the left, nothing on the right, and 19 as its third word.
+// Of a place that is not linked it notes the word alone.
+fn write_links(notes: &mut Text, links: &LinkOps) {
+    for index in 0..links.covers() {
+        let Some(place) = Place::new(index) else {
+            return;
+        };
+        if links.is_linked(place) {
+            let color = match links.color(place) {
+                Color::Red => "r ",
+                Color::Black => "b ",
+            };
+            notes.add(number(place), color);
+            write_places(notes, &[links.left(place), links.right(place)]);
+        }
+        notes.add(Answer::Number(links.link(place).words()[2]), " ");
+    }
+}
+
+// Takes the member out, if it is one, and notes where the cursor goes on, and the shape.
+fn write_without(notes: &mut Text, fixture: &mut TreeFixture, leaving: usize)
+    requires few { leaving < 8 }
+    requires covers { (plain_table fixture.old.links).extent.places ≡ 8 }
+    requires shown { PlainShowsSome fixture.old.links (root_of fixture.old.tree) }
+{
+    let object = reference(leaving);
+    if fixture.tree.contains(&fixture.links, object.place()) {
+        let mut cursor = fixture.tree.cursor_mut_from_ptr(&mut fixture.links, object);
+        let _ = cursor.remove();
+        write_places(notes, &[cursor.get_ptr()]);
+    }
+    write_links(notes, &fixture.links);
+}
+
+// Which of the seven members leaves, and 7 if none does.
+const LEAVING: &[usize] = &[7, 0, 3, 1, 6];
+
+// Seven members that came in rising order, all of them and without the first, the root's right child, the root and a red leaf; and seven
+// that came in falling order.
+#[test]
+fn shapes(rt: HostRuntime) {
+    let alloc = rt.alloc();
+    let mut notes = Text::new(alloc);
+    for leaving in LEAVING {
+        write_without(&mut notes, &mut tree_of(&rt, alloc, 7), *leaving % 8);
+    }
+    let mut fixture = tree_of(&rt, alloc, 0);
+    fixture.tree = filled(&mut fixture.links, 7, true);
+    write_links(&mut notes, &fixture.links);
+    assert_words(
+        &rt,
+        &notes,
+        "0b none none 11  1b 0 3 3  2b none none 19  3r 2 5 10  4r none none 26  5b 4 6 19  6r none none 26  0
+        1  0  1b none 2 19  2r none none 10  3b 1 5 3  4r none none 26  5b 4 6 19  6r none none 26  0
+        4  0b none none 11  1b 0 4 3  2b none none 23  0  4r 2 5 10  5b none 6 23  6r none none 26  0
+        2  0b none none 15  0  2b 0 5 3  3b none 4 27  4r none none 18  5r 3 6 14  6b none none 27  0
+        none  0b none none 11  1b 0 3 3  2b none none 19  3r 2 5 10  4r none none 26  5b 4 none 19  0  0
+        0b none none 11  1b 3 0 3  2b none none 19  3r 5 2 10  4r none none 26  5b 6 4 19  6r none none 26  0",
+    );
+}

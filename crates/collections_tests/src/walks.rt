@@ -1,0 +1,109 @@
+//! Walks over lists: over the objects from both ends, and those that take members off and are dropped.
+
+ghost use Rattle.std.specs.Prelude.{◌≡◌};
+ghost use Rattle.ic_link_ops.specs.Chains.{ShowsChain, ShowsSomeChain};
+ghost use Rattle.ic_link_ops.specs.PlacedObjects.{ShowsPlaced};
+ghost use Rattle.ic_link_ops.specs.PlainTables.{table};
+ghost use Rattle.ic_chain.specs.Iter.{CanWalk};
+
+use crate::doubly::DoublyFixture;
+use crate::lists::{ListFixture, filled, free_each, list_of};
+use crate::notes::{assert_words, write_object};
+use crate::singly::SinglyFixture;
+use crate::xor::XorFixture;
+use ic_chain::{BidirectionalLinks, Chain, DoubleEnded, ForwardLinks, Iter};
+use ic_link_ops::{LinkOps, PlainTable, Words};
+use ic_test_support::answers::value;
+use ic_test_support::notes::Text;
+use ic_test_support::tables::write_linked;
+use ic_unsafe_ref::{Objects, UnsafeRef};
+use std::process::Abort;
+
+// Notes what a walk gives: one at the front, two at the back, one at the front, and then one at either end.
+fn write_walk<'a, K: DoubleEnded + BidirectionalLinks<L>, L: LinkOps>(
+    notes: &mut Text,
+    list: &Chain<K, u64>,
+    links: &'a L,
+    objects: &'a Objects<u64>,
+)
+    requires { ShowsPlaced (ShowsChain K.Between K.kept (L.table links.now) list.now) objects.now }
+{
+    let mut walk = list.iter(links, objects);
+    notes.add(value(walk.next()), " ");
+    notes.add(value(walk.next_back()), " ");
+    notes.add(value(walk.next_back()), " ");
+    notes.add(value(walk.next()), " ");
+    write_ends(notes, walk);
+}
+
+// Notes what a walk gives at either end.
+fn write_ends<K: DoubleEnded + BidirectionalLinks<L>, L: LinkOps>(
+    notes: &mut Text,
+    mut walk: Iter<'_, K, u64, L>,
+)
+    requires can { CanWalk K.keeps_last K.Between L.table (λ objects. objects) walk }
+{
+    notes.add(value(walk.next()), " ");
+    notes.add(value(walk.next_back()), " ");
+}
+
+// Four members of a doubly linked list, after which neither end gives one, and six of an XOR list.
+#[test]
+fn walks_from_both_ends(rt: HostRuntime) {
+    let alloc = rt.alloc();
+    let mut notes = Text::new(alloc);
+    {
+        let doubly: DoublyFixture = list_of(&rt, alloc, 4);
+        write_walk(&mut notes, &doubly.list, &doubly.links, &doubly.objects);
+    }
+    let xor: XorFixture = list_of(&rt, alloc, 6);
+    write_walk(&mut notes, &xor.list, &xor.links, &xor.objects);
+    assert_words(&rt, &notes, "10 40 30 20 none none  10 60 50 20 30 40");
+}
+
+// Takes the first member off, by a walk that is dropped then.
+fn take_first<K: ForwardLinks<L>, L: LinkOps>(
+    list: Chain<K, u64>,
+    links: &mut L,
+) -> Option<UnsafeRef<u64>>
+    requires shown { ShowsSomeChain K.Between K.kept (L.table links.old) list }
+{
+    let mut rest = list.into_iter(links);
+    rest.next()
+}
+
+// Does so, and notes that member, what is linked then, and again after each of the rest is unlinked by force. Puts all in again, and notes
+// what is linked.
+fn write_dropped<K: ForwardLinks<PlainTable<W>>, W: Words>(
+    rt: &impl Abort,
+    notes: &mut Text,
+    fixture: &mut ListFixture<K, W>,
+)
+    requires shown { ShowsSomeChain K.Between K.kept (table W.unlinked fixture.old.links) fixture.old.list }
+{
+    let first = take_first(fixture.list.take(), &mut fixture.links);
+    write_object(notes, first);
+    free_each(rt, notes, &mut fixture.links);
+    fixture.list = filled(&mut fixture.links, 4);
+    write_linked(notes, &fixture.links);
+}
+
+// One list of each kind, with four members.
+#[test]
+fn walks_that_are_dropped(rt: HostRuntime) {
+    let alloc = rt.alloc();
+    let mut notes = Text::new(alloc);
+    let mut singly: SinglyFixture = list_of(&rt, alloc, 4);
+    write_dropped(&rt, &mut notes, &mut singly);
+    let mut doubly: DoublyFixture = list_of(&rt, alloc, 4);
+    write_dropped(&rt, &mut notes, &mut doubly);
+    let mut xor: XorFixture = list_of(&rt, alloc, 4);
+    write_dropped(&rt, &mut notes, &mut xor);
+    assert_words(
+        &rt,
+        &notes,
+        "0 1 2 3 2 3 3 0 1 2 3
+        0 1 2 3 2 3 3 0 1 2 3
+        0 1 2 3 2 3 3 0 1 2 3",
+    );
+}

@@ -1,0 +1,51 @@
+//! The words of the links of an XOR list: each is the exclusive or of the neighbors' numbers, which are `2 * (index + 1)` for a place and
+//! 0 for none. The word 1 says that a place is unlinked.
+
+use crate::lists::{ListFixture, list_of};
+use crate::notes::{assert_words, write_object};
+use crate::xor::XorFixture;
+use ic_link_ops::rbtree::ThreeWords;
+use ic_link_ops::xor_linked_list::LinkOps;
+use ic_test_support::notes::{Answer, Text};
+use ic_test_support::objects::place_at;
+use ic_unsafe_ref::Place;
+use ic_xor_linked_list::XorLinked;
+
+// Notes the words of all places that are covered.
+fn write_words(notes: &mut Text, links: &LinkOps) {
+    for index in 0..links.covers() {
+        if let Some(place) = Place::new(index) {
+            notes.add(Answer::Number(links.link(place).word()), " ");
+        }
+    }
+}
+
+// A list of the places 0, 1 and 2, and when 1 was taken off.
+#[test]
+fn words_of_an_xor_list(rt: HostRuntime) {
+    let alloc = rt.alloc();
+    let mut notes = Text::new(alloc);
+    let mut fixture: XorFixture = list_of(&rt, alloc, 3);
+    write_words(&mut notes, &fixture.links);
+    {
+        let mut cursor = fixture.list.front_mut(&mut fixture.links);
+        cursor.move_next();
+        write_object(&mut notes, cursor.remove());
+    }
+    write_words(&mut notes, &fixture.links);
+    assert_words(&rt, &notes, "4 4 4 1 1 1 1 1  1  6 1 2 1 1 1 1 1");
+}
+
+// The same list in the table of a tree: the words on the right, and the third ones, which say that a place is linked, black and below none.
+#[test]
+fn words_of_an_xor_list_in_a_tree_table(rt: HostRuntime) {
+    let alloc = rt.alloc();
+    let mut notes = Text::new(alloc);
+    let fixture: ListFixture<XorLinked, ThreeWords> = list_of(&rt, alloc, 3);
+    for index in 0..3 {
+        let [_, right, third] = fixture.links.link(place_at(index)).words();
+        notes.add(Answer::Number(right), " ");
+        notes.add(Answer::Number(third), " ");
+    }
+    assert_words(&rt, &notes, "4 3  4 3  4 3");
+}
