@@ -186,6 +186,7 @@ def pop_back(world, number):
 
 
 def splice(world, number, given, gap):
+    """The outcome of a splice of the given collection into a gap. The first cursor stays, and the other is null."""
     it, other = world.collections[number], world.collections[given]
     if it.kind not in LISTS or it.kind != other.kind or gap is gap_before and it.kind == "singly":
         return refused(4, world)
@@ -251,12 +252,12 @@ def seek(world, number, at):
 
 
 def seek_beside(world, number, at, neighbor, neighbor_of):
+    """The outcome of a seek that names a neighbor, which is none beyond an end."""
     it = world.collections[number]
     if at not in it.members:
         return refused(8, world)
-    # an end has none beside it, so from there a step leads nowhere
-    beside = neighbor_of(it._replace(cursor=at))
-    return answered("ok", at_cursor(world, number, at)) if neighbor == beside else refused(9, world)
+    is_beside = neighbor == neighbor_of(it._replace(cursor=at))
+    return answered("ok", at_cursor(world, number, at)) if is_beside else refused(9, world)
 
 
 def seek_with_prev(world, number, at, neighbor):
@@ -288,6 +289,7 @@ def remove_next(world, number):
 
 
 def replaced(world, number, old, at, cursor):
+    """The outcome where an object is put in the place of a member, or of none, with the cursor then."""
     it = world.collections[number]
     if old is None:
         return refused(7, world)
@@ -306,7 +308,8 @@ def replace_next_with(world, number, at):
     return replaced(world, number, next_of(it), at, it.cursor)
 
 
-# Keys. A bound is a word and, unless it is `unbounded`, a key.
+# Keys. A bound is a word and, unless it is `unbounded`, a key. In a tree whose keys are in order there is one border of each bound, and one gap for
+# a key. In another there may be several, and a search may end at each.
 
 
 def descent(world, number, bound=("included", 0)):
@@ -356,6 +359,7 @@ def upper_bound(world, number, bound):
 
 
 def range_of(world, number, low, high):
+    """The outcomes of a range, which is from a lower border to an upper one whose key is not smaller."""
     keys, members = keys_of(world, number), world.collections[number].members
     looks = descent(world, number, low), descent(world, number, high)
     answers = set()
@@ -374,6 +378,7 @@ def keyed_gaps(keys, key):
 
 
 def insert(world, number, at):
+    """The outcomes of an insert by key, which puts the cursor on the object."""
     if is_linked_in(world, number, at):
         return refused(10, world)
     looks = (descent(world, number),)
@@ -387,6 +392,7 @@ def cursor_insert(world, number, at):
 
 
 def entry(world, number, key, at):
+    """The outcomes of an entry, which is occupied if the member at the lower border has the key. The cursor is on the object that it names."""
     it, keys, looks = world.collections[number], keys_of(world, number), (descent(world, number),)
     outcomes = []
     for gap in lower_borders(keys, ("included", key)):
