@@ -1,11 +1,11 @@
-//! What follows of several calls of an XOR list together, each law as the contract of a function: those of every list, and that a list
-//! is turned round.
+//! What follows of several calls of an XOR list together, each law as the contract of a function: those of every list, that a list
+//! is turned round, and that two turns of it are none.
 //!
 //! ```text
 //! laws::reversed_is_shown(&mut list, &links); // its members in the opposite order
 //! ```
 
-ghost use Rattle.std.specs.Prelude.{List, reverse};
+ghost use Rattle.std.specs.Prelude.{◌≡◌, List, reverse};
 ghost use Rattle.ic_unsafe_ref.specs.declared.place.Place.{Place};
 ghost use Rattle.ic_link_ops.specs.XorLinkedList.{Shows};
 
@@ -15,7 +15,7 @@ pub use ic_chain::laws::{
 };
 use ic_link_ops::xor_linked_list::XorLinkedListOps;
 
-/// Turns a list round: a table that showed a sequence for it shows that sequence turned round. Turned round twice, it is what it was.
+/// Turns a list round: a table that showed a sequence for it shows that sequence turned round.
 ///
 /// No entry says which of its neighbors is in front. O(1), and the table is not written.
 pub fn reversed_is_shown<T, L: XorLinkedListOps>(list: &mut XorLinkedList<T>, links: &L)
@@ -24,4 +24,16 @@ pub fn reversed_is_shown<T, L: XorLinkedListOps>(list: &mut XorLinkedList<T>, li
 {
     let _ = links;
     list.reverse();
+}
+
+/// Turns a list round twice, and returns it as it was: what a table showed for it, it shows still.
+///
+/// It is handed no table, so no entry is written. O(1).
+pub fn reversed_twice<T>(list: XorLinkedList<T>) -> XorLinkedList<T>
+    ensures { result ≡ list }
+{
+    let mut twice = list;
+    twice.reverse();
+    twice.reverse();
+    twice
 }
