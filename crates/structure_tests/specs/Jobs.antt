@@ -1,8 +1,8 @@
 -- Jobs, and the lane of each.
 use Rattle.std.specs.Prelude.{ℕ}
-use Rattle.structure_tests.specs.declared.containers.job_queue.Job.{Job}
-use Rattle.structure_tests.specs.declared.containers.job_queue.Priority.{Priority}
-use Rattle.structure_tests.specs.declared.containers.job_queue.Priority.TheVariants.{Urgent, High, Normal, Low}
+use Rattle.structure_tests.specs.declared.containers.job.Job.{Job}
+use Rattle.structure_tests.specs.declared.containers.job.Priority.{Priority}
+use Rattle.structure_tests.specs.declared.containers.job.Priority.TheVariants.{Urgent, High, Normal, Low}
 
 -- the lane of a priority
 abbrev pub lane_of : Priority → ℕ

@@ -7,9 +7,13 @@
 //! queue.pop() // the first of the most urgent ones
 //! ```
 
+mod job;
+#[cfg(test)]
 mod job_queue;
 
-pub use job_queue::{Job, JobQueue, Priority};
+pub use job::{Job, Priority};
+#[cfg(test)]
+pub use job_queue::JobQueue;
 
 #[cfg(test)]
 mod tests;

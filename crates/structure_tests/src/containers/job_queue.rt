@@ -6,14 +6,15 @@
 //! let first = queue.pop(); // 1
 //! ```
 
-ghost use Rattle.std.specs.Prelude.{◌≡◌, ◌<◌, ℕ, None, IfOk, IfErr, IfSome, IfNone, [], List};
+ghost use Rattle.std.specs.Prelude.{◌≡◌, ℕ, None, IfOk, IfErr, IfSome, IfNone, [], List};
 ghost use Rattle.std.specs.Bool.{OnTrue, OnFalse};
 ghost use Rattle.ic_unsafe_ref.specs.Objects.{object_at};
 ghost use Rattle.ic_link_ops.specs.Chains.{no_members};
 ghost use Rattle.ic_container.specs.Lanes.{lane, lane_at, IsEmpty, IsUnchanged, Pushes, Renews, TakesFirst, TakesOut};
 ghost use Rattle.ic_pool.specs.Refusals.{value_of};
-ghost use Rattle.structure_tests.specs.Jobs.{job_of, lane_of, lane_of_job};
+ghost use Rattle.structure_tests.specs.Jobs.{job_of, lane_of_job};
 
+use crate::containers::{Job, Priority};
 use ic_container::lanes;
 use ic_link_ops::linked_list::LinkOps;
 use ic_linked_list::LinkedList;
@@ -22,37 +23,6 @@ use ic_unsafe_ref::UnsafeRef;
 use std::alloc::{Allocator, Global};
 use std::array;
 use std::marker::Model;
-
-/// How urgent a job is.
-#[derive(Clone, Copy, PartialEq, Eq, Debug)]
-pub enum Priority {
-    Urgent,
-    High,
-    Normal,
-    Low,
-}
-
-impl Priority {
-    /// The lane of this priority, 0 to 3. O(1).
-    pub fn lane(self) -> usize
-        ensures value { result ≡ lane_of self }
-        ensures small { result < 4 }
-    {
-        match self {
-            Priority::Urgent => 0,
-            Priority::High => 1,
-            Priority::Normal => 2,
-            Priority::Low => 3,
-        }
-    }
-}
-
-/// A job as it is placed.
-#[derive(Drop)]
-pub struct Job<V> {
-    pub priority: Priority,
-    pub value: V,
-}
 
 /// Jobs that wait, the urgent ones first.
 ///
@@ -66,7 +36,7 @@ pub struct JobQueue<V, A: Allocator = Global> {
 impl<V, A: Allocator> Model for JobQueue<V, A> {
     ghost use Rattle.std.specs.Coded.{codes};
     ghost use Rattle.ic_container.specs.Lanes.{Lanes, lanes_code, lanes_of, IsLaned};
-    ghost use Rattle.structure_tests.specs.declared.containers.job_queue.Job.{Job};
+    ghost use Rattle.structure_tests.specs.declared.containers.job.Job.{Job};
     ghost use Rattle.structure_tests.specs.Jobs.{lane_of_job};
 
     ghost Value = { Lanes (Job V) };

@@ -1,0 +1,35 @@
+//! A job, and how urgent it is.
+
+ghost use Rattle.std.specs.Prelude.{◌≡◌, ◌<◌};
+ghost use Rattle.structure_tests.specs.Jobs.{lane_of};
+
+/// How urgent a job is.
+#[derive(Clone, Copy, PartialEq, Eq, Debug)]
+pub enum Priority {
+    Urgent,
+    High,
+    Normal,
+    Low,
+}
+
+impl Priority {
+    /// The lane of this priority, 0 to 3. O(1).
+    pub fn lane(self) -> usize
+        ensures value { result ≡ lane_of self }
+        ensures small { result < 4 }
+    {
+        match self {
+            Priority::Urgent => 0,
+            Priority::High => 1,
+            Priority::Normal => 2,
+            Priority::Low => 3,
+        }
+    }
+}
+
+/// A job as it is placed.
+#[derive(Drop)]
+pub struct Job<V> {
+    pub priority: Priority,
+    pub value: V,
+}
