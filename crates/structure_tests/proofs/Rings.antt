@@ -1,16 +1,17 @@
 -- Rings after a call of a test: what the members are then, and that each object is placed.
-use Rattle.std.proofs.Common.{◌≡◌, ◌≢◌, ◌<◌, true, Option, Some, None, List, [], ◌∷◌, ◌++◌, Result, Ok, Err, OnOk, OnErr, OnSome, drop, refl, sym, ap, ◌∙◌, subst, append_assoc}
+use Rattle.std.proofs.Common.{◌≡◌, ◌≢◌, ◌<◌, true, Option, Some, None, List, [], ◌∷◌, ◌++◌, Result, Ok, Err, OnOk, OnErr, OnSome, drop, refl, sym, ap, ◌∙◌, subst, append_assoc, append-nil}
 use Rattle.ic_unsafe_ref.specs.declared.place.Place.{Place}
 use Rattle.ic_unsafe_ref.specs.Places.{index_of}
 use Rattle.ic_unsafe_ref.specs.Objects.{Objects, is_placed}
-use Rattle.ic_link_ops.specs.Sequences.{IsAbsent, IsDisjoint, first, first_or, last, but_last}
+use Rattle.ic_link_ops.specs.Sequences.{Cut, join, IsAbsent, IsDisjoint, first, first_or, last, last_or, but_last}
 use Rattle.ic_link_ops.specs.Tables.{Table, Extent, IsCovered}
 use Rattle.ic_link_ops.specs.LinkedList.{Neighbors, IsChain}
 use Rattle.ic_link_ops.specs.PlacedObjects.{ArePlaced, ShowsPlaced}
-use Rattle.ic_link_ops.proofs.SequenceLemmas.{first_is, split_last, disjoint_sym, absent_right, absent_swap, absent_turned, last_of_push, some_same, none_not}
-use Rattle.ic_ring.specs.Rings.{IsCircle, Shows, InRing}
-use Rattle.ic_ring.specs.RingCursors.{IsOn}
+use Rattle.ic_link_ops.proofs.SequenceLemmas.{first_is, split_last, disjoint_sym, disjoint_right, absent_right, absent_swap, absent_turned, last_of_push, some_same, none_not}
+use Rattle.ic_ring.specs.Rings.{IsCircle, Shows, InRing, OthersStay}
+use Rattle.ic_ring.specs.RingCursors.{IsOn, IsBefore}
 use Rattle.ic_ring.proofs.Circles.{circles_apart, seen_from, rotated}
+use Rattle.structure_tests.specs.TwoRings.{TwoRings}
 
 -- WHATEVER A CALL ANSWERED that may refuse an object
 pub either_way : {A X P Q Goal : Type 0} (r : Result A X) → OnOk r P → OnErr r Q → (P → Goal) → (Q → Goal) → Goal
@@ -91,3 +92,35 @@ on_first head h e (x ∷ s) (Some p) on is out = ap Some on.0 ∙ is
 pub holds_there : {P : Type 0} (r : Option Place) {x : Place} → r ≡ Some x → OnSome r P → P
 holds_there None e holds = absurd (none_not _ e)
 holds_there (Some y) e holds = holds
+
+module _ {E : Type 0} (n : E → Neighbors) where
+  -- THE TWO RINGS STAY where the first one changes, and only rings that have one of these places
+  pub kept : (old new : Table E) {h k : Place} (places : List Place) (two : TwoRings n old h k) → new.extent ≡ old.extent → InRing n new h → OthersStay n old new places
+      → IsDisjoint places (k ∷ two.apart.0) → TwoRings n new h k
+  kept old new places two extent ring others out = record { covers = places_of extent two.covers; shown = ring; apart = (two.apart.0, others.rings _ two.apart.1 out, two.apart.2) }
+
+  -- the first member is not in the second ring, nor is the last one
+  pub first_outside : (t : Table E) {h k p : Place} (s : List Place) (two : TwoRings n t h k) → Shows n t h (p ∷ s) → IsAbsent p (k ∷ two.apart.0)
+  first_outside t {h} {k} {p} s two shown = (circles_apart (k ∷ two.apart.0) h (p ∷ s) two.apart.1 shown two.apart.2).1.0
+
+  pub last_outside : (t : Table E) {h k p : Place} (s : List Place) (two : TwoRings n t h k) → Shows n t h (s ++ p ∷ []) → IsAbsent p (k ∷ two.apart.0)
+  last_outside t {h} {k} {p} s two shown =
+      let u = k ∷ two.apart.0 in
+      let apart = (circles_apart u h (s ++ p ∷ []) two.apart.1 shown two.apart.2).1 in
+      (disjoint_sym u (p ∷ []) (disjoint_right u s (p ∷ []) (disjoint_sym (s ++ p ∷ []) u apart))).0
+
+  -- the same for a cursor, whose ring is named by the head that it keeps
+  pub kept_by : (old new : Table E) {h k before after : Place} (s : List Place) → before ≡ h → after ≡ h → TwoRings n old h k → new.extent ≡ old.extent → Shows n new after s
+      → OthersStay n old new (before ∷ []) → TwoRings n new h k
+  kept_by old new {h} {k} {before} {after} s e f two extent shown others =
+      kept old new (before ∷ []) two extent (s, subst (λ h. Shows n new h s) f shown) others (subst (λ p. IsAbsent p (k ∷ two.apart.0)) (sym e) two.apart.2, tt)
+
+  -- where both rings were changed
+  pub both_shown : (new : Table E) {h k after : Place} (s u : List Place) → after ≡ h → new.extent.places ≡ 8 → Shows n new after s → Shows n new k u → IsAbsent h (k ∷ u) → TwoRings n new h k
+  both_shown new s u e covers shown other out = record { covers = covers; shown = (s, subst (λ h. Shows n new h s) e shown); apart = (u, other, out) }
+
+-- A GAP IN FRONT of a cursor that has one behind it
+pub gap_before : (h : Place) {at : Place} (front back : List Place) → Some at ≡ last_or (Some h) front → (gap : Cut) × (join gap ≡ front ++ back) × IsBefore h gap at
+gap_before h [] back e = (record { front = back; back = [] }, append-nil back, e)
+gap_before h {at} (x ∷ s) back e =
+    (record { front = but_last (x ∷ s); back = at ∷ back }, (sym (append_assoc (but_last (x ∷ s)) (at ∷ []) back) ∙ ap (λ f. f ++ back) (sym (split_last (x ∷ s) (sym e)))), refl)

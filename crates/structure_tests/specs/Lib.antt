@@ -1,1 +1,2 @@
 pub mod Jobs
+pub mod TwoRings

@@ -1,17 +1,15 @@
-//! A ring over places that are claimed.
+//! Rings over places that are claimed.
 
 ghost use Rattle.std.specs.Prelude.{◌≡◌, [], All};
 ghost use Rattle.ic_link_ops.specs.DoublyEntries.{plain_table};
 ghost use Rattle.ic_atomic.specs.AtomicLinks.{links_of};
 ghost use Rattle.ic_atomic.specs.Holders.{places_of, record_of, IsOf};
 
-use crate::asserts::assert_true;
 use crate::ring;
 use ic_atomic::linked_list::AtomicLinkOps;
 use ic_atomic::{Claims, Holder};
 use ic_link_ops::PlainTable;
 use ic_link_ops::linked_list::LinkOps;
-use ic_test_support::notes::Text;
 use ic_test_support::objects::{TENS, eight_objects};
 use std::alloc::Global;
 use std::process::Abort;
@@ -34,12 +32,10 @@ fn claimed_links<'c>(
 }
 
 #[test]
-fn one_ring_over_claims(rt: HostRuntime) {
+fn two_rings_over_claims(rt: HostRuntime) {
     let alloc = rt.alloc();
-    let mut notes = Text::new(alloc);
     let (objects, _): (_, LinkOps) = eight_objects(alloc, TENS).expect(&rt, "memory");
     let (claims, mut holders) = Claims::new(alloc, 8, 1).expect(&rt, "claims");
     let mut links = claimed_links(&rt, alloc, &claims, &mut holders);
-    ring::write_edits(&rt, &mut notes, &mut links, &objects);
-    assert_true(&rt, notes.has_words(ring::EDITS));
+    ring::play(&rt, alloc, &mut links, &objects, ring::ROWS);
 }

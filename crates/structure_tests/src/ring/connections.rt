@@ -1,15 +1,20 @@
 //! Connections in queues: one that closes leaves its queue, and nobody has to know which that is.
 
-ghost use Rattle.std.specs.Prelude.{◌≡◌, ◌≢◌, ◌∷◌, ◌++◌, List, [], IfSome};
+ghost use Rattle.std.specs.Prelude.{◌≡◌, ◌≢◌, ◌<◌, ◌∷◌, ◌++◌, List, [], IfSome, Some, true};
 ghost use Rattle.ic_unsafe_ref.specs.declared.place.Place.{Place};
+ghost use Rattle.ic_unsafe_ref.specs.Objects.{is_placed};
+ghost use Rattle.ic_unsafe_ref.specs.Places.{index_of};
 ghost use Rattle.ic_link_ops.specs.LinkSteps.{releases};
-ghost use Rattle.ic_link_ops.specs.Sequences.{at_back, at_front, first, insert, remove};
+ghost use Rattle.ic_link_ops.specs.Sequences.{IsMember, at_back, at_front, first, insert, remove};
 ghost use Rattle.ic_ring.specs.Rings.{InRing, Shows, ShowsBeside};
 
+use crate::ring::write_members;
 use ic_link_ops::LinkOps;
 use ic_link_ops::linked_list::LinkedListOps;
 use ic_ring::{Ring, remove};
-use ic_unsafe_ref::UnsafeRef;
+use ic_test_support::answers::{object, write_places};
+use ic_test_support::notes::{Answer, Text};
+use ic_unsafe_ref::{Objects, Place, UnsafeRef};
 
 /// The connection was used: it is the last of those that are idle, from whichever queue it was in.
 pub(crate) fn touch<L: LinkedListOps>(links: &mut L, idle: &Ring<u64>, connection: &UnsafeRef<u64>)
@@ -46,4 +51,116 @@ pub(crate) fn close_oldest<L: LinkedListOps>(
     ensures unlinked { IfSome result (λ connection. L.Does links.old links.new (releases connection ∷ [])) }
 {
     idle.pop_front(links)
+}
+
+// Closes the connection that is first in the queue, and says which is first then.
+fn close_first<L: LinkedListOps>(
+    links: &mut L,
+    queue: &Ring<u64>,
+) -> (Option<UnsafeRef<u64>>, Option<Place>)
+    requires queue { InRing L.neighbors (L.table links.old) queue.now }
+    ensures closed { (one : Place) (s : List Place) → Shows L.neighbors (L.table links.old) queue.now (one ∷ s)
+        → (result.0 ≡ Some one) × Shows L.neighbors (L.table links.new) queue.now s × (result.1 ≡ first s) }
+    ensures queue { InRing L.neighbors (L.table links.new) queue.now }
+    ensures extent { (L.table links.new).extent ≡ (L.table links.old).extent }
+{
+    let mut cursor = queue.cursor_mut(links);
+    cursor.move_next();
+    let closed = cursor.remove();
+    (closed, cursor.get_ptr())
+}
+
+// Whether the connection is the last one in the queue: whether the head stands behind it.
+fn is_last<L: LinkedListOps>(links: &L, queue: &Ring<u64>, connection: &UnsafeRef<u64>) -> bool
+    requires here { (r : List Place) × Shows L.neighbors (L.table links.now) queue.now r × IsMember connection.now (queue.now ∷ r) }
+    ensures last { (s : List Place) → Shows L.neighbors (L.table links.now) queue.now (s ++ connection.now ∷ []) → result ≡ true }
+{
+    let mut cursor = queue.cursor_at(links, connection.place());
+    cursor.move_next();
+    cursor.is_null()
+}
+
+// Closes the connection, and says which stood behind it, and whether none did.
+fn close_here<L: LinkedListOps>(
+    links: &mut L,
+    queue: &Ring<u64>,
+    connection: &UnsafeRef<u64>,
+) -> (Option<Place>, bool)
+    requires here { (r : List Place) × Shows L.neighbors (L.table links.old) queue.now r × IsMember connection.now (queue.now ∷ r) }
+    ensures queue { InRing L.neighbors (L.table links.new) queue.now }
+    ensures extent { (L.table links.new).extent ≡ (L.table links.old).extent }
+{
+    let mut cursor = queue.cursor_mut_at(links, connection.place());
+    let _ = cursor.remove();
+    (cursor.as_cursor().get_ptr(), cursor.is_null())
+}
+
+// Closes the last connection of the queue, if there is one: whether it was the last, what stood behind it, and whether that was none.
+fn close_last<L: LinkedListOps>(links: &mut L, queue: &Ring<u64>) -> (bool, Option<Place>, bool)
+    requires queue { InRing L.neighbors (L.table links.old) queue.now }
+    ensures queue { InRing L.neighbors (L.table links.new) queue.now }
+    ensures extent { (L.table links.new).extent ≡ (L.table links.old).extent }
+{
+    let Some(last) = queue.last(&*links) else {
+        return (false, None, true);
+    };
+    let connection = UnsafeRef::new(last);
+    let was_last = is_last(&*links, queue, &connection);
+    let (behind, is_none) = close_here(links, queue, &connection);
+    (was_last, behind, is_none)
+}
+
+// Moves the first member to the back, as `list_rotate_left` does.
+fn rotate_left<L: LinkedListOps>(links: &mut L, ring: &Ring<u64>)
+    requires covers { (L.table links.old).extent.places ≡ 8 }
+    requires shown { InRing L.neighbors (L.table links.old) ring.now }
+    ensures covers { (L.table links.new).extent.places ≡ 8 }
+    ensures shown { InRing L.neighbors (L.table links.new) ring.now }
+{
+    let Some(first) = ring.first(&*links) else {
+        return;
+    };
+    touch(links, ring, &UnsafeRef::new(first));
+}
+
+// Takes the first member out, with no ring named, as `list_del` does.
+fn remove_first<L: LinkedListOps>(links: &mut L, ring: &Ring<u64>)
+    requires covers { (L.table links.old).extent.places ≡ 8 }
+    requires shown { InRing L.neighbors (L.table links.old) ring.now }
+    ensures covers { (L.table links.new).extent.places ≡ 8 }
+    ensures shown { InRing L.neighbors (L.table links.new) ring.now }
+{
+    let Some(first) = ring.first(&*links) else {
+        return;
+    };
+    close(links, &UnsafeRef::new(first));
+}
+
+/// Serves a queue, and notes what the calls return.
+///
+/// The first connection is used, and the one that is first then closes itself; the members are noted. A cursor closes the next one, and says
+/// which is first then. Then the one that has been idle longest is closed, and last the last one.
+pub(crate) fn write_served<L: LinkedListOps>(
+    notes: &mut Text,
+    links: &mut L,
+    objects: &Objects<u64>,
+    queue: &Ring<u64>,
+)
+    requires covers { (L.table links.old).extent.places ≡ 8 }
+    requires placed { (q : Place) → index_of q < 8 → is_placed objects.now q ≡ true }
+    requires shown { InRing L.neighbors (L.table links.old) queue.now }
+    ensures covers { (L.table links.new).extent.places ≡ 8 }
+    ensures shown { InRing L.neighbors (L.table links.new) queue.now }
+{
+    rotate_left(links, queue);
+    remove_first(links, queue);
+    write_members(notes, &*links, objects, queue);
+    let (closed, first) = close_first(links, queue);
+    notes.add(object(closed), " ");
+    write_places(notes, &[first]);
+    notes.add(object(close_oldest(links, queue)), " ");
+    let (was_last, behind, is_none) = close_last(links, queue);
+    notes.add(Answer::Truth(was_last), " ");
+    write_places(notes, &[behind]);
+    notes.add(Answer::Truth(is_none), " ");
 }

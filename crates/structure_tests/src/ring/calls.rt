@@ -1,0 +1,229 @@
+//! The calls that the rows make, on a first ring and a second one.
+
+ghost use Rattle.std.specs.Prelude.{◌≡◌, ◌<◌};
+ghost use Rattle.ic_unsafe_ref.specs.declared.place.Place.{Place};
+ghost use Rattle.ic_unsafe_ref.specs.Places.{index_of};
+ghost use Rattle.ic_ring.specs.Rings.{InRing};
+ghost use Rattle.structure_tests.specs.TwoRings.{TwoRings};
+
+use ic_link_ops::linked_list::LinkedListOps;
+use ic_link_ops::{AlreadyLinked, LinkOps, ReplaceError};
+use ic_ring::{
+    Ring, exchange, insert_after, insert_before, move_after, move_before, remove, replace,
+};
+use ic_unsafe_ref::{Place, UnsafeRef};
+
+/// A call of the first ring, of its first member or of its last one. Some have the meaning of a call of Linux's lists, which is named.
+#[derive(Clone, Copy)]
+pub(crate) enum Call {
+    /// `list_add`
+    PushFront,
+    /// `list_add_tail`
+    PushBack,
+    PopFront,
+    PopBack,
+    Clear,
+    InsertBeforeFirst,
+    InsertAfterFirst,
+    /// `list_replace`
+    ReplaceFirst,
+    /// `list_del`
+    RemoveFirst,
+    /// `list_rotate_left`
+    MoveFirstToBack,
+    MoveLastToFront,
+}
+
+/// A call by a cursor on the first member of the first ring or on its last one. The last three take the second ring, too.
+#[derive(Clone, Copy)]
+pub(crate) enum At {
+    FirstInsertAfter,
+    LastInsertBefore,
+    FirstRemove,
+    LastReplaceWith,
+    FirstSpliceAfter,
+    LastSpliceBefore,
+    FirstSplitAfter,
+}
+
+/// A call of both rings.
+#[derive(Clone, Copy)]
+pub(crate) enum Pair {
+    /// Puts the object at the back of the second ring.
+    PushBack,
+    /// Moves the first member of the second ring to the back of the first one: `list_move_tail`
+    MoveFirstToBack,
+    /// Moves it to the front of the first ring: `list_move`
+    MoveFirstToFront,
+    /// Moves what stands behind the first member of the first ring to the front of the second one: `list_cut_position`, the other way round
+    SplitAfterFirst,
+    /// Moves all members of the second ring to the back of the first one: `list_splice_tail_init`
+    SpliceBack,
+}
+
+// The object that was refused, if one was.
+fn refused(put: Result<(), AlreadyLinked<u64>>) -> Option<UnsafeRef<u64>> {
+    match put {
+        Ok(()) => None,
+        Err(refused) => Some(refused.into_object()),
+    }
+}
+
+// The object that comes back: the one that was replaced, or the one that was refused.
+fn given_back(put: Result<UnsafeRef<u64>, ReplaceError<u64>>) -> Option<UnsafeRef<u64>> {
+    match put {
+        Ok(out) => Some(out),
+        Err(refused) => Some(refused.into_object()),
+    }
+}
+
+// The object that a cursor is on, if the cursor and one that reads, which is made of it, agree on its place.
+fn object_on(is_null: bool, at: Option<Place>, read: Option<Place>) -> Option<UnsafeRef<u64>> {
+    match at {
+        Some(place) if !is_null && read == at => Some(UnsafeRef::new(place)),
+        _ => None,
+    }
+}
+
+/// Makes a call of the first ring, and returns the object that comes back, if one does.
+pub(crate) fn call_ring<L: LinkedListOps>(
+    links: &mut L,
+    ring: &Ring<u64>,
+    call: Call,
+    place: Place,
+) -> Option<UnsafeRef<u64>>
+    requires few { index_of place < 8 }
+    requires two { (other : Place) × TwoRings L.neighbors (L.table links.old) ring.now other }
+    ensures two { (other : Place) → TwoRings L.neighbors (L.table links.old) ring.now other → TwoRings L.neighbors (L.table links.new) ring.now other }
+{
+    match call {
+        Call::PushFront => return refused(ring.push_front(links, UnsafeRef::new(place))),
+        Call::PushBack => return refused(ring.push_back(links, UnsafeRef::new(place))),
+        Call::PopFront => return ring.pop_front(links),
+        Call::PopBack => return ring.pop_back(links),
+        Call::Clear => ring.clear(links),
+        other => return call_member(links, ring, other, place),
+    }
+    None
+}
+
+// Makes a call of the first member or the last, if there is one.
+fn call_member<L: LinkedListOps>(
+    links: &mut L,
+    ring: &Ring<u64>,
+    call: Call,
+    place: Place,
+) -> Option<UnsafeRef<u64>>
+    requires few { index_of place < 8 }
+    requires two { (other : Place) × TwoRings L.neighbors (L.table links.old) ring.now other }
+    ensures two { (other : Place) → TwoRings L.neighbors (L.table links.old) ring.now other → TwoRings L.neighbors (L.table links.new) ring.now other }
+{
+    let first = ring.first(&*links)?;
+    let last = ring.last(&*links)?;
+    match call {
+        Call::InsertBeforeFirst => {
+            return refused(insert_before(links, first, UnsafeRef::new(place)));
+        }
+        Call::InsertAfterFirst => {
+            return refused(insert_after(links, first, UnsafeRef::new(place)));
+        }
+        Call::ReplaceFirst => {
+            return refused(replace(links, &UnsafeRef::new(first), UnsafeRef::new(place)));
+        }
+        Call::RemoveFirst => remove(links, &UnsafeRef::<u64>::new(first)),
+        Call::MoveFirstToBack => ring.move_to_back(links, &UnsafeRef::new(first)),
+        Call::MoveLastToFront => ring.move_to_front(links, &UnsafeRef::new(last)),
+        _ => {}
+    }
+    None
+}
+
+/// Makes a call by a cursor, and returns the object that comes back, or else the one that the cursor is on then.
+pub(crate) fn call_by_cursor<L: LinkedListOps>(
+    links: &mut L,
+    ring: &Ring<u64>,
+    other: &Ring<u64>,
+    call: At,
+    place: Place,
+) -> Option<UnsafeRef<u64>>
+    requires few { index_of place < 8 }
+    requires two { TwoRings L.neighbors (L.table links.old) ring.now other.now }
+    ensures two { TwoRings L.neighbors (L.table links.new) ring.now other.now }
+{
+    let mut cursor = ring.cursor_mut_at(links, ring.head());
+    match call {
+        At::FirstInsertAfter => {
+            cursor.move_next();
+            return refused(cursor.insert_after(UnsafeRef::new(place)));
+        }
+        At::LastInsertBefore => {
+            cursor.move_prev();
+            return refused(cursor.insert_before(UnsafeRef::new(place)));
+        }
+        At::FirstRemove => {
+            cursor.move_next();
+            return cursor.remove();
+        }
+        At::LastReplaceWith => {
+            cursor.move_prev();
+            return given_back(cursor.replace_with(UnsafeRef::new(place)));
+        }
+        At::FirstSpliceAfter => {
+            cursor.move_next();
+            cursor.splice_after(other);
+        }
+        At::LastSpliceBefore => {
+            cursor.move_prev();
+            cursor.splice_before(other);
+        }
+        At::FirstSplitAfter => {
+            cursor.move_next();
+            cursor.split_after(other);
+        }
+    }
+    object_on(
+        cursor.is_null(),
+        cursor.get_ptr(),
+        cursor.as_cursor().get_ptr(),
+    )
+}
+
+/// Makes a call of both rings, and returns the object that comes back, if one does.
+pub(crate) fn call_both<L: LinkedListOps>(
+    links: &mut L,
+    ring: &Ring<u64>,
+    other: &Ring<u64>,
+    call: Pair,
+    place: Place,
+) -> Option<UnsafeRef<u64>>
+    requires few { index_of place < 8 }
+    requires two { TwoRings L.neighbors (L.table links.old) ring.now other.now }
+    ensures two { TwoRings L.neighbors (L.table links.new) ring.now other.now }
+{
+    match call {
+        Pair::PushBack => return refused(other.push_back(links, UnsafeRef::new(place))),
+        Pair::MoveFirstToBack => {
+            let back = other.first(&*links)?;
+            move_before(links, ring.head(), &UnsafeRef::<u64>::new(back));
+        }
+        Pair::MoveFirstToFront => {
+            let front = other.first(&*links)?;
+            move_after(links, ring.head(), &UnsafeRef::<u64>::new(front));
+        }
+        Pair::SplitAfterFirst => {
+            let first = ring.first(&*links)?;
+            ring.split_after(links, first, other);
+        }
+        Pair::SpliceBack => ring.splice_back(links, other),
+    }
+    None
+}
+
+/// Joins the two rings at their heads: the second head is a member of the first ring then.
+pub(crate) fn exchange_heads<L: LinkedListOps>(links: &mut L, ring: &Ring<u64>, other: &Ring<u64>)
+    requires two { TwoRings L.neighbors (L.table links.old) ring.now other.now }
+    ensures covers { (L.table links.new).extent.places ≡ 8 }
+    ensures shown { InRing L.neighbors (L.table links.new) ring.now }
+{
+    exchange(links, ring.head(), other.head());
+}

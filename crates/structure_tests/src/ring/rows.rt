@@ -1,0 +1,95 @@
+//! The rows: calls on two rings of one table, and what stands there after each. The heads are at the places 6 and 7, and the objects 10 to 60 at
+//! the places 0 to 5.
+
+use crate::ring::calls::{At, Call, Pair};
+use Row::{Both, Cursor, Ends, Ring, Second};
+
+/// A call, and the index of the place whose object it takes, if it takes one.
+#[derive(Clone, Copy)]
+pub(crate) enum Row {
+    /// A call of the first ring.
+    Ring(Call, usize),
+    /// A call by a cursor in the first ring.
+    Cursor(At, usize),
+    /// A call of both rings.
+    Both(Pair, usize),
+    /// Whether the first ring is empty, its first member and its last, and the places in front of its head and behind it.
+    Ends,
+    /// Whether a cursor at the head is on no member, and the second member of the first ring.
+    Second,
+}
+
+/// The rows make each call at least once. Beside each call stand the object that comes back and the members of both rings: each ring has its
+/// members from the front, and the one that a walk from the back meets first. What `Ends` and `Second` note comes in front of these.
+pub(crate) const ROWS: &[(Row, &str)] = &[
+    // Calls of one ring.
+    (Ends, "yes none none 6 6 none none, none,"),
+    (Ring(Call::PushFront, 0), "none 10 10, none,"),
+    (Ring(Call::PushFront, 1), "none 20 10 10, none,"),
+    (Ring(Call::PushBack, 2), "none 20 10 30 30, none,"),
+    (Ring(Call::PushFront, 2), "2 20 10 30 30, none,"),
+    (Ring(Call::PushBack, 2), "2 20 10 30 30, none,"),
+    (Ring(Call::MoveFirstToBack, 0), "none 10 30 20 20, none,"),
+    (Ring(Call::RemoveFirst, 0), "none 30 20 20, none,"),
+    (Ring(Call::ReplaceFirst, 3), "none 40 20 20, none,"),
+    (Ring(Call::InsertBeforeFirst, 4), "none 50 40 20 20, none,"),
+    (
+        Ring(Call::InsertAfterFirst, 5),
+        "none 50 60 40 20 20, none,",
+    ),
+    (Ring(Call::MoveLastToFront, 0), "none 20 50 60 40 40, none,"),
+    (Ends, "no 1 3 3 1 none 20 50 60 40 40, none,"),
+    (Ring(Call::PopFront, 0), "1 50 60 40 40, none,"),
+    (Ring(Call::PopBack, 0), "3 50 60 60, none,"),
+    (Ring(Call::Clear, 0), "none none, none,"),
+    (Ends, "yes none none 6 6 none none, none,"),
+    (Ring(Call::PopFront, 0), "none none, none,"),
+    (Ring(Call::PopBack, 0), "none none, none,"),
+    // Calls by a cursor in one ring.
+    (Cursor(At::FirstInsertAfter, 0), "none 10 10, none,"),
+    (Cursor(At::FirstInsertAfter, 1), "none 10 20 20, none,"),
+    (Cursor(At::FirstInsertAfter, 2), "none 10 30 20 20, none,"),
+    (
+        Cursor(At::LastInsertBefore, 3),
+        "none 10 30 40 20 20, none,",
+    ),
+    (Cursor(At::LastReplaceWith, 4), "1 10 30 40 50 50, none,"),
+    (Cursor(At::FirstRemove, 0), "0 30 40 50 50, none,"),
+    (Second, "yes 3 none 30 40 50 50, none,"),
+    // Calls by a cursor that move members from one ring to the other.
+    (Ring(Call::Clear, 0), "none none, none,"),
+    (Ring(Call::PushBack, 0), "none 10 10, none,"),
+    (Ring(Call::PushBack, 1), "none 10 20 20, none,"),
+    (Both(Pair::PushBack, 2), "none 10 20 20, 30 30,"),
+    (Both(Pair::PushBack, 3), "none 10 20 20, 30 40 40,"),
+    (Cursor(At::FirstSplitAfter, 0), "0 10 10, 20 30 40 40,"),
+    (Both(Pair::MoveFirstToBack, 0), "none 10 20 20, 30 40 40,"),
+    (Cursor(At::FirstSpliceAfter, 0), "0 10 30 40 20 20, none,"),
+    (Ring(Call::MoveLastToFront, 0), "none 20 10 30 40 40, none,"),
+    (Both(Pair::SplitAfterFirst, 0), "none 20 20, 10 30 40 40,"),
+    (Both(Pair::MoveFirstToFront, 0), "none 10 20 20, 30 40 40,"),
+    (Cursor(At::LastSpliceBefore, 0), "1 10 30 40 20 20, none,"),
+    // Calls of both rings.
+    (Ring(Call::Clear, 0), "none none, none,"),
+    (Ring(Call::PushBack, 0), "none 10 10, none,"),
+    (Ring(Call::PushBack, 1), "none 10 20 20, none,"),
+    (Both(Pair::PushBack, 2), "none 10 20 20, 30 30,"),
+    (Both(Pair::PushBack, 3), "none 10 20 20, 30 40 40,"),
+    (Both(Pair::MoveFirstToBack, 0), "none 10 20 30 30, 40 40,"),
+    (
+        Both(Pair::MoveFirstToFront, 0),
+        "none 40 10 20 30 30, none,",
+    ),
+    (Both(Pair::SplitAfterFirst, 0), "none 40 40, 10 20 30 30,"),
+    (Both(Pair::SpliceBack, 0), "none 40 10 20 30 30, none,"),
+    // The ring that the calls behind the rows start from.
+    (Ring(Call::MoveLastToFront, 0), "none 30 40 10 20 20, none,"),
+    (Ring(Call::PushFront, 4), "none 50 30 40 10 20 20, none,"),
+];
+
+/// What is noted behind the rows: the first ring after its head and that of the second ring, which is empty, were exchanged, and what
+/// [`write_served`] notes of it. Then the ring is printed, and its first member is bypassed and put back: which is first, each time.
+///
+/// [`write_served`]: crate::ring::connections::write_served
+pub(crate) const LAST: &str =
+    "80 50 30 40 10 20 20,  30 40 10 20 80 80,  2 3  3  yes none yes  [10, 20]  1 0";
