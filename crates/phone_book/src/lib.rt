@@ -15,6 +15,3 @@ mod phone_book;
 pub use entry::Entry;
 pub use insert_error::InsertError;
 pub use phone_book::PhoneBook;
-
-#[cfg(test)]
-mod tests;

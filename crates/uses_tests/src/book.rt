@@ -1,6 +1,6 @@
-//! Each call once.
+//! The phone book: each call once.
 
-use super::*;
+use phone_book::{Entry, InsertError, PhoneBook};
 
 const FIRST: Entry = Entry {
     number: 5550100,
