@@ -59,14 +59,13 @@ fn doubly_linked_list(rt: HostRuntime) {
     let mut cursor = fixture.list.back_mut(&mut fixture.links);
     write_edits(&mut notes, &mut cursor);
     let beside = [
-        cursor.get_ptr(),
+        cursor.as_cursor().get_ptr(),
         cursor.peek_prev().get_ptr(),
         cursor.peek_next().get_ptr(),
-        cursor.as_cursor().peek_prev().get_ptr(),
     ];
     write_places(&mut notes, &beside);
     write_values(&mut notes, &[cursor.into_ref(&fixture.objects)]);
-    assert_words(&rt, &notes, "2 1 3 none no  0 4 5 4  10");
+    assert_words(&rt, &notes, "2 1 3 none no  0 4 5  10");
 }
 
 // Notes where a cursor is that reads the list, on the second member by its reference, and those that keep it, there and at the back.
@@ -96,14 +95,15 @@ fn doubly_linked_list_by_value(rt: HostRuntime) {
         write_on_member(&rt, &mut notes, fixture.list.take(), &fixture.links);
     }
     {
-        // The first member, which is taken off, and what is linked then, and when the walk has unlinked the rest.
-        let mut fixture: DoublyFixture = list_of(&rt, alloc, 3);
+        // The first member and the last, which are taken off, and what is linked then, and when the walk has unlinked the rest.
+        let mut fixture: DoublyFixture = list_of(&rt, alloc, 4);
         let mut rest = fixture.list.take().into_iter(&mut fixture.links);
         write_object(&mut notes, rest.next());
+        write_object(&mut notes, rest.next_back());
         write_linked(&mut notes, rest.links());
         rest.finish();
         notes.word("then ");
         write_linked(&mut notes, &fixture.links);
     }
-    assert_words(&rt, &notes, "1 1 2  0 1 2 then");
+    assert_words(&rt, &notes, "1 1 2  0 3 1 2 then");
 }
