@@ -1,14 +1,15 @@
 //! The XOR list: a cursor, which reads each entry by a neighbor.
 
-ghost use Rattle.ic_link_ops.specs.OneWord.{no_word, has_word, next_word_of};
-ghost use Rattle.ic_link_ops.specs.PlainTables.{table, linked_by};
-ghost use Rattle.ic_link_ops.specs.Readings.{XorJoins};
-ghost use Rattle.ic_link_ops.specs.XorLinkedList.{ShowsSome};
+ghost use Rattle.ic_link_ops.specs.Chains.{ShowsChain};
+ghost use Rattle.ic_cursors.specs.Cursor as reads;
+ghost use Rattle.ic_chain.specs.Standing.{StandsAt};
 
 use crate::lists::{ListFixture, list_of};
 use crate::notes::assert_words;
-use ic_link_ops::OneWord;
+use ic_chain::{BidirectionalLinks, Chain, DoubleEnded};
+use ic_cursors::Cursor;
 use ic_link_ops::xor_linked_list::Xor;
+use ic_link_ops::{LinkOps, OneWord};
 use ic_test_support::answers::write_places;
 use ic_test_support::notes::{Answer, Text};
 use ic_xor_linked_list::XorLinked;
@@ -16,11 +17,13 @@ use ic_xor_linked_list::XorLinked;
 /// An XOR list, its links and its objects.
 pub(crate) type XorFixture = ListFixture<XorLinked, OneWord<Xor>>;
 
-// Notes where a cursor at the back is, and where it would be a step back; where it is after that step, and what is behind a copy of it.
-fn write_read(notes: &mut Text, fixture: &XorFixture)
-    requires { ShowsSome (linked_by has_word) (XorJoins next_word_of) (table no_word fixture.now.links) fixture.now.list }
+// Notes where a cursor is, and where it would be a step back; where it is after that step, and what is behind a copy of it.
+fn write_read<K: DoubleEnded + BidirectionalLinks<L>, L: LinkOps>(
+    notes: &mut Text,
+    mut cursor: Cursor<'_, Chain<K, u64>, L>,
+)
+    requires stands { reads.IsStanding (StandsAt (ShowsChain K.Between K.kept) L.table K.Position.member K.Position.CachesNext) cursor }
 {
-    let mut cursor = fixture.list.back(&fixture.links);
     write_places(notes, &[cursor.get_ptr(), cursor.peek_prev().get_ptr()]);
     cursor.move_prev();
     if let Ok(copy) = cursor.clone() {
@@ -29,11 +32,12 @@ fn write_read(notes: &mut Text, fixture: &XorFixture)
     notes.add(Answer::Truth(cursor.is_null()), " ");
 }
 
+// A cursor at the back of five members.
 #[test]
 fn xor_linked_list(rt: HostRuntime) {
     let alloc = rt.alloc();
     let mut notes = Text::new(alloc);
     let fixture: XorFixture = list_of(&rt, alloc, 5);
-    write_read(&mut notes, &fixture);
+    write_read(&mut notes, fixture.list.back(&fixture.links));
     assert_words(&rt, &notes, "4 3 3 4 no");
 }
