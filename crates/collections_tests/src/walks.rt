@@ -54,6 +54,8 @@ fn walks_from_both_ends(rt: HostRuntime) {
     let mut notes = Text::new(alloc);
     {
         let doubly: DoublyFixture = list_of(&rt, alloc, 4);
+        // A walk that is dropped after its first object leaves all as it was.
+        let _ = doubly.list.iter(&doubly.links, &doubly.objects).next();
         write_walk(&mut notes, &doubly.list, &doubly.links, &doubly.objects);
     }
     let xor: XorFixture = list_of(&rt, alloc, 6);
@@ -106,4 +108,50 @@ fn walks_that_are_dropped(rt: HostRuntime) {
         0 1 2 3 2 3 3 0 1 2 3
         0 1 2 3 2 3 3 0 1 2 3",
     );
+}
+
+// Takes the first member off, and then unlinks the rest.
+fn finish_first<K: ForwardLinks<L>, L: LinkOps>(
+    list: Chain<K, u64>,
+    links: &mut L,
+) -> Option<UnsafeRef<u64>>
+    requires shown { ShowsSomeChain K.Between K.kept (L.table links.old) list }
+{
+    let mut rest = list.into_iter(links);
+    let first = rest.next();
+    rest.finish();
+    first
+}
+
+// Takes the first member off and the last, and then unlinks the rest.
+fn finish_both<K: DoubleEnded + BidirectionalLinks<L>, L: LinkOps>(
+    list: Chain<K, u64>,
+    links: &mut L,
+) -> (Option<UnsafeRef<u64>>, Option<UnsafeRef<u64>>)
+    requires shown { ShowsSomeChain K.Between K.kept (L.table links.old) list }
+{
+    let mut rest = list.into_iter(links);
+    let first = rest.next();
+    let last = rest.next_back();
+    rest.finish();
+    (first, last)
+}
+
+// A singly linked list and an XOR list, with four members each, and what is linked when the walk is finished.
+#[test]
+fn walks_that_are_finished(rt: HostRuntime) {
+    let alloc = rt.alloc();
+    let mut notes = Text::new(alloc);
+    let mut singly: SinglyFixture = list_of(&rt, alloc, 4);
+    let first = finish_first(singly.list.take(), &mut singly.links);
+    write_object(&mut notes, first);
+    notes.word("then ");
+    write_linked(&mut notes, &singly.links);
+    let mut xor: XorFixture = list_of(&rt, alloc, 4);
+    let (first, last) = finish_both(xor.list.take(), &mut xor.links);
+    write_object(&mut notes, first);
+    write_object(&mut notes, last);
+    notes.word("then ");
+    write_linked(&mut notes, &xor.links);
+    assert_words(&rt, &notes, "0 then  0 3 then");
 }
