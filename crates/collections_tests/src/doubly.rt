@@ -86,6 +86,7 @@ fn write_on_member<K: NamesNext + DoubleEnded + BidirectionalLinks<L>, L: LinkOp
     write_places(notes, &[read, second, at_back.get_ptr()]);
 }
 
+// Promise: a finished walk of a doubly linked list.
 #[test]
 fn doubly_linked_list_by_value(rt: HostRuntime) {
     let alloc = rt.alloc();

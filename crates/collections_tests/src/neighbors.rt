@@ -98,6 +98,7 @@ fn write_kept<K: Reversible + BidirectionalLinks<L>, L: LinkOps>(
 }
 
 // The list with the members 0, 1 and 2, as it is, turned round, and turned round twice.
+// Promise: cursors from an object and a neighbor.
 #[test]
 fn cursors_from_neighbors(rt: HostRuntime) {
     let alloc = rt.alloc();

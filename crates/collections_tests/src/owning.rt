@@ -73,6 +73,7 @@ fn write_edits_behind<K: SingleEnded + ForwardLinks<L>, L: LinkOps>(
     write_object(notes, cursor.remove_next(links));
 }
 
+// Promise: owning cursors.
 #[test]
 fn owning_cursors(rt: HostRuntime) {
     let alloc = rt.alloc();

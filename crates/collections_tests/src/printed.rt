@@ -24,6 +24,7 @@ fn a_tree_is_printed(rt: HostRuntime) {
 }
 
 // The list, and the link of its first member, while it is one and when it was taken off.
+// Promise: text of an entry, text of a list.
 #[test]
 fn a_list_and_a_link_are_printed(rt: HostRuntime) {
     let alloc = rt.alloc();

@@ -48,6 +48,7 @@ fn write_ends<K: DoubleEnded + BidirectionalLinks<L>, L: LinkOps>(
 }
 
 // Four members of a doubly linked list, after which neither end gives one, and six of an XOR list.
+// Promise: a walk from both ends, a walk that only reads.
 #[test]
 fn walks_from_both_ends(rt: HostRuntime) {
     let alloc = rt.alloc();
@@ -91,6 +92,7 @@ fn write_dropped<K: ForwardLinks<PlainTable<W>>, W: Words>(
 }
 
 // One list of each kind, with four members.
+// Promise: a dropped walk of a doubly linked list, a dropped walk of a singly linked list, a dropped walk of an XOR list.
 #[test]
 fn walks_that_are_dropped(rt: HostRuntime) {
     let alloc = rt.alloc();
@@ -138,6 +140,7 @@ fn finish_both<K: DoubleEnded + BidirectionalLinks<L>, L: LinkOps>(
 }
 
 // A singly linked list and an XOR list, with four members each, and what is linked when the walk is finished.
+// Promise: a finished walk of a singly linked list, a finished walk of an XOR list.
 #[test]
 fn walks_that_are_finished(rt: HostRuntime) {
     let alloc = rt.alloc();

@@ -21,6 +21,7 @@ fn write_words(notes: &mut Text, links: &LinkOps) {
 }
 
 // A list of the places 0, 1 and 2, and when 1 was taken off.
+// Promise: words of an XOR list, words after a removal.
 #[test]
 fn words_of_an_xor_list(rt: HostRuntime) {
     let alloc = rt.alloc();
@@ -37,6 +38,7 @@ fn words_of_an_xor_list(rt: HostRuntime) {
 }
 
 // The same list in the table of a tree: the words on the right, and the third ones, which say that a place is linked, black and below none.
+// Promise: an XOR list in a table of trees.
 #[test]
 fn words_of_an_xor_list_in_a_tree_table(rt: HostRuntime) {
     let alloc = rt.alloc();

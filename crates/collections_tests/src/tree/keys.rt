@@ -68,6 +68,7 @@ fn write_entry<L: RBTreeOps>(
 }
 
 // The searches in a tree of seven members. Of 10, 20 and 30, the entry of a key that none of them has, and that of the last one's.
+// Promise: a closure that is not called.
 #[test]
 fn searches_and_entries(rt: HostRuntime) {
     let alloc = rt.alloc();

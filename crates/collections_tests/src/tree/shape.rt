@@ -52,6 +52,8 @@ const LEAVING: &[usize] = &[7, 0, 3, 1, 6];
 
 // Seven members that came in rising order, all of them and without the first, the root's right child, the root and a red leaf; and seven
 // that came in falling order.
+// Promise: shape of seven members in order, shape without the first, shape without the fourth, shape of seven members from the back.
+// Promise: third words of seven members.
 #[test]
 fn shapes(rt: HostRuntime) {
     let alloc = rt.alloc();

@@ -33,6 +33,7 @@ fn write_range<'a, L: RBTreeOps>(
 
 // How many members a walk is over that takes them off, whether it takes the last one off behind the first, and whether it is finished then, or
 // dropped.
+// Promise: the tree iterator, a walk of seven from both ends, a dropped walk of a tree, a finished walk of a tree.
 const TAKEN: &[(usize, bool, bool)] = &[
     (7, true, true),
     (7, true, false),
