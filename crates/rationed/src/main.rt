@@ -10,17 +10,18 @@ mod methods;
 use crate::methods::call;
 use ic_program::{FAULT, Line, OwnKey, push_answer, run_lines};
 use ic_test_support::rationed::Rationed;
-use ic_world::{Answer, Command, World};
-use std::alloc::Global;
+use ic_world::{Command, World};
+use std::alloc::{AllocError, Global};
 use std::env;
 use std::io::{self, BufRead, BufReader, BufWriter, Write};
 use std::process::ExitCode;
-use std::rt::Env;
 
 // Which request is refused, or none where the word is no number.
-fn request_in(word: Option<&String>) -> u64 {
-    word.and_then(|word| word.as_str().parse::<u64>().ok())
-        .unwrap_or(u64::MAX)
+fn request_in(word: Option<String>) -> u64 {
+    match word {
+        Some(word) => word.parse().unwrap_or(u64::MAX),
+        None => u64::MAX,
+    }
 }
 
 // The calls that the reader gives, one a line.
@@ -34,49 +35,54 @@ fn commands_of(alloc: Global, reader: &mut impl BufRead) -> io::Result<Vec<Comma
     Ok(commands)
 }
 
-// Writes the answers, each on a line of its own.
-fn write_answers(
-    alloc: Global,
-    answers: &[Answer<&Rationed>],
-    writer: &mut impl Write,
-) -> io::Result<()> {
-    let mut lines: Vec<u8> = Vec::new(alloc);
-    for answer in answers {
-        push_answer(&mut lines, answer)?;
+// Runs the calls as one list, on a world over that memory, and puts their answers into the lines.
+fn run_list(
+    memory: &Rationed,
+    commands: &[Command<u64, u64>],
+    lines: &mut Vec<u8>,
+) -> Result<(), AllocError> {
+    let mut answers = Vec::new(memory);
+    let ran = World::new(memory, OwnKey).run(commands, &mut answers);
+    ran?;
+    for answer in &answers {
+        push_answer(lines, answer)?;
     }
-    writer.write_all(&lines)?;
-    writer.flush()
+    Ok(())
 }
 
-// Runs the calls that the reader gives as one list, on a world over that memory, and writes the answers.
-fn run_list(
+// Makes the calls, on a world over that memory, and puts into the lines how many requests for memory each made, and for how many bytes.
+fn count_each(
+    memory: &Rationed,
+    commands: &[Command<u64, u64>],
+    lines: &mut Vec<u8>,
+) -> io::Result<()> {
+    let mut world = World::new(memory, OwnKey);
+    for command in commands {
+        let (requests, bytes) = (memory.requests(), memory.bytes());
+        call(&mut world, *command);
+        let requests = memory.requests().saturating_sub(requests);
+        let bytes = memory.bytes().saturating_sub(bytes);
+        writeln!(lines, "{requests} {bytes}")?;
+    }
+    Ok(())
+}
+
+// Makes the calls that the reader gives as one list or one by one, and writes what there is to say of them.
+fn run_calls(
     alloc: Global,
     memory: &Rationed,
+    is_list: bool,
     reader: &mut impl BufRead,
     writer: &mut impl Write,
 ) -> io::Result<()> {
     let commands = commands_of(alloc, reader)?;
-    let mut answers = Vec::new(memory);
-    let ran = World::new(memory, OwnKey).run(&commands, &mut answers);
-    ran?;
-    write_answers(alloc, &answers, writer)
-}
-
-// Makes the calls that the reader gives, on a world over that memory, and writes how many requests for memory each made, and for how many bytes.
-fn count_each(
-    alloc: Global,
-    memory: &Rationed,
-    reader: &mut impl BufRead,
-    writer: &mut impl Write,
-) -> io::Result<()> {
-    let mut world = World::new(memory, OwnKey);
-    for command in commands_of(alloc, reader)? {
-        let (requests, bytes) = (memory.requests(), memory.bytes());
-        call(&mut world, command);
-        let requests = memory.requests().saturating_sub(requests);
-        let bytes = memory.bytes().saturating_sub(bytes);
-        writeln!(writer, "{requests} {bytes}")?;
+    let mut lines = Vec::new(alloc);
+    if is_list {
+        run_list(memory, &commands, &mut lines)?;
+    } else {
+        count_each(memory, &commands, &mut lines)?;
     }
+    writer.write_all(&lines)?;
     writer.flush()
 }
 
@@ -84,37 +90,40 @@ fn count_each(
 fn status_of(
     alloc: Global,
     memory: &Rationed,
-    way: Option<&String>,
+    way: Option<&str>,
     reader: &mut impl BufRead,
     writer: &mut impl Write,
 ) -> u8 {
-    let ran = match way.map(|word| word.as_str()) {
-        Some("list") => run_list(alloc, memory, reader, writer),
-        Some("count") => count_each(alloc, memory, reader, writer),
-        _ => {
-            return match run_lines(memory, reader, writer) {
-                Ok(ending) => ending as u8,
-                Err(_) => FAULT,
-            };
-        }
+    let Some(way) = way else {
+        return match run_lines(memory, reader, writer) {
+            Ok(ending) => ending as u8,
+            Err(_) => FAULT,
+        };
     };
-    match ran {
+    match run_calls(alloc, memory, way == "list", reader, writer) {
         Ok(()) => 0,
         Err(_) => FAULT,
     }
 }
 
 // Runs the program over the standard streams, and answers its status.
-fn run(rt: &(impl Env + Input + Print + Eprint + AllocGlobal), alloc: Global) -> io::Result<u8> {
-    let words: Vec<String> = env::args(rt)?.skip(1).collect(alloc)?;
-    let memory = Rationed::new(alloc, request_in(words.first()));
-    let mut reader = BufReader::new(alloc, rt.reader())?;
-    let mut writer = BufWriter::new(alloc, io::writer(rt))?;
-    let status = status_of(alloc, &memory, words.get(1), &mut reader, &mut writer);
-    eprintln!(rt; "{} requests", memory.requests())?;
-    Ok(status)
+fn status_over_streams(rt: &HostRuntime, memory: &Rationed, way: Option<&str>) -> io::Result<u8> {
+    let mut reader = BufReader::new(rt.alloc(), rt.reader())?;
+    let mut writer = BufWriter::new(rt.alloc(), io::writer(rt))?;
+    Ok(status_of(rt.alloc(), memory, way, &mut reader, &mut writer))
+}
+
+// Runs the program with the arguments that it has, and tells how many requests there were.
+fn run(rt: &HostRuntime) -> io::Result<u8> {
+    let mut words = env::args(rt)?;
+    let _name = words.next();
+    let memory = Rationed::new(rt.alloc(), request_in(words.next()));
+    let way = words.next();
+    let status = status_over_streams(rt, &memory, way.as_deref());
+    let _ = eprintln!(rt; "{} requests", memory.requests());
+    status
 }
 
 fn main(rt: HostRuntime) -> ExitCode {
-    ExitCode::from(run(&rt, rt.alloc()).unwrap_or(FAULT))
+    ExitCode::from(run(&rt).unwrap_or(FAULT))
 }
