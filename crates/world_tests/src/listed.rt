@@ -2,6 +2,7 @@
 
 use ic_program::{Line, OwnKey};
 use ic_test_support::rationed::Rationed;
+use ic_unsafe_ref::Place;
 use ic_world::{Answer, Command, Refusal, World};
 use std::alloc::{Allocator, Global};
 use std::fmt::Write;
@@ -82,12 +83,17 @@ fn are_answered<'r>(
     as_wanted
 }
 
+// The value of object 1, as the world lends its objects.
+fn second_value(world: &World<OwnKey, &Rationed>) -> Option<u64> {
+    world.objects().get(Place::new(1)?).copied()
+}
+
 // Whether a refused value comes back from a new world, which answers the lists then.
 fn is_right(alloc: Global, lists: &[List]) -> bool {
     let rationed = Rationed::new(alloc, 0);
     let mut world = World::new(&rationed, OwnKey);
     let is_back = matches!(world.place(10), Err((Refusal::OutOfMemory, 10)));
-    is_back && are_answered(alloc, &rationed, &mut world, lists)
+    is_back && are_answered(alloc, &rationed, &mut world, lists) && second_value(&world) == Some(2)
 }
 
 // Promise: a list of calls as one, a run without memory, always-out-of-memory in a run.
