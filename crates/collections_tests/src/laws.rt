@@ -7,6 +7,7 @@ ghost use Rattle.ic_cursors.specs.Cursor as reads;
 ghost use Rattle.ic_chain.specs.Standing.{StandsAt};
 
 use crate::doubly::DoublyFixture;
+use crate::lent::write_turned;
 use crate::lists::list_of;
 use crate::notes::{assert_words, write_object};
 use ic_chain::{BidirectionalLinks, Chain, DoubleEnded, ForwardLinks, laws};
@@ -100,6 +101,7 @@ fn laws_of_lists(rt: HostRuntime) {
     let mut notes = Text::new(alloc);
     {
         let mut fixture: DoublyFixture = list_of(&rt, alloc, 2);
+        write_turned(&mut notes, &mut fixture.list, &mut fixture.links);
         write_front(&mut notes, &mut fixture.list, &mut fixture.links);
     }
     {
@@ -109,5 +111,5 @@ fn laws_of_lists(rt: HostRuntime) {
     let mut first = list_of(&rt, alloc, 2);
     let mut second = list_of(&rt, alloc, 0);
     write_apart(&rt, &mut notes, &mut first, &mut second);
-    assert_words(&rt, &notes, "5 no  5 0 1  yes 0 1 5  5");
+    assert_words(&rt, &notes, "0 1 0 5 no  5 0 1  yes 0 1 5  5");
 }

@@ -8,6 +8,8 @@ mod doubly;
 #[cfg(test)]
 mod laws;
 #[cfg(test)]
+mod lent;
+#[cfg(test)]
 mod lists;
 #[cfg(test)]
 mod neighbors;

@@ -13,7 +13,7 @@ use ic_link_ops::LinkOps;
 use ic_link_ops::rbtree::RBTreeOps;
 use ic_rbtree_cached::RBTreeCached;
 use ic_test_support::answers::write_places;
-use ic_test_support::notes::Text;
+use ic_test_support::notes::{Answer, Text};
 use ic_test_support::objects::{TENS, eight_objects, reference};
 use ic_unsafe_ref::{Objects, UnsafeRef};
 
@@ -35,7 +35,7 @@ fn write_inserted<L: RBTreeOps>(
     write_places(notes, &[tree.first(), tree.last()]);
 }
 
-// Takes the first object off and the last one, and notes them and the ends that are left.
+// Takes the first object off and the last one, and notes them and the ends that are left, and whether the tree without its ends is empty.
 fn write_taken<L: RBTreeOps>(notes: &mut Text, tree: &mut RBTreeCached<OwnKey>, links: &mut L)
     requires shown { ShowsCachedSome L.node (L.table links.old) (ends_of tree.old) }
 {
@@ -47,6 +47,7 @@ fn write_taken<L: RBTreeOps>(notes: &mut Text, tree: &mut RBTreeCached<OwnKey>, 
         notes,
         &[tree.front(links).get_ptr(), tree.back(links).get_ptr()],
     );
+    notes.add(Answer::Truth(tree.tree().is_empty()), " ");
 }
 
 // Splits the tree in front of its last member, and appends the rest again, and notes the ends of both parts and of the whole.
@@ -77,5 +78,5 @@ fn ends(rt: HostRuntime) {
     write_inserted(&mut notes, &mut tree, &mut links, &objects, reference(1));
     write_split(&mut notes, &mut tree, &mut links);
     write_taken(&mut notes, &mut tree, &mut links);
-    assert_words(&rt, &notes, "2 2 2 4 1 4  1 2 4 4 1 4 none  1 4 2 2");
+    assert_words(&rt, &notes, "2 2 2 4 1 4  1 2 4 4 1 4 none  1 4 2 2 no");
 }
