@@ -1,5 +1,6 @@
 //! The red-black tree.
 
+mod beside;
 mod cached;
 mod cursors;
 mod keys;
