@@ -4,16 +4,16 @@ use Rattle.std.specs.Char.{digit_value, is_ascii_digit}
 use Rattle.std.specs.List.{prefix_len}
 use Rattle.std.specs.Str.Parse.{AllDigits, digits_value}
 use Rattle.std.proofs.lemmas.List.Sums.{take_while-cons, prefix_len-drop_yes, prefix_len-drop_no}
-use Rattle.std.proofs.lemmas.List.{take-take}
+use Rattle.std.proofs.lemmas.List.{take-take, take_all}
 use Rattle.std.proofs.lemmas.List.Folds.{length-prefix_len}
 use Rattle.std.proofs.lemmas.Int.Digits.{digits_value_more}
 use Rattle.std.proofs.lemmas.Str.Parse.{digits_value-take-le}
 use Rattle.ic_program.specs.Number.{IsNumber, IsLeading, leading_digits}
 
-is_small : (c : ℕ) → is_ascii_digit c ≡ true → digit_value c < 10
+pub is_small : (c : ℕ) → is_ascii_digit c ≡ true → digit_value c < 10
 is_small c digit = grind (arith, digit)
 
-is_digit : (c : ℕ) → digit_value c < 10 → is_ascii_digit c ≡ true
+pub is_digit : (c : ℕ) → digit_value c < 10 → is_ascii_digit c ≡ true
 is_digit c small = grind (arith, small)
 
 all_if : (c : ℕ) (cs : List ℕ) (b : Bool) → is_ascii_digit c ≡ b → AllDigits 10 cs → AllDigits 10 (cond b (c ∷ cs) [])
@@ -83,3 +83,7 @@ module _ (text : List ℕ) where
     pub four_digits : (a b c d : ℕ) → Digit 0 a → Digit 1 b → Digit 2 c → Digit 3 d → Stops 4 → IsLeading text (((a * 10 + b) * 10 + c) * 10 + d) 4
     four_digits a b c d da db dc dd stop =
         read_all _ 4 long (to_next _ 3 d (omega arith) (to_next _ 2 c (omega arith) (to_next a 1 b (omega arith) (to_one a da) db) dc) dd) stop
+
+-- a text that is as long as the digits that it begins with is those
+pub leading_all : (word : List ℕ) → length (leading_digits word) ≡ length word → leading_digits word ≡ word
+leading_all word long = take_all (prefix_len is_ascii_digit word) word (omega (arith, long, length-prefix_len is_ascii_digit word))

@@ -1,8 +1,6 @@
 -- The lines of workers, one more at a time.
-use Rattle.std.proofs.Common.{◌≡◌, ℕ, ◌+◌, ◌<◌, suc, List, [], ◌∷◌, ◌++◌, Option, Vec, take, length, arith, sym, ap, ◌∙◌, subst, append_assoc, append-nil, length-take-le}
+use Rattle.std.proofs.Common.{◌≡◌, ℕ, ◌+◌, ◌<◌, suc, List, [], ◌∷◌, ◌++◌, Vec, take, length, arith, sym, ap, ◌∙◌, append_assoc, append-nil, length-take-le}
 use Rattle.std.proofs.lemmas.List.{length-map}
-use Rattle.std.proofs.KnownBytes.{Appends-trans}
-use Rattle.std.specs.Io.KnownBytes.{Appends}
 use Rattle.ic_unsafe_ref.specs.declared.place.Place.{Place}
 use Rattle.ic_workers.specs.SharedOut.{places_in}
 use Rattle.ic_workers.proofs.TakenPlaces.{places_more}
@@ -32,5 +30,5 @@ module _ {B : Type 0} (lists : List (Vec Place B)) (i : ℕ) (v : Vec Place B) (
       ∙ (lines_more 1 (places_in before) v.items
       ∙ ap (λ (k : ℕ). worker_lines 1 (places_in before) ++ worker_line k v.items) number)))
 
-  pub line_written : (a b c : Option (List ℕ)) → Appends a b (worker_lines 1 (places_in (take i lists))) → Appends b c (worker_line (i + 1) v.items) → Appends a c (worker_lines 1 (places_in (take (i + 1) lists)))
-  line_written a b c p q = subst (Appends a c) (sym lines_to) (Appends-trans a b c (worker_lines 1 (places_in (take i lists))) (worker_line (i + 1) v.items) p q)
+  pub line_put : (old new : List ℕ) → old ≡ worker_lines 1 (places_in (take i lists)) → new ≡ old ++ worker_line (i + 1) v.items → new ≡ worker_lines 1 (places_in (take (i + 1) lists))
+  line_put old new before put = put ∙ (ap (λ (l : List ℕ). l ++ worker_line (i + 1) v.items) before ∙ sym lines_to)

@@ -1,8 +1,10 @@
 pub mod Number
-pub mod Words
-pub mod Line
+pub mod Grammar
+pub mod Text
+pub mod Slots
 pub mod Arguments
 pub mod Printed
-pub mod Told
+pub mod ShortAnswers
 pub mod Played
+pub mod HowFar
 pub mod Shared

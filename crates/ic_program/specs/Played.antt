@@ -1,19 +1,18 @@
--- WHAT A RUN DID: which calls it made of its world, and what it told of them.
-use Rattle.std.specs.Prelude.{◌≡◌, ℕ, ◌++◌, Bool, true, false, cond, List, [], Option, Result, Ok, Err, IsTrue, MatchResult, ⊤}
+-- WHAT A RUN DID: which lines it read, which calls they are, and what it printed. `input` is what the reader had, `output` what the writer had before
+-- the run, and `now` what it has after it, each in bytes, and `None` if no contract can name them.
+use Rattle.std.specs.Prelude.{◌≡◌, ◌⊎◌, ℕ, ◌+◌, ◌++◌, List, [], ◌∷◌, length, Option, Some, None, IfSome, ⊤}
 use Rattle.std.specs.FinMap as map
 use Rattle.std.specs.Ordering.{nat_cmp}
-use Rattle.std.specs.Io.KnownBytes.{Appends, Keeps}
+use Rattle.std.specs.Str.{IsUtf8}
+use Rattle.std.specs.Str.Lines.{lines}
+use Rattle.std.specs.Io.KnownBytes.{Appends}
 use Rattle.ic_world.specs.declared.call.Command.{Command}
 use Rattle.ic_world.specs.Calls.{Reply}
 use Rattle.ic_world.specs.Family.{Family}
 use Rattle.ic_world_laws.specs.Runs.{AreLawful}
 use Rattle.ic_program.specs.declared.own_key.OwnKey.{OwnKey}
-use Rattle.ic_program.specs.declared.fault.Fault.{Fault}
-use Rattle.ic_program.specs.declared.fault.Fault.TheVariants.{NotText, Reading, Writing, Memory}
-use Rattle.ic_program.specs.declared.session.Stop.{Stop}
-use Rattle.ic_program.specs.declared.session.Stop.TheVariants.{NoCommand, Fault as AFault}
-use Rattle.ic_program.specs.declared.program.Ending.{Ending}
-use Rattle.ic_program.specs.declared.program.Ending.TheVariants.{Finished, NotUnderstood}
+use Rattle.ic_program.specs.declared.line.Line.TheVariants.{NoCommand}
+use Rattle.ic_program.specs.Grammar.{said_in, commands_in}
 use Rattle.ic_program.specs.Printed.{lines_of, no_command_at}
 
 -- a value is its own key
@@ -24,46 +23,41 @@ own_key adapter value = value
 abbrev pub IsNew : Family OwnKey ℕ → Type 0
 IsNew w = (w.objects ≡ map.empty) × (w.fields ≡ []) × (w.collections ≡ [])
 
--- CALLS WERE ANSWERED: each of them lawful, they led from one family to another, and the known bytes grew by the lines of their replies
-pub record Answered (old new : Family OwnKey ℕ) (told now : Option (List ℕ)) : Type 0 where
-  pub commands : List (Command ℕ ℕ)
-  pub replies : List Reply
-  pub lawful : AreLawful nat_cmp own_key old commands replies new
-  pub lines : Appends told now (lines_of replies)
-
--- A RUN: calls of a new world, each of them lawful, and the known bytes grew by the lines of their replies, and by the last line
-pub record IsRun (told now : Option (List ℕ)) (last : List ℕ) : Type 0 where
+-- A RUN: the first lines of the input are commands, these are lawful calls of a new world, and the writer has the lines of their replies, and then
+-- the last line. `IsLeft` says of the number of those lines and of the other lines where the run ended
+pub record IsRun (input output now : Option (List ℕ)) (IsLeft : ℕ → List (List ℕ) → Type 0) (last : List ℕ) : Type 0 where
   pub first : Family OwnKey ℕ
   pub is_new : IsNew first
   pub end : Family OwnKey ℕ
+  pub answered : List (List ℕ)
   pub commands : List (Command ℕ ℕ)
+  pub said : commands_in answered ≡ Some commands
   pub replies : List Reply
   pub lawful : AreLawful nat_cmp own_key first commands replies end
-  pub lines : Appends told now (lines_of replies ++ last)
+  pub printed : Appends output now (lines_of replies ++ last)
+  pub left : IfSome input (λ bytes. (others : List (List ℕ)) × (lines bytes ≡ answered ++ others) × IsLeft (length answered) others)
 
--- after such a fault some of the lines were not written
-abbrev pub is_loss : Fault → Bool
-is_loss (NotText line) = false
-is_loss (Reading lines) = false
-is_loss Writing = true
-is_loss Memory = true
+-- WHERE A RUN ENDED: at the end of the input
+abbrev pub NoneLeft : ℕ → List (List ℕ) → Type 0
+NoneLeft count others = others ≡ []
 
--- what holds after any other stop, and after any other result
-abbrev pub UnlessLoss : Stop → Type 0 → Type 0
-UnlessLoss NoCommand P = P
-UnlessLoss (AFault fault) P = cond (is_loss fault) ⊤ P
+-- at the line of that number, counted from 1, which is UTF-8 and no command
+abbrev pub NoCommandLeft : ℕ → ℕ → List (List ℕ) → Type 0
+NoCommandLeft number count [] = ⊥
+NoCommandLeft number count (line ∷ others) = (number ≡ count + 1) × (said_in line ≡ NoCommand) × IsUtf8 line
 
-abbrev pub UnlessLost : {T : Type 0} → Result T Stop → Type 0 → Type 0
-UnlessLost (Ok x) P = P
-UnlessLost (Err stop) P = UnlessLoss stop P
+-- somewhere
+abbrev pub AnyLeft : ℕ → List (List ℕ) → Type 0
+AnyLeft count others = ⊤
 
--- HOW A STOP ENDS A RUN: the notice of a line that is no command is written, unless the writer fails; of a fault nothing is written
-abbrev pub EndsStopped : Stop → ℕ → Result Ending Fault → Option (List ℕ) → Option (List ℕ) → Type 0
-EndsStopped NoCommand line result told now = MatchResult result (λ ending. (ending ≡ NotUnderstood) × Appends told now (no_command_at line)) (λ fault. IsTrue (is_loss fault))
-EndsStopped (AFault fault) line result told now = (result ≡ Err fault) × Keeps told now
+-- the first bytes go on where the second end, if both are known
+abbrev pub CutTo : Option (List ℕ) → Option (List ℕ) → Type 0
+CutTo None now = ⊤
+CutTo (Some whole) None = ⊥
+CutTo (Some whole) (Some now) = (rest : List ℕ) × (whole ≡ now ++ rest)
 
--- HOW A RUN ENDS: without a loss all answers were written, and behind them the notice of a line that is no command, if there was one
-abbrev pub Ends : Result Ending Fault → Option (List ℕ) → Option (List ℕ) → Type 0
-Ends (Ok Finished) told now = IsRun told now []
-Ends (Ok NotUnderstood) told now = (line : ℕ) × IsRun told now (no_command_at line)
-Ends (Err fault) told now = cond (is_loss fault) ⊤ (IsRun told now [])
+-- A RUN SO FAR, HOWEVER IT ENDED: the writer has the beginning of what it has after a run that ended somewhere, or at a line that is no command
+abbrev pub IsRunSoFar : Option (List ℕ) → Option (List ℕ) → Option (List ℕ) → Type 0
+IsRunSoFar input output now =
+    (whole : Option (List ℕ)) × CutTo whole now
+    × (IsRun input output whole AnyLeft [] ⊎ ((line : ℕ) × IsRun input output whole (NoCommandLeft line) (no_command_at line)))

@@ -10,7 +10,7 @@ ghost use Rattle.ic_world.specs.Answers.{reply_in};
 ghost use Rattle.ic_world.specs.Calls as reply;
 ghost use Rattle.ic_program.specs.Printed.{line_of, items_of, number_at};
 
-use crate::told::refused;
+use crate::short_answer::refused;
 use ic_unsafe_ref::Place;
 use ic_world::Answer;
 use itoa::Buffer;
@@ -85,8 +85,8 @@ pub(crate) fn push_place<M: Allocator>(
     push_numbered(lines, b"object ", object.index() as u64, b"\n")
 }
 
-// Some words, a number, and what is behind it.
-fn push_numbered<M: Allocator>(
+/// Some words, a number, and what is behind it.
+pub(crate) fn push_numbered<M: Allocator>(
     lines: &mut Vec<u8, M>,
     words: &[u8],
     number: u64,
@@ -115,8 +115,8 @@ fn push_object<M: Allocator>(
     push_numbered(lines, b"", looks, b"\n")
 }
 
-// The places of some objects, and what is behind them.
-fn push_items<M: Allocator>(
+/// The places of some objects, and what is behind them.
+pub(crate) fn push_items<M: Allocator>(
     lines: &mut Vec<u8, M>,
     places: &[Place],
     behind: &[u8],

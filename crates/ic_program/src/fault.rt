@@ -5,7 +5,7 @@
 //! ```
 
 ghost use Rattle.std.specs.Prelude.{IsTrue};
-ghost use Rattle.ic_program.specs.Played.{is_loss};
+ghost use Rattle.ic_program.specs.HowFar.{is_loss};
 
 use std::fmt;
 use std::io::{self, ErrorKind};

@@ -9,17 +9,19 @@
 #![tactic(auto)]
 
 mod answers;
+mod argument;
+mod fast_path;
 mod fault;
 mod line;
 mod names;
 mod own_key;
 mod program;
 mod session;
-mod told;
-mod usual;
+mod short_answer;
+mod text;
 mod word;
-mod words;
 mod workers;
+mod writing;
 
 pub use answers::push_answer;
 pub use fault::Fault;

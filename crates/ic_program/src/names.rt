@@ -1,44 +1,83 @@
-//! Whether a word is a name.
+//! Whether a text begins with a name.
 //!
 //! ```text
-//! is(b"push_back", b"push_back") // true, by two comparisons of eight bytes
+//! behind_name(b"push_back 0 3\n", b"push_back ") // Some(`0 3\n`), by two comparisons of eight bytes
 //! ```
 
-ghost use Rattle.std.specs.Prelude.{◌+◌, ◌≤◌, length};
+ghost use Rattle.std.specs.Prelude.{◌≡◌, ◌↔◌, ◌+◌, ◌≤◌, MatchOption, IsTrue, length, take, drop};
+ghost use Rattle.std.specs.Int.{w32, w64, from_le_bytes};
+ghost use Rattle.ic_program.specs.Text.{IsName, IsNoName, ReadsName};
 
-/// Whether the word is that name, of four letters at least.
+/// The text behind that name. The name has 4 to 24 bytes, and the last one is the space behind it.
 ///
-/// Eight bytes are compared at once, or four of a short name. The last ones may be compared twice. O(bytes).
+/// Eight bytes are compared at once, or four of a short name. Some may be compared twice.
 #[inline(always)]
-pub(crate) fn is<const N: usize>(word: &[u8], name: &[u8; N]) -> bool
-    requires { 4 ≤ N }
+pub(crate) fn behind_name<'l, const N: usize>(text: &'l [u8], name: &[u8; N]) -> Option<&'l [u8]>
+    requires { IsName N name.now }
+    ensures { MatchOption result (IsNoName name.now text.now) (λ rest. ReadsName name.now text.now rest.now) }
 {
-    if word.len() != N {
+    if begins_with(text, name) {
+        return Some(&text[N..]);
+    }
+    None
+}
+
+// Whether the text begins with the name.
+#[inline(always)]
+fn begins_with<const N: usize>(text: &[u8], name: &[u8; N]) -> bool
+    requires { (4 ≤ N) × (N ≤ 24) }
+    ensures { IsTrue result ↔ (take N text.now ≡ name.now) }
+{
+    if text.len() < N {
         return false;
     }
     if N < 8 {
-        return four(word, 0) == four(name, 0) && four(word, N - 4) == four(name, N - 4);
+        return four_alike(text, name, 0) && four_alike(text, name, N - 4);
     }
-    for group in 0..N / 8 {
-        if eight(word, group * 8) != eight(name, group * 8) {
-            return false;
-        }
+    if N > 16 && !eight_alike(text, name, 8) {
+        return false;
     }
-    eight(word, N - 8) == eight(name, N - 8)
+    eight_alike(text, name, 0) && eight_alike(text, name, N - 8)
+}
+
+// Whether the four bytes from there on are the same.
+#[inline(always)]
+fn four_alike(text: &[u8], name: &[u8], at: usize) -> bool
+    requires { (at + 4 ≤ length text.now) × (at + 4 ≤ length name.now) }
+    ensures { IsTrue result ↔ (take 4 (drop at text.now) ≡ take 4 (drop at name.now)) }
+{
+    four(text, at) == four(name, at)
+}
+
+// Whether the eight bytes from there on are the same.
+#[inline(always)]
+fn eight_alike(text: &[u8], name: &[u8], at: usize) -> bool
+    requires { (at + 8 ≤ length text.now) × (at + 8 ≤ length name.now) }
+    ensures { IsTrue result ↔ (take 8 (drop at text.now) ≡ take 8 (drop at name.now)) }
+{
+    eight(text, at) == eight(name, at)
 }
 
 // Four bytes as a number.
 #[inline(always)]
 fn four(text: &[u8], at: usize) -> u32
     requires { at + 4 ≤ length text.now }
+    ensures { result ≡ from_le_bytes w32 (take 4 (drop at text.now)) }
 {
-    u32::from_le_bytes([text[at], text[at + 1], text[at + 2], text[at + 3]])
+    match text[at..].first_chunk::<4>() {
+        Some(bytes) => u32::from_le_bytes(*bytes),
+        None => 0,
+    }
 }
 
 // Eight bytes as a number.
 #[inline(always)]
-pub(crate) fn eight(text: &[u8], at: usize) -> u64
+fn eight(text: &[u8], at: usize) -> u64
     requires { at + 8 ≤ length text.now }
+    ensures { result ≡ from_le_bytes w64 (take 8 (drop at text.now)) }
 {
-    four(text, at) as u64 | (four(text, at + 4) as u64) << 32
+    match text[at..].first_chunk::<8>() {
+        Some(bytes) => u64::from_le_bytes(*bytes),
+        None => 0,
+    }
 }

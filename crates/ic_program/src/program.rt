@@ -1,15 +1,18 @@
 //! The program, over any reader and any writer.
 
-ghost use Rattle.std.specs.Prelude.{◌≡◌, ◌≢◌, ◌⊎◌, ◌<◌, ℕ, List, [], false, IsTrue, OnSome, Ok, Err, IfOk, IfErr, OnOk, codes, length};
-ghost use Rattle.std.specs.Io.KnownBytes.{Appends, Keeps, Consumes, IsAtEnd, append_known};
+ghost use Rattle.std.specs.Prelude.{◌≡◌, ◌≢◌, ◌⊎◌, ◌<◌, ℕ, [], false, IsSome, IsTrue, OnSome, Ok, Err, IfOk, IfErr, OnOk, OnErr, codes, length};
+ghost use Rattle.std.specs.Io.KnownBytes.{Appends, Keeps, IsAtEnd, append_known};
 ghost use Rattle.ic_program.specs.Arguments.{AskFor};
 ghost use Rattle.ic_program.specs.Printed.{no_command_at};
-ghost use Rattle.ic_program.specs.Played.{Ends, EndsStopped, IsRun, Answered, UnlessLost, is_loss};
-ghost use Rattle.ic_program.specs.Shared.{HaveShared};
+ghost use Rattle.ic_program.specs.Played.{IsRun, IsRunSoFar, CutTo, NoneLeft, NoCommandLeft};
+ghost use Rattle.ic_program.specs.HowFar.{Ends, EndsStopped, HowFar, IsLeftToRead, is_loss, lines_of_both};
+ghost use Rattle.ic_program.specs.Shared.{HaveShared, HaveSharedSoFar};
 
 use crate::fault::Fault;
 use crate::session::{Session, Stop};
 use crate::workers::{Workers, run_workers, workers_of};
+use crate::writing::write_whole;
+use itoa::Buffer;
 use std::alloc::Allocator;
 use std::io::{self, BufRead, ErrorKind, Write};
 use std::sync::Wait;
@@ -42,12 +45,18 @@ pub fn run_program<
     W: Write,
 >(rt: &S, alloc: M, words: &[String], reader: &mut R, writer: &mut W) -> u8
     ensures status { (result ≡ 0) ⊎ (result ≡ 2) ⊎ (result ≡ FAULT) }
-    ensures finished { words.now ≡ [] → result ≡ 0 → IsRun (W.contents writer.old) (W.contents writer.new) [] × OnSome (R.remaining reader.old) (IsAtEnd (R.remaining reader.new)) }
-    ensures not_understood { words.now ≡ [] → result ≡ 2 → (line : ℕ) × IsRun (W.contents writer.old) (W.contents writer.new) (no_command_at line) }
+    ensures finished { words.now ≡ [] → result ≡ 0 → IsRun (R.remaining reader.old) (W.contents writer.old) (W.contents writer.new) NoneLeft []
+        × OnSome (R.remaining reader.old) (IsAtEnd (R.remaining reader.new)) }
+    ensures not_understood { words.now ≡ [] → result ≡ 2 → (line : ℕ)
+        × IsRun (R.remaining reader.old) (W.contents writer.old) (W.contents writer.new) (NoCommandLeft line) (no_command_at line) }
+    ensures always { words.now ≡ [] → IsRunSoFar (R.remaining reader.old) (W.contents writer.old) (W.contents writer.new) }
     ensures arguments { 0 < length words.now → ((asked : Workers) → AskFor words.now asked → ⊥) → result ≢ FAULT → (result ≡ 2)
         × Appends (W.contents writer.old) (W.contents writer.new) (codes "bad arguments\n") }
+    ensures arguments_always { 0 < length words.now → ((asked : Workers) → AskFor words.now asked → ⊥)
+        → CutTo (append_known (W.contents writer.old) (codes "bad arguments\n")) (W.contents writer.new) }
     ensures workers { (asked : Workers) → AskFor words.now asked → (result ≢ 2)
         × (result ≡ 0 → HaveShared asked (W.contents writer.old) (W.contents writer.new)) }
+    ensures workers_always { (asked : Workers) → AskFor words.now asked → HaveSharedSoFar asked (W.contents writer.old) (W.contents writer.new) }
     ensures reader { 0 < length words.now → reader.new ≡ reader.old }
 {
     if words.is_empty() {
@@ -81,7 +90,7 @@ pub fn run_lines<M: Allocator + Copy, R: BufRead, W: Write>(
     reader: &mut R,
     writer: &mut W,
 ) -> Result<Ending, Fault>
-    ensures run { Ends result (W.contents writer.old) (W.contents writer.new) }
+    ensures run { Ends result (R.remaining reader.old) (W.contents writer.old) (W.contents writer.new) }
     ensures read { result ≡ Ok Ending.Finished → OnSome (R.remaining reader.old) (IsAtEnd (R.remaining reader.new)) }
 {
     let ending = answer_input(alloc, reader, writer);
@@ -117,10 +126,11 @@ fn status_of<S: Eprint>(rt: &S, ending: Result<Ending, Fault>) -> u8
 fn refuse_arguments<W: Write>(writer: &mut W) -> Result<Ending, Fault>
     ensures status { IfOk result (λ ending. ending ≡ Ending.NotUnderstood) }
     ensures text { OnOk result (Appends (W.contents writer.old) (W.contents writer.new) (codes "bad arguments\n")) }
+    ensures cut { CutTo (append_known (W.contents writer.old) (codes "bad arguments\n")) (W.contents writer.new) }
 {
-    match writeln!(writer, "bad arguments") {
+    match write_whole(writer, b"bad arguments\n") {
         Ok(()) => Ok(Ending::NotUnderstood),
-        Err(error) => Err(Fault::of_writer(&error)),
+        Err(fault) => Err(fault),
     }
 }
 
@@ -131,7 +141,7 @@ fn answer_input<M: Allocator + Copy, R: BufRead, W: Write>(
     reader: &mut R,
     writer: &mut W,
 ) -> Result<Ending, Fault>
-    ensures run { Ends result (W.contents writer.old) (W.contents writer.new) }
+    ensures run { Ends result (R.remaining reader.old) (W.contents writer.old) (W.contents writer.new) }
     ensures read { result ≡ Ok Ending.Finished → OnSome (R.remaining reader.old) (IsAtEnd (R.remaining reader.new)) }
 {
     let Ok(mut session) = Session::new(alloc) else {
@@ -162,7 +172,7 @@ fn flush<W: Write>(writer: &mut W) -> Result<(), Fault>
     }
 }
 
-// Answers the lines that end in what the reader has next, and tells whether there was anything. At the end of the input what is cut off
+// Answers the lines that end in what the reader has next, and returns whether there was anything. At the end of the input what is cut off
 // is a line.
 fn answer_next<M: Allocator + Copy, R: BufRead, W: Write>(
     session: &mut Session<M>,
@@ -170,9 +180,11 @@ fn answer_next<M: Allocator + Copy, R: BufRead, W: Write>(
     reader: &mut R,
     writer: &mut W,
 ) -> Result<bool, Stop>
-    ensures answered { UnlessLost result (Answered session.old.world session.new.world
-        (append_known (W.contents writer.old) session.old.answers.items) (append_known (W.contents writer.new) session.new.answers.items)) }
-    ensures read { (taken : List ℕ) × Consumes (R.remaining reader.old) (R.remaining reader.new) taken }
+    ensures answered { HowFar result session.old.lines session.new.lines (IsLeftToRead cut.new.items (R.remaining reader.new))
+        (lines_of_both cut.old.items (R.remaining reader.old))
+        session.old.world session.new.world (append_known (W.contents writer.old) session.old.answers.items)
+        (append_known (W.contents writer.new) session.new.answers.items) }
+    ensures known { OnSome (R.remaining reader.old) (IsSome (R.remaining reader.new)) }
     ensures end { result ≡ Ok false → OnSome (R.remaining reader.old) (IsAtEnd (R.remaining reader.new)) }
 {
     match reader.fill_buf() {
@@ -197,10 +209,21 @@ fn stopped<W: Write>(stop: Stop, line: u64, writer: &mut W) -> Result<Ending, Fa
     ensures { EndsStopped stop line result (W.contents writer.old) (W.contents writer.new) }
 {
     match stop {
-        Stop::NoCommand => match writeln!(writer, "line {line}: no command") {
+        Stop::NoCommand => match write_notice(writer, line) {
             Ok(()) => Ok(Ending::NotUnderstood),
-            Err(error) => Err(Fault::of_writer(&error)),
+            Err(fault) => Err(fault),
         },
         Stop::Fault(fault) => Err(fault),
     }
+}
+
+// Writes that the line of that number is no command.
+fn write_notice<W: Write>(writer: &mut W, line: u64) -> Result<(), Fault>
+    ensures written { OnOk result (Appends (W.contents writer.old) (W.contents writer.new) (no_command_at line)) }
+    ensures cut { OnErr result (CutTo (append_known (W.contents writer.old) (no_command_at line)) (W.contents writer.new)) }
+    ensures lost { IfErr result (λ fault. IsTrue (is_loss fault)) }
+{
+    write_whole(writer, b"line ")?;
+    write_whole(writer, Buffer::new().format(line).as_bytes())?;
+    write_whole(writer, b": no command\n")
 }

@@ -6,20 +6,25 @@
 //! session.write(&mut writer)?; // `field 0` and a line feed
 //! ```
 
-ghost use Rattle.std.specs.Prelude.{◌≡◌, ◌++◌, ◌<◌, ◌≤◌, ◌⊎◌, [], IsTrue, Some, IfOk, IfErr, OnOk, length};
+ghost use Rattle.std.specs.Prelude.{◌≡◌, ◌++◌, ◌+◌, ◌-◌, ◌<◌, ◌⊎◌, ℕ, ◌≤◌, List, [], IsTrue, Some, IfOk, IfErr, OnOk, OnErr, length, take, drop};
+ghost use Rattle.std.specs.Str.{IsUtf8};
+ghost use Rattle.std.specs.Str.Lines.{lines};
 ghost use Rattle.std.specs.Io.KnownBytes.{Keeps, append_known};
 ghost use Rattle.ic_program.specs.Printed.{line_of};
-ghost use Rattle.ic_program.specs.Played.{IsNew, is_loss, Answered, UnlessLost};
-ghost use Rattle.ic_program.specs.Told.{reply_told};
+ghost use Rattle.ic_program.specs.Played.{IsNew, CutTo};
+ghost use Rattle.ic_program.specs.HowFar.{is_loss, AnswersCall, HowFar, IsLost};
+ghost use Rattle.ic_program.specs.Text.{line_in, HasFeed, HaveEnded};
+ghost use Rattle.ic_program.specs.ShortAnswers.{reply_of_short};
 ghost use Rattle.ic_world.specs.Answers.{reply_in};
 
 use crate::answers::push_answer;
+use crate::fast_path::answer_fast;
 use crate::fault::Fault;
 use crate::line::Line;
 use crate::own_key::OwnKey;
-use crate::told::Told;
-use crate::usual::{MOST_BYTES, answer_usual};
-use crate::words::Words;
+use crate::short_answer::ShortAnswer;
+use crate::text::first_line;
+use crate::writing::write_whole;
 use ic_world::{Answer, Command, World};
 use memchr::{memchr, memrchr};
 use std::alloc::{AllocError, Allocator};
@@ -51,7 +56,7 @@ pub(crate) struct Session<M: Allocator + Copy> {
 impl<M: Allocator + Copy> Session<M> {
     /// A new world, with nothing answered.
     pub(crate) fn new(alloc: M) -> Result<Session<M>, AllocError>
-        ensures { IfOk result (λ session. IsNew session.world × (session.answers.items ≡ [])) }
+        ensures { IfOk result (λ session. IsNew session.world × (session.answers.items ≡ []) × (session.lines ≡ 0)) }
     {
         // The world comes last, so that no way out has one to drop.
         let answers = Vec::with_capacity(alloc, ROOM)?;
@@ -65,32 +70,28 @@ impl<M: Allocator + Copy> Session<M> {
     /// Writes the answers, and keeps none.
     pub(crate) fn write<W: Write>(&mut self, writer: &mut W) -> Result<(), Fault>
         ensures written { OnOk result (Keeps (append_known (W.contents writer.old) self.old.answers.items) (W.contents writer.new)) }
+        ensures cut { OnErr result (CutTo (append_known (W.contents writer.old) self.old.answers.items) (W.contents writer.new)) }
         ensures lost { IfErr result (λ fault. IsTrue (is_loss fault)) }
         ensures none { self.new.answers.items ≡ [] }
         ensures world { self.new.world ≡ self.old.world }
+        ensures lines { self.new.lines ≡ self.old.lines }
     {
-        let written = writer.write_all(&self.answers);
+        let written = write_whole(writer, &self.answers);
         self.answers.clear();
-        match written {
-            Ok(()) => Ok(()),
-            Err(error) => Err(Fault::of_writer(&error)),
-        }
+        written
     }
 
-    /// Answers these lines, of which empty ones have no answer. Where it stops, the answers are those of the lines before.
+    /// Answers the lines of a text, of which empty ones have no answer. Where it stops, the answers are those of the lines before.
     ///
     /// As soon as more than 64 KB of answers wait they are written.
-    pub(crate) fn answer_lines<W: Write>(
-        &mut self,
-        lines: &[u8],
-        writer: &mut W,
-    ) -> Result<(), Stop>
-        ensures { UnlessLost result (Answered self.old.world self.new.world
-            (append_known (W.contents writer.old) self.old.answers.items) (append_known (W.contents writer.new) self.new.answers.items)) }
+    pub(crate) fn answer_lines<W: Write>(&mut self, text: &[u8], writer: &mut W) -> Result<(), Stop>
+        ensures { HowFar result self.old.lines self.new.lines (λ _ others. others ≡ []) (Some (lines text.now)) self.old.world self.new.world
+            (append_known (W.contents writer.old) self.old.answers.items) (append_known (W.contents writer.new) self.new.answers.items) }
     {
-        let mut words = Words::of(lines);
-        while !words.rest().is_empty() {
-            words = self.answer_first(words)?;
+        let mut rest = text;
+        while !rest.is_empty() {
+            let taken = self.answer_first(rest)?;
+            rest = &rest[taken..];
             self.make_room(writer)?;
         }
         Ok(())
@@ -99,9 +100,13 @@ impl<M: Allocator + Copy> Session<M> {
     // Writes the answers, if too many wait.
     #[inline(always)]
     fn make_room<W: Write>(&mut self, writer: &mut W) -> Result<(), Stop>
-        ensures written { UnlessLost result (Keeps (append_known (W.contents writer.old) self.old.answers.items)
+        ensures written { OnOk result (Keeps (append_known (W.contents writer.old) self.old.answers.items)
             (append_known (W.contents writer.new) self.new.answers.items)) }
+        ensures cut { OnErr result (CutTo (append_known (W.contents writer.old) self.old.answers.items)
+            (append_known (W.contents writer.new) self.new.answers.items)) }
+        ensures lost { IfErr result IsLost }
         ensures world { self.new.world ≡ self.old.world }
+        ensures lines { self.new.lines ≡ self.old.lines }
     {
         if self.answers.len() <= ROOM {
             return Ok(());
@@ -113,9 +118,13 @@ impl<M: Allocator + Copy> Session<M> {
     #[cold]
     #[inline(never)]
     fn write_some<W: Write>(&mut self, writer: &mut W) -> Result<(), Stop>
-        ensures written { UnlessLost result (Keeps (append_known (W.contents writer.old) self.old.answers.items)
+        ensures written { OnOk result (Keeps (append_known (W.contents writer.old) self.old.answers.items)
             (append_known (W.contents writer.new) self.new.answers.items)) }
+        ensures cut { OnErr result (CutTo (append_known (W.contents writer.old) self.old.answers.items)
+            (append_known (W.contents writer.new) self.new.answers.items)) }
+        ensures lost { IfErr result IsLost }
         ensures world { self.new.world ≡ self.old.world }
+        ensures lines { self.new.lines ≡ self.old.lines }
     {
         match self.write(writer) {
             Ok(()) => Ok(()),
@@ -123,49 +132,61 @@ impl<M: Allocator + Copy> Session<M> {
         }
     }
 
-    // Answers the first of these lines, and gives the others.
+    // Answers the first line of a text, and gives how many bytes are before the next one.
     #[inline(always)]
-    fn answer_first<'l>(&mut self, lines: Words<'l>) -> Result<Words<'l>, Stop>
-        ensures answered { UnlessLost result (Answered self.old.world self.new.world (Some self.old.answers.items) (Some self.new.answers.items)) }
-        ensures fewer { 0 < length lines.entry.rest.now → IfOk result (λ others. length others.rest.now < length lines.entry.rest.now) }
+    fn answer_first(&mut self, text: &[u8]) -> Result<usize, Stop>
+        requires { 0 < length text.now }
+        ensures answered { HowFar result self.old.lines self.new.lines (λ taken others. others ≡ lines (drop taken text.now))
+            (Some (lines text.now)) self.old.world self.new.world
+            (Some self.old.answers.items) (Some self.new.answers.items) }
+        ensures within { IfOk result (λ taken. taken ≤ length text.now) }
+        ensures some { IfOk result (λ taken. 0 < taken) }
     {
         let Some(number) = self.lines.checked_add(1) else {
             // There are more lines than a number counts.
             return Err(Stop::Fault(Fault::Reading(self.lines)));
         };
         self.lines = number;
-        let text = lines.rest();
-        if text.len() >= MOST_BYTES {
-            if let Some((told, others)) = answer_usual(&mut self.world, text) {
-                tell(&mut self.answers, told)?;
-                return Ok(others);
+        match answer_fast(&mut self.world, text) {
+            Some((answer, taken)) => {
+                push_short(&mut self.answers, answer)?;
+                Ok(taken)
             }
+            None => self.answer_other(text),
         }
-        self.answer_any(lines, number)
     }
 
     // The same of any line, which is the line of that number.
     #[cold]
     #[inline(never)]
-    fn answer_any<'l>(&mut self, lines: Words<'l>, number: u64) -> Result<Words<'l>, Stop>
-        ensures answered { UnlessLost result (Answered self.old.world self.new.world (Some self.old.answers.items) (Some self.new.answers.items)) }
-        ensures fewer { 0 < length lines.entry.rest.now → IfOk result (λ others. length others.rest.now < length lines.entry.rest.now) }
+    fn answer_other(&mut self, text: &[u8]) -> Result<usize, Stop>
+        requires { (0 < length text.now) × (0 < self.old.lines) }
+        ensures answered { HowFar result (self.old.lines - 1) self.new.lines (λ taken others. others ≡ lines (drop taken text.now))
+            (Some (lines text.now)) self.old.world self.new.world
+            (Some self.old.answers.items) (Some self.new.answers.items) }
+        ensures within { IfOk result (λ taken. taken ≤ length text.now) }
+        ensures some { IfOk result (λ taken. 0 < taken) }
     {
-        let (said, others) = Line::first_of(lines);
+        let (said, rest) = Line::first_of(text);
+        let taken = text.len().saturating_sub(rest.len());
         match said {
-            Line::Empty => Ok(others),
+            Line::Empty => Ok(taken),
             Line::Call(command) => {
                 self.call(command)?;
-                Ok(others)
+                Ok(taken)
             }
-            Line::NoCommand => Err(stop_at(lines.rest(), number)),
+            Line::NoCommand => Err(stop_at(text, self.lines)),
         }
     }
 
     // Makes the call, and puts its answer behind the others.
-    #[inline(always)]
+    #[cold]
+    #[inline(never)]
     fn call(&mut self, command: Command<u64, u64>) -> Result<(), Stop>
-        ensures { UnlessLost result (Answered self.old.world self.new.world (Some self.old.answers.items) (Some self.new.answers.items)) }
+        ensures answered { OnOk result (AnswersCall command self.old.world self.new.world self.old.answers.items self.new.answers.items) }
+        ensures none { OnErr result (self.new.answers.items ≡ self.old.answers.items) }
+        ensures lost { IfErr result IsLost }
+        ensures lines { self.new.lines ≡ self.old.lines }
     {
         push(
             &mut self.answers,
@@ -173,26 +194,30 @@ impl<M: Allocator + Copy> Session<M> {
         )
     }
 
-    // Answers the line that is cut off, if it ends in these bytes, and tells which of them are behind it.
+    // Answers the line that is cut off, if it ends in these bytes, and gives those behind it.
     fn answer_cut<'b, W: Write>(
         &mut self,
         cut: &mut Vec<u8, M>,
         bytes: &'b [u8],
         writer: &mut W,
     ) -> Result<&'b [u8], Stop>
-        ensures rest { IfOk result (λ rest. length rest.now ≤ length bytes.now) }
-        ensures answered { UnlessLost result (Answered self.old.world self.new.world
-            (append_known (W.contents writer.old) self.old.answers.items) (append_known (W.contents writer.new) self.new.answers.items)) }
+        ensures answered { (more : List ℕ) → HowFar result self.old.lines self.new.lines
+            (λ rest others. others ≡ lines (cut.new.items ++ (rest.now ++ more)))
+            (Some (lines (cut.old.items ++ (bytes.now ++ more)))) self.old.world self.new.world
+            (append_known (W.contents writer.old) self.old.answers.items) (append_known (W.contents writer.new) self.new.answers.items) }
+        ensures ended { IfOk result (λ rest. HasFeed rest.now → cut.new.items ≡ []) }
     {
-        let end = match memchr(b'\n', bytes) {
-            Some(end) if !cut.is_empty() => end + 1,
-            _ => return Ok(bytes),
+        if cut.is_empty() {
+            return Ok(bytes);
+        }
+        let Some(feed) = memchr(b'\n', bytes) else {
+            return Ok(bytes);
         };
-        keep(cut, &bytes[..end])?;
+        keep(cut, &bytes[..feed + 1])?;
         let answered = self.answer_lines(cut, writer);
         cut.clear();
         answered?;
-        Ok(&bytes[end..])
+        Ok(&bytes[feed + 1..])
     }
 
     /// Answers the lines that end in these bytes, as [`answer_lines`](Session::answer_lines), and keeps in `cut` what is read of the line
@@ -203,23 +228,34 @@ impl<M: Allocator + Copy> Session<M> {
         bytes: &[u8],
         writer: &mut W,
     ) -> Result<(), Stop>
-        ensures { UnlessLost result (Answered self.old.world self.new.world
-            (append_known (W.contents writer.old) self.old.answers.items) (append_known (W.contents writer.new) self.new.answers.items)) }
+        ensures { (more : List ℕ) → HowFar result self.old.lines self.new.lines (λ _ others. others ≡ lines (cut.new.items ++ more))
+            (Some (lines (cut.old.items ++ (bytes.now ++ more)))) self.old.world self.new.world
+            (append_known (W.contents writer.old) self.old.answers.items) (append_known (W.contents writer.new) self.new.answers.items) }
     {
         let rest = self.answer_cut(cut, bytes, writer)?;
-        let whole = match memrchr(b'\n', rest) {
-            Some(end) => end + 1,
-            None => 0,
-        };
-        self.answer_lines(&rest[..whole], writer)?;
-        keep(cut, &rest[whole..])
+        let ended = ended_bytes(rest);
+        self.answer_lines(&rest[..ended], writer)?;
+        keep(cut, &rest[ended..])
+    }
+}
+
+// How many of the first bytes are lines that have ended.
+fn ended_bytes(bytes: &[u8]) -> usize
+    ensures ended { HaveEnded (take result bytes.now) }
+    ensures within { result ≤ length bytes.now }
+    ensures feed { 0 < result → HasFeed bytes.now }
+{
+    match memrchr(b'\n', bytes) {
+        Some(feed) => feed + 1,
+        None => 0,
     }
 }
 
 // Puts bytes behind those that are cut off.
 #[inline]
 fn keep<M: Allocator>(cut: &mut Vec<u8, M>, bytes: &[u8]) -> Result<(), Stop>
-    ensures { IfErr result (λ stop. stop ≡ Stop.Fault Fault.Memory) }
+    ensures kept { OnOk result (cut.new.items ≡ cut.old.items ++ bytes.now) }
+    ensures lost { IfErr result IsLost }
 {
     match cut.extend_from_slice(bytes) {
         Ok(()) => Ok(()),
@@ -230,7 +266,9 @@ fn keep<M: Allocator>(cut: &mut Vec<u8, M>, bytes: &[u8]) -> Result<(), Stop>
 // Puts the answer behind the others.
 #[inline]
 fn push<M: Allocator>(answers: &mut Vec<u8, M>, answer: &Answer<M>) -> Result<(), Stop>
-    ensures { UnlessLost result (answers.new.items ≡ answers.old.items ++ line_of (reply_in answer.now)) }
+    ensures put { OnOk result (answers.new.items ≡ answers.old.items ++ line_of (reply_in answer.now)) }
+    ensures none { OnErr result (answers.new.items ≡ answers.old.items) }
+    ensures lost { IfErr result IsLost }
 {
     match push_answer(answers, answer) {
         Ok(()) => Ok(()),
@@ -240,25 +278,24 @@ fn push<M: Allocator>(answers: &mut Vec<u8, M>, answer: &Answer<M>) -> Result<()
 
 // Puts the line behind the others.
 #[inline(always)]
-fn tell<M: Allocator>(answers: &mut Vec<u8, M>, told: Told) -> Result<(), Stop>
-    ensures { UnlessLost result (answers.new.items ≡ answers.old.items ++ line_of (reply_told told)) }
+fn push_short<M: Allocator>(answers: &mut Vec<u8, M>, answer: ShortAnswer) -> Result<(), Stop>
+    ensures put { OnOk result (answers.new.items ≡ answers.old.items ++ line_of (reply_of_short answer)) }
+    ensures none { OnErr result (answers.new.items ≡ answers.old.items) }
+    ensures lost { IfErr result IsLost }
 {
-    match told.push(answers) {
+    match answer.push(answers) {
         Ok(()) => Ok(()),
         Err(_) => Err(Stop::Fault(Fault::Memory)),
     }
 }
 
-// Why no more lines are answered behind the first of these, the line of that number, which is no command. A command is ASCII alone, so
-// that only here the line may be other than UTF-8.
-fn stop_at(lines: &[u8], number: u64) -> Stop
-    ensures { (result ≡ Stop.NoCommand) ⊎ (result ≡ Stop.Fault (Fault.NotText number)) }
+// Why the first line of a text, the line of that number, is no command. A command is ASCII alone, so that only here the line may be other
+// than UTF-8.
+fn stop_at(text: &[u8], number: u64) -> Stop
+    ensures { ((result ≡ Stop.NoCommand) × IsUtf8 (line_in text.now))
+        ⊎ ((result ≡ Stop.Fault (Fault.NotText number)) × ¬ (IsUtf8 (line_in text.now))) }
 {
-    let line = match memchr(b'\n', lines) {
-        Some(end) => &lines[..end],
-        None => lines,
-    };
-    match str::from_utf8(line) {
+    match str::from_utf8(first_line(text)) {
         Ok(_) => Stop::NoCommand,
         Err(_) => Stop::Fault(Fault::NotText(number)),
     }

@@ -8,16 +8,14 @@
 //! neighbor(b"none")    // Some(None): none stands there
 //! ```
 
-ghost use Rattle.std.specs.Prelude.{◌≡◌, ◌≢◌, ◌<◌, ◌≤◌, ◌↔◌, ◌^◌, ℕ, Option, is_some, IsSome, IfSome, IfNone, length};
+ghost use Rattle.std.specs.Prelude.{◌≡◌, ◌<◌, ◌≤◌, ◌↔◌, is_some, IsSome, IfSome, length};
 ghost use Rattle.std.specs.Char.{digit_value, is_ascii_digit};
 ghost use Rattle.std.specs.Str.Parse.{digits_value};
-ghost use Rattle.ic_unsafe_ref.specs.declared.place.Place.{Place};
-ghost use Rattle.ic_unsafe_ref.specs.Places.{index_of};
-ghost use Rattle.ic_rbtree.specs.declared.keys.key_adapter.Bound.{Bound};
-ghost use Rattle.ic_any_collection.specs.declared.kind.Kind.{Kind};
+ghost use Rattle.ic_program.specs.Grammar.{bound_in, kind_in, neighbor_in, nth_place, number_in, place_in};
 ghost use Rattle.ic_program.specs.Number.{IsNumber, IsLeading, MoreDigits, leading_digits};
-ghost use Rattle.ic_program.specs.Words.{name_of, IsBound, IsNeighbor};
+ghost use Rattle.ic_program.specs.Text.{Reads};
 
+use crate::text::word_ends;
 use ic_any_collection::Kind;
 use ic_rbtree::Bound;
 use ic_unsafe_ref::Place;
@@ -27,8 +25,7 @@ const MOST_DIGITS: usize = 20;
 
 /// The kind of that name: `singly`, `doubly`, `xor` or `tree`. `None` of any other word.
 pub(crate) fn kind(word: &[u8]) -> Option<Kind>
-    ensures named { IfSome result (λ kind. word.now ≡ name_of kind) }
-    ensures none { IfNone result ((kind : Kind) → word.now ≢ name_of kind) }
+    ensures { result ≡ kind_in word.now }
 {
     match word {
         b"singly" => Some(Kind::Singly),
@@ -41,8 +38,7 @@ pub(crate) fn kind(word: &[u8]) -> Option<Kind>
 
 /// The bound of keys that a word says: `included:K`, `excluded:K` or `unbounded`, K a number. `None` of any other word. O(bytes).
 pub(crate) fn bound(word: &[u8]) -> Option<Bound<u64>>
-    ensures said { IfSome result (IsBound word.now) }
-    ensures none { IfNone result ((bound : Bound ℕ) → IsBound word.now bound → ⊥) }
+    ensures { result ≡ bound_in word.now }
 {
     if let Some(key) = word.strip_prefix(b"included:") {
         return Some(Bound::Included(number(key)?));
@@ -59,8 +55,7 @@ pub(crate) fn bound(word: &[u8]) -> Option<Bound<u64>>
 /// The neighbor that a word says: an object, by its number, or none beyond an end, which is `none`. The outer `None` is the answer of any
 /// other word. O(bytes).
 pub(crate) fn neighbor(word: &[u8]) -> Option<Option<Place>>
-    ensures said { IfSome result (IsNeighbor word.now) }
-    ensures none { IfNone result ((neighbor : Option Place) → IsNeighbor word.now neighbor → ⊥) }
+    ensures { result ≡ neighbor_in word.now }
 {
     match word {
         b"none" => Some(None),
@@ -68,26 +63,24 @@ pub(crate) fn neighbor(word: &[u8]) -> Option<Option<Place>>
     }
 }
 
-// The place of an object, which need not be there: its number is below 4,294,967,296. `None` of any other word.
+// The place of an object, which need not exist: its number is below 4,294,967,296. `None` of any other word.
 fn place(word: &[u8]) -> Option<Place>
-    ensures valid { IsSome result ↔ (IsNumber word.now × (digits_value 10 word.now < 2 ^ 32)) }
-    ensures value { IfSome result (λ place. index_of place ≡ digits_value 10 word.now) }
+    ensures { result ≡ place_in word.now }
 {
-    Place::new(index(word)?)
+    place_of(number(word)? as usize)
 }
 
-// The number of a field, a collection or an object, which need not be there. `None` of a word that is no number.
-fn index(word: &[u8]) -> Option<usize>
-    ensures valid { IsSome result ↔ IsNumber word.now }
-    ensures value { IfSome result (λ index. index ≡ digits_value 10 word.now) }
+/// The place of that number, if there is one: it is below 4,294,967,296.
+#[inline(always)]
+pub(crate) fn place_of(number: usize) -> Option<Place>
+    ensures { result ≡ nth_place number }
 {
-    Some(number(word)? as usize)
+    Place::new(number)
 }
 
 /// The value of 1 to 20 decimal digits, where it is below 2^64. `None` of any other word, one with a sign too. O(digits).
 pub(crate) fn number(word: &[u8]) -> Option<u64>
-    ensures valid { IsSome result ↔ IsNumber word.now }
-    ensures value { IfSome result (λ number. number ≡ digits_value 10 word.now) }
+    ensures { result ≡ number_in word.now }
 {
     match leading_number(word) {
         Some((number, digits)) if digits == word.len() => Some(number),
@@ -130,13 +123,29 @@ fn with_digit(number: u64, digit: u8) -> Option<u64>
     number.checked_mul(10)?.checked_add((digit - b'0') as u64)
 }
 
-/// The number that the leading digits of a text write, and how many these are, where there are 1 to 4. No loop.
+/// The number that the first word of a line is, and the text behind that, if it has 1 to 4 digits and is not at the end of the text. `None`
+/// says nothing of the word.
 #[inline(always)]
-pub(crate) fn small_number(text: &[u8]) -> Option<(u64, usize)>
-    requires { 5 ≤ length text.now }
-    ensures read { IfSome result (λ read. IsLeading text.now read.0 read.1) }
-    ensures within { IfSome result (λ read. (1 ≤ read.1) × (read.1 ≤ 4)) }
+pub(crate) fn small_number<'l>(text: &'l [u8]) -> Option<(u64, &'l [u8])>
+    ensures { IfSome result (λ read. Reads number_in text.now read.0 read.1.now) }
 {
+    let (number, digits) = few_digits(text)?;
+    let rest = &text[digits..];
+    if !word_ends(rest) {
+        return None;
+    }
+    Some((number, rest))
+}
+
+// The number that the leading digits of a text write, and how many these are, where there are 1 to 4. No loop.
+#[inline(always)]
+fn few_digits(text: &[u8]) -> Option<(u64, usize)>
+    ensures read { IfSome result (λ read. IsLeading text.now read.0 read.1) }
+    ensures within { IfSome result (λ read. (1 ≤ read.1) × (read.1 ≤ 4) × (5 ≤ length text.now)) }
+{
+    if text.len() < 5 {
+        return None;
+    }
     let first = digit(text[0])?;
     let Some(second) = digit(text[1]) else {
         return Some((first, 1));

@@ -4,20 +4,21 @@
 //! workers_of(&words) // Some of 4 workers and 1000 places, for the words `workers 4 1000`
 //! ```
 
-ghost use Rattle.std.specs.Prelude.{◌++◌, IfSome, IfNone, OnOk, All, codes};
-ghost use Rattle.std.specs.Io.KnownBytes.{Appends};
+ghost use Rattle.std.specs.Prelude.{◌≡◌, ◌++◌, IfSome, IfNone, IfOk, OnOk, OnErr, All};
 ghost use Rattle.ic_workers.specs.SharedOut.{Rises, places_in};
 ghost use Rattle.ic_program.specs.Arguments.{AskFor};
-ghost use Rattle.ic_program.specs.Printed.{items_of, worker_line, workers_text};
-ghost use Rattle.ic_program.specs.Shared.{HaveShared};
+ghost use Rattle.ic_program.specs.Printed.{worker_line, workers_text};
+ghost use Rattle.ic_program.specs.Shared.{HaveShared, HaveSharedSoFar};
 
+use crate::answers::{push_items, push_numbered};
 use crate::fault::Fault;
 use crate::word::number;
+use crate::writing::write_whole;
 use ic_atomic::Gate;
 use ic_unsafe_ref::Place;
 use ic_workers::{doubles, fan_out};
-use std::alloc::Allocator;
-use std::io::{self, Write};
+use std::alloc::{AllocError, Allocator};
+use std::io::Write;
 use std::sync::Wait;
 use std::thread::Threads;
 
@@ -69,54 +70,50 @@ impl Gate for Open {
 }
 
 /// Lets the workers share the places out, each in a thread of its own, and writes which places each got, and how many places stand
-/// in two of their lists: none, by the contract of `fan_out`.
+/// in two of their lists: none, by the contract of `fan_out`. If there is no memory it writes nothing.
 pub(crate) fn run_workers<S: Threads + Wait + Sync, M: Allocator + Copy + Send + Sync, W: Write>(
     rt: &S,
     alloc: M,
     asked: Workers,
     writer: &mut W,
 ) -> Result<(), Fault>
-    ensures { OnOk result (HaveShared asked (W.contents writer.old) (W.contents writer.new)) }
+    ensures shared { OnOk result (HaveShared asked (W.contents writer.old) (W.contents writer.new)) }
+    ensures cut { OnErr result (HaveSharedSoFar asked (W.contents writer.old) (W.contents writer.new)) }
 {
     let Ok(lists) = fan_out(rt, alloc, asked.workers, asked.places, &Open) else {
         return Err(Fault::Memory);
     };
-    match write_lists(asked.places, &lists, writer) {
-        Ok(()) => Ok(()),
-        Err(error) => Err(Fault::of_writer(&error)),
-    }
+    let Ok(text) = workers_text_of(alloc, asked.places, &lists) else {
+        return Err(Fault::Memory);
+    };
+    write_whole(writer, &text)
 }
 
-// Writes a line of each list, and how many of the first places stand in two of them.
-fn write_lists<M: Allocator, W: Write>(
+// A line of each list, and then how many of the first places stand in two of them.
+fn workers_text_of<M: Allocator + Copy>(
+    alloc: M,
     places: usize,
     lists: &[Vec<Place, M>],
-    writer: &mut W,
-) -> io::Result<()>
+) -> Result<Vec<u8, M>, AllocError>
     requires { All (Rises 0 places) (places_in lists.now) }
-    ensures { OnOk result (Appends (W.contents writer.old) (W.contents writer.new) (workers_text places (places_in lists.now))) }
+    ensures { IfOk result (λ text. text.items ≡ workers_text places (places_in lists.now)) }
 {
+    let mut text = Vec::new(alloc);
     for (before, list) in lists.iter().enumerate() {
-        write_worker(before + 1, list, writer)?;
+        push_worker(&mut text, before + 1, list)?;
     }
-    writeln!(writer, "doubles {}", doubles(places, lists))
+    push_numbered(&mut text, b"doubles ", doubles(places, lists) as u64, b"\n")?;
+    Ok(text)
 }
 
-// Writes the line of the worker of that number.
-fn write_worker<W: Write>(number: usize, list: &[Place], writer: &mut W) -> io::Result<()>
-    ensures { OnOk result (Appends (W.contents writer.old) (W.contents writer.new) (worker_line number list.now)) }
+// Puts the line of the worker of that number behind the others.
+fn push_worker<M: Allocator>(
+    text: &mut Vec<u8, M>,
+    number: usize,
+    list: &[Place],
+) -> Result<(), AllocError>
+    ensures { OnOk result (text.new.items ≡ text.old.items ++ worker_line number list.now) }
 {
-    write!(writer, "worker {number} ")?;
-    write_items(list, writer)
-}
-
-// Writes the line of a list, from its items on.
-fn write_items<W: Write>(list: &[Place], writer: &mut W) -> io::Result<()>
-    ensures { OnOk result (Appends (W.contents writer.old) (W.contents writer.new) (items_of list.now ++ codes "\n")) }
-{
-    write!(writer, "items")?;
-    for place in list {
-        write!(writer, " {}", place.index())?;
-    }
-    writeln!(writer)
+    push_numbered(text, b"worker ", number as u64, b" ")?;
+    push_items(text, list, b"\n")
 }

@@ -1,5 +1,5 @@
 use Rattle.std.proofs.Common.{◌≡◌, length, refl, arith}
-use Rattle.ic_program.proofs.Taking.{cut_behind}
+use Rattle.ic_program.proofs.TakeLemmas.{cut_behind}
 use Rattle.ic_program.proofs.answers.push_start.Goals as goal
 
 pub returns-clause-put : goal.returns-clause-put

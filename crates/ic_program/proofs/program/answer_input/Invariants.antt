@@ -1,12 +1,15 @@
-use Rattle.std.proofs.Common.{◌≡◌, ℕ, List, []}
-use Rattle.std.specs.Io.KnownBytes.{Consumes}
-use Rattle.ic_program.specs.Played.{IsNew, Answered}
+use Rattle.std.proofs.Common.{◌≡◌, [], true}
+use Rattle.std.specs.Prelude.{OnSome, IsSome}
+use Rattle.ic_program.specs.Played.{IsNew}
+use Rattle.ic_program.specs.HowFar.{AnsweredFirst, IsLeftToRead}
+use Rattle.ic_program.proofs.RunEnds.{lines_in}
 use Rattle.ic_program.proofs.program.answer_input.Given as goal
 
--- what was answered so far is written, and what the reader gave it no longer has
+-- what was answered so far is written, and what is left of the lines is what is cut off and what the reader has
 abbrev pub invariant-loop-round : goal.invariant-loop-round
 invariant-loop-round g l =
     IsNew l.initial.session.world
-    × Answered l.initial.session.world l.session.world (g.W.Write.contents l.fn.writer) (g.W.Write.contents l.writer)
+    × AnsweredFirst (lines_in (g.R.Read.remaining l.fn.reader)) (λ count others. (l.session.lines ≡ count) × IsLeftToRead l.cut.items (g.R.Read.remaining l.reader) true others)
+    l.initial.session.world l.session.world (g.W.Write.contents l.fn.writer) (g.W.Write.contents l.writer)
     × (l.session.answers.items ≡ [])
-    × ((taken : List ℕ) × Consumes (g.R.Read.remaining l.fn.reader) (g.R.Read.remaining l.reader) taken)
+    × OnSome (g.R.Read.remaining l.fn.reader) (IsSome (g.R.Read.remaining l.reader))

@@ -1,10 +1,14 @@
-use Rattle.std.proofs.Common.{length}
+use Rattle.std.proofs.Common.{◌≡◌, ◌+◌, Some, length}
+use Rattle.std.specs.Str.Lines.{lines}
 use Rattle.std.specs.Io.KnownBytes.{append_known}
-use Rattle.ic_program.specs.Played.{Answered}
+use Rattle.ic_program.specs.HowFar.{AnsweredFirst}
 use Rattle.ic_program.proofs.session.Session.answer_lines.Given as goal
 
-abbrev pub invariant-loop-words : goal.invariant-loop-words
-invariant-loop-words g l = Answered l.fn.self.world l.self.world (append_known (g.W.Write.contents l.fn.writer) l.fn.self.answers.items) (append_known (g.W.Write.contents l.writer) l.self.answers.items)
+-- the lines in front of the rest were answered
+abbrev pub invariant-loop-rest : goal.invariant-loop-rest
+invariant-loop-rest g l =
+    AnsweredFirst (Some (lines l.fn.text)) (λ count others. (l.self.lines ≡ l.fn.self.lines + count) × (others ≡ lines l.rest)) l.fn.self.world l.self.world
+    (append_known (g.W.Write.contents l.fn.writer) l.fn.self.answers.items) (append_known (g.W.Write.contents l.writer) l.self.answers.items)
 
-abbrev pub decreases-loop-words : goal.decreases-loop-words
-decreases-loop-words g l = length l.words.rest.now
+abbrev pub decreases-loop-rest : goal.decreases-loop-rest
+decreases-loop-rest g l = length l.rest

@@ -1,0 +1,140 @@
+-- THE GRAMMAR: which command a line is.
+use Rattle.std.specs.Prelude.{ℕ, ◌*◌, ◌+◌, ◌^◌, ◌&&◌, List, [], ◌∷◌, length, drop, filter, codes, Option, Some, None, option_map, option_and_then, nat_eq, nat_lt, nat_le, ◌==◌, if◌then◌else◌, bytes_eq}
+use Rattle.std.specs.List.{slice_split, starts_with}
+use Rattle.std.specs.Str.{all_ascii_digits}
+use Rattle.std.specs.Str.Parse.{digits_value}
+use Rattle.ic_unsafe_ref.specs.declared.place.Place.{Place}
+use Rattle.ic_unsafe_ref.specs.Places.{place_at}
+use Rattle.ic_any_collection.specs.declared.kind.Kind.{Kind}
+use Rattle.ic_any_collection.specs.declared.kind.Kind.TheVariants.{Singly, Doubly, Xor, Tree}
+use Rattle.ic_rbtree.specs.declared.keys.key_adapter.Bound.{Bound}
+use Rattle.ic_rbtree.specs.declared.keys.key_adapter.Bound.TheVariants.{Included, Excluded, Unbounded}
+use Rattle.ic_world.specs.declared.call.Command.{Command}
+use Rattle.ic_world.specs.declared.call.Command.TheVariants as call
+use Rattle.ic_program.specs.declared.line.Line.{Line}
+use Rattle.ic_program.specs.declared.line.Line.TheVariants.{Empty, Call, NoCommand}
+
+-- THE WORDS OF A LINE stand between spaces, and empty ones are dropped
+abbrev pub words_of : List ℕ → List (List ℕ)
+words_of line = filter (λ word. nat_lt 0 (length word)) (slice_split (λ byte. byte == 32) line)
+
+-- WHAT A WORD SAYS. A number: 1 to 20 decimal digits, of a value below 2^64
+abbrev pub number_in : List ℕ → Option ℕ
+number_in word =
+    if all_ascii_digits word && nat_lt 0 (length word) && nat_le (length word) 20 && nat_lt (digits_value 10 word) (2 ^ 64)
+    then Some (digits_value 10 word) else None
+
+-- the place of an object: its number, which is below 2^32
+abbrev pub nth_place : ℕ → Option Place
+nth_place index = if nat_lt index (2 ^ 32) then place_at (8 * (index + 1)) else None
+
+abbrev pub place_in : List ℕ → Option Place
+place_in word = option_and_then nth_place (number_in word)
+
+-- what a name stands for, among some names
+abbrev pub named : {A : Type 0} → List (List ℕ × A) → List ℕ → Option A
+named [] word = None
+named (entry ∷ entries) word = if bytes_eq word entry.0 then Some entry.1 else named entries word
+
+-- a kind
+abbrev pub kind_in : List ℕ → Option Kind
+kind_in = named ((codes "singly", Singly) ∷ (codes "doubly", Doubly) ∷ (codes "xor", Xor) ∷ (codes "tree", Tree) ∷ [])
+
+-- a bound of keys: `included:K`, `excluded:K` or `unbounded`
+abbrev pub bound_in : List ℕ → Option (Bound ℕ)
+bound_in word =
+    if starts_with nat_eq word (codes "included:") then option_map Included (number_in (drop 9 word))
+    else if starts_with nat_eq word (codes "excluded:") then option_map Excluded (number_in (drop 9 word))
+    else named ((codes "unbounded", Unbounded) ∷ []) word
+
+-- a neighbor: an object, or `none` beyond an end
+abbrev pub neighbor_in : List ℕ → Option (Option Place)
+neighbor_in word = if bytes_eq word (codes "none") then Some None else option_map Some (place_in word)
+
+-- A CALL OF ONE ARGUMENT, OF TWO, OF THREE: so many words, each of which says its argument
+abbrev pub one : {A : Type 0} → (List ℕ → Option A) → (A → Command ℕ ℕ) → List (List ℕ) → Option (Command ℕ ℕ)
+one a call (u ∷ []) = option_map call (a u)
+one a call _ = None
+
+abbrev pub two : {A B : Type 0} → (List ℕ → Option A) → (List ℕ → Option B) → (A → B → Command ℕ ℕ) → List (List ℕ) → Option (Command ℕ ℕ)
+two a b call (u ∷ v ∷ []) = option_and_then (λ x. option_map (call x) (b v)) (a u)
+two a b call _ = None
+
+abbrev pub three : {A B C : Type 0} → (List ℕ → Option A) → (List ℕ → Option B) → (List ℕ → Option C)
+    → (A → B → C → Command ℕ ℕ) → List (List ℕ) → Option (Command ℕ ℕ)
+three a b c call (u ∷ v ∷ w ∷ []) = option_and_then (λ x. option_and_then (λ y. option_map (call x y) (c w)) (b v)) (a u)
+three a b c call _ = None
+
+-- THE CALLS: the name of each, and what its arguments are
+unfoldable pub calls : List (List ℕ × (List (List ℕ) → Option (Command ℕ ℕ)))
+calls =
+    (codes "place", one number_in call.Place)
+    ∷ (codes "remove_object", one place_in call.RemoveObject)
+    ∷ (codes "set_value", two place_in number_in call.SetValue)
+    ∷ (codes "field", one kind_in call.AddField)
+    ∷ (codes "open", two number_in kind_in call.Open)
+    ∷ (codes "dispose", one number_in call.Dispose)
+    ∷ (codes "clear", one number_in call.Clear)
+    ∷ (codes "fast_clear", one number_in call.FastClear)
+    ∷ (codes "take", one number_in call.Take)
+    ∷ (codes "show", one number_in call.Show)
+    ∷ (codes "show_back", one number_in call.ShowBack)
+    ∷ (codes "push_front", two number_in place_in call.PushFront)
+    ∷ (codes "push_back", two number_in place_in call.PushBack)
+    ∷ (codes "pop_front", one number_in call.PopFront)
+    ∷ (codes "pop_back", one number_in call.PopBack)
+    ∷ (codes "move_next", one number_in call.MoveNext)
+    ∷ (codes "move_prev", one number_in call.MovePrev)
+    ∷ (codes "go_null", one number_in call.GoNull)
+    ∷ (codes "current", one number_in call.Current)
+    ∷ (codes "seek", two number_in place_in call.Seek)
+    ∷ (codes "seek_with_prev", three number_in place_in neighbor_in call.SeekWithPrev)
+    ∷ (codes "seek_with_next", three number_in place_in neighbor_in call.SeekWithNext)
+    ∷ (codes "insert_after", two number_in place_in call.InsertAfter)
+    ∷ (codes "insert_before", two number_in place_in call.InsertBefore)
+    ∷ (codes "remove", one number_in call.Remove)
+    ∷ (codes "remove_next", one number_in call.RemoveNext)
+    ∷ (codes "replace_with", two number_in place_in call.ReplaceWith)
+    ∷ (codes "replace_next_with", two number_in place_in call.ReplaceNextWith)
+    ∷ (codes "splice_after", two number_in number_in call.SpliceAfter)
+    ∷ (codes "splice_before", two number_in number_in call.SpliceBefore)
+    ∷ (codes "split_after", one number_in call.SplitAfter)
+    ∷ (codes "split_before", one number_in call.SplitBefore)
+    ∷ (codes "reverse", one number_in call.Reverse)
+    ∷ (codes "find", two number_in number_in call.Find)
+    ∷ (codes "lower_bound", two number_in bound_in call.LowerBound)
+    ∷ (codes "upper_bound", two number_in bound_in call.UpperBound)
+    ∷ (codes "range", three number_in bound_in bound_in call.Range)
+    ∷ (codes "insert", two number_in place_in call.Insert)
+    ∷ (codes "cursor_insert", two number_in place_in call.CursorInsert)
+    ∷ (codes "entry", three number_in number_in place_in call.Entry)
+    ∷ (codes "is_linked", two number_in place_in call.IsLinked)
+    ∷ (codes "force_unlink", two number_in place_in call.ForceUnlink)
+    ∷ []
+
+-- THE COMMAND THAT SOME WORDS ARE: the name of a call, and then its arguments
+abbrev pub command_among : List (List ℕ × (List (List ℕ) → Option (Command ℕ ℕ))) → List (List ℕ) → Option (Command ℕ ℕ)
+command_among entries [] = None
+command_among entries (name ∷ words) = option_and_then (λ read. read words) (named entries name)
+
+unfoldable pub command_in : List (List ℕ) → Option (Command ℕ ℕ)
+command_in words = command_among calls words
+
+-- WHAT A LINE SAYS: nothing if it has no words, else a command or none
+abbrev pub said_by : List (List ℕ) → Option (Command ℕ ℕ) → Line
+said_by [] command = Empty
+said_by (name ∷ words) None = NoCommand
+said_by (name ∷ words) (Some command) = Call command
+
+abbrev pub said_in : List ℕ → Line
+said_in line = said_by (words_of line) (command_in (words_of line))
+
+-- the commands of several lines, in order: none, if one of them is no command
+abbrev pub before_others : Line → Option (List (Command ℕ ℕ)) → Option (List (Command ℕ ℕ))
+before_others Empty commands = commands
+before_others (Call command) commands = option_map (λ others. command ∷ others) commands
+before_others NoCommand commands = None
+
+abbrev pub commands_in : List (List ℕ) → Option (List (Command ℕ ℕ))
+commands_in [] = Some []
+commands_in (line ∷ lines) = before_others (said_in line) (commands_in lines)

@@ -1,0 +1,103 @@
+//! The arguments of calls: what the first word of a text says, and the text behind that word.
+//!
+//! ```text
+//! u64::read(b"12 3\n")      // Some((12, ` 3\n`))
+//! Kind::read(b"xor\n")      // Some((Kind::Xor, `\n`))
+//! Place::read(b"singly\n")  // None: the word is no number
+//! ```
+
+ghost use Rattle.std.specs.Prelude.{ℕ, List, Option};
+ghost use Rattle.ic_program.specs.Grammar.{bound_in, kind_in, neighbor_in, number_in, place_in};
+ghost use Rattle.ic_program.specs.Text.{ReadsFirst};
+
+use crate::text::first_word;
+use crate::word::{bound, kind, neighbor, number, place_of, small_number};
+use ic_any_collection::Kind;
+use ic_rbtree::Bound;
+use ic_unsafe_ref::Place;
+
+/// What a word may say as an argument of a call.
+pub(crate) trait Argument: Copy {
+    // What a word says, if it says that.
+    ghost says: { List ℕ → Option Self };
+
+    /// What the first word of the line says, and the text behind it. `None` if it does not say that, or the line has no word.
+    fn read<'l>(text: &'l [u8]) -> Option<(Self, &'l [u8])>
+        ensures { ReadsFirst says text.now result };
+}
+
+/// A value, or a key. Most numbers have a few digits and one space or the line feed behind them.
+impl Argument for u64 {
+    ghost says = { number_in };
+
+    #[inline(always)]
+    fn read<'l>(text: &'l [u8]) -> Option<(u64, &'l [u8])> {
+        if let Some((number, rest)) = small_number(text) {
+            return Some((number, rest));
+        }
+        any_number(text)
+    }
+}
+
+// The same of a number with any count of digits.
+#[cold]
+#[inline(never)]
+fn any_number<'l>(text: &'l [u8]) -> Option<(u64, &'l [u8])>
+    ensures { ReadsFirst number_in text.now result }
+{
+    let (word, rest) = first_word(text);
+    Some((number(word)?, rest))
+}
+
+/// The number of a field or of a collection, which need not exist.
+impl Argument for usize {
+    ghost says = { number_in };
+
+    #[inline(always)]
+    fn read<'l>(text: &'l [u8]) -> Option<(usize, &'l [u8])> {
+        let (number, rest) = u64::read(text)?;
+        Some((number as usize, rest))
+    }
+}
+
+/// The place of an object, which need not exist.
+impl Argument for Place {
+    ghost says = { place_in };
+
+    #[inline(always)]
+    fn read<'l>(text: &'l [u8]) -> Option<(Place, &'l [u8])> {
+        let (index, rest) = usize::read(text)?;
+        Some((place_of(index)?, rest))
+    }
+}
+
+impl Argument for Kind {
+    ghost says = { kind_in };
+
+    #[inline]
+    fn read<'l>(text: &'l [u8]) -> Option<(Kind, &'l [u8])> {
+        let (word, rest) = first_word(text);
+        Some((kind(word)?, rest))
+    }
+}
+
+impl Argument for Bound<u64> {
+    ghost says = { bound_in };
+
+    #[inline]
+    fn read<'l>(text: &'l [u8]) -> Option<(Bound<u64>, &'l [u8])> {
+        let (word, rest) = first_word(text);
+        Some((bound(word)?, rest))
+    }
+}
+
+/// A neighbor: an object, or none beyond an end.
+impl Argument for Option<Place> {
+    ghost says = { neighbor_in };
+
+    #[inline]
+    fn read<'l>(text: &'l [u8]) -> Option<(Option<Place>, &'l [u8])> {
+        let (word, rest) = first_word(text);
+        Some((neighbor(word)?, rest))
+    }
+}

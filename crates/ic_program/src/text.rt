@@ -1,0 +1,136 @@
+//! A text of lines: where its first line and the words of that end.
+//!
+//! ```text
+//! first_word(b"  push_back 0 3\n")   // `push_back`, and the text from the space behind it on
+//! behind_line(b" \r\npop_front 0\n") // Some(`pop_front 0\n`): the line has no more words
+//! ```
+
+ghost use Rattle.std.specs.Prelude.{◌≡◌, ◌≢◌, ◌≤◌, true, false, [], MatchOption, length};
+ghost use Rattle.std.specs.Bool.{OnTrue};
+ghost use Rattle.ic_program.specs.Text.{behind_line as behind_first_line, behind_spaces, ends_word, ends_line as is_line_end, line_in, word_in, words_in, ReadsWord};
+
+/// The text behind the spaces that come first. Mostly there are none.
+#[inline(always)]
+pub(crate) fn without_spaces<'l>(text: &'l [u8]) -> &'l [u8]
+    ensures { result.now ≡ behind_spaces text.now }
+{
+    match text {
+        [b' ', ..] => without_more_spaces(text),
+        _ => text,
+    }
+}
+
+// The same of a text that begins with a space.
+#[cold]
+#[inline(never)]
+fn without_more_spaces<'l>(text: &'l [u8]) -> &'l [u8]
+    ensures { result.now ≡ behind_spaces text.now }
+{
+    let mut rest = text;
+    while let [b' ', others @ ..] = rest {
+        rest = others;
+    }
+    rest
+}
+
+/// The text behind the space that it begins with, if it begins with one.
+#[inline(always)]
+pub(crate) fn behind_space<'l>(text: &'l [u8]) -> &'l [u8]
+    ensures words { words_in result.now ≡ words_in text.now }
+    ensures behind { behind_first_line result.now ≡ behind_first_line text.now }
+{
+    match text {
+        [b' ', rest @ ..] => rest,
+        _ => text,
+    }
+}
+
+/// The text behind the line, if the line has no more words. It ends by `\n`, by `\r\n` or at the end of the text.
+#[inline(always)]
+pub(crate) fn behind_line<'l>(text: &'l [u8]) -> Option<&'l [u8]>
+    ensures { MatchOption result (words_in text.now ≢ []) (λ rest. (words_in text.now ≡ []) × (rest.now ≡ behind_first_line text.now)) }
+{
+    match text {
+        [b'\n', rest @ ..] => Some(rest),
+        _ => behind_other_line(text),
+    }
+}
+
+// The same of a line that does not begin with `\n`.
+#[cold]
+#[inline(never)]
+fn behind_other_line<'l>(text: &'l [u8]) -> Option<&'l [u8]>
+    ensures { MatchOption result (words_in text.now ≢ []) (λ rest. (words_in text.now ≡ []) × (rest.now ≡ behind_first_line text.now)) }
+{
+    behind_end(without_spaces(text))
+}
+
+// The text behind the end of a line, if it begins with one.
+fn behind_end<'l>(text: &'l [u8]) -> Option<&'l [u8]>
+    ensures { MatchOption result (is_line_end text.now ≡ false) (λ rest. (is_line_end text.now ≡ true) × (rest.now ≡ behind_first_line text.now)) }
+{
+    match text {
+        [] => Some(text),
+        [b'\n', rest @ ..] => Some(rest),
+        [b'\r', b'\n', rest @ ..] => Some(rest),
+        _ => None,
+    }
+}
+
+/// Whether a word ends here by a space or by `\n`. If not, it may end by `\r\n` or at the end of the text.
+#[inline(always)]
+pub(crate) fn word_ends(text: &[u8]) -> bool
+    ensures { OnTrue result (ends_word text.now ≡ true) }
+{
+    match text {
+        [b' ', ..] => true,
+        [b'\n', ..] => true,
+        _ => false,
+    }
+}
+
+/// The first word of the line, empty if there is none, and the text behind that word. O(bytes).
+#[cold]
+#[inline(never)]
+pub(crate) fn first_word<'l>(text: &'l [u8]) -> (&'l [u8], &'l [u8])
+    ensures { ReadsWord text.now result.0.now result.1.now }
+{
+    let start = without_spaces(text);
+    let length = word_length(start);
+    (&start[..length], &start[length..])
+}
+
+// How many of the first bytes are a word: those in front of a space and of the line's end.
+fn word_length(text: &[u8]) -> usize
+    ensures length { result ≡ length (word_in text.now) }
+    ensures within { result ≤ length text.now }
+{
+    for (at, byte) in text.iter().enumerate() {
+        if *byte == b' ' || behind_end(&text[at..]).is_some() {
+            return at;
+        }
+    }
+    text.len()
+}
+
+/// The first line, without the `\n` or `\r\n` at its end. O(bytes).
+#[cold]
+#[inline(never)]
+pub(crate) fn first_line<'l>(text: &'l [u8]) -> &'l [u8]
+    ensures { result.now ≡ line_in text.now }
+{
+    &text[..line_length(text)]
+}
+
+// How many of the first bytes are a line: those in front of its end.
+fn line_length(text: &[u8]) -> usize
+    ensures length { result ≡ length (line_in text.now) }
+    ensures within { result ≤ length text.now }
+{
+    for (at, _) in text.iter().enumerate() {
+        if behind_end(&text[at..]).is_some() {
+            return at;
+        }
+    }
+    text.len()
+}
