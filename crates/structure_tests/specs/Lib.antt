@@ -1,2 +1,3 @@
 pub mod Jobs
+pub mod OfEight
 pub mod TwoRings

@@ -1,44 +1,25 @@
-//! The algorithms over lists, each called once at a list of eight objects, or of two lists of four.
+//! The algorithms over lists: each is called at a list of eight objects, of every kind of list that has it.
 
-ghost use Rattle.std.specs.Prelude.{◌≡◌, ◌≤◌, List, length};
+ghost use Rattle.std.specs.Prelude.{◌≡◌, ◌<◌, ◌≤◌, List, length, true};
 ghost use Rattle.ic_unsafe_ref.specs.declared.place.Place.{Place};
+ghost use Rattle.ic_unsafe_ref.specs.Objects.{is_placed};
+ghost use Rattle.ic_unsafe_ref.specs.Places.{index_of};
 ghost use Rattle.ic_link_ops.specs.Chains.{ShowsChain, ShowsSomeChain};
-ghost use Rattle.ic_link_ops.specs.PlacedObjects.{ShowsPlaced};
-ghost use Rattle.ic_link_ops.specs.PlainTables.{table};
-ghost use Rattle.ic_list_algorithms.specs.Runs.{FewLooks, TwoShown};
-ghost use Rattle.ic_list_algorithms.specs.TwoLists.{TwoLists};
+ghost use Rattle.ic_list_algorithms.specs.Runs.{FewLooks};
+ghost use Rattle.structure_tests.specs.OfEight.{HoldsOfEight};
 
 use crate::asserts::{assert_same, assert_true};
 use ic_chain::{Chain, DoubleEnded, ForwardLinks, ListKind, SingleEnded};
 use ic_link_ops::linked_list::{LinkOpsWith, TwoWords};
 use ic_link_ops::singly_linked_list::Singly;
-use ic_link_ops::{LinkOps, LinkValues, OneWord, PlainTable, Words};
+use ic_link_ops::{LinkOps, LinkValues, OneWord, PlainTable};
 use ic_linked_list::DoublyLinked;
 use ic_list_algorithms as algorithms;
 use ic_list_algorithms::{By, Counted, Following, Natural};
 use ic_singly_linked_list::SinglyLinked;
 use ic_test_support::objects::{TENS, eight_objects, place_at};
 use ic_unsafe_ref::{Objects, Place, UnsafeRef};
-use std::alloc::Global;
 use std::process::Abort;
-
-// A list, the table of its links, which covers the places 0 to 7, and its objects: 10 to 80 stand there, in this order.
-struct Fixture<K: ListKind, W: Words> {
-    objects: Objects<u64>,
-    links: PlainTable<W>,
-    list: Chain<K, u64>,
-}
-
-// Not derived: so a function that lets a fixture go has one call of this to prove, and not the drop of each part.
-impl<K: ListKind, W: Words> Drop for Fixture<K, W> {
-    fn drop(self) {
-        let Fixture {
-            objects: _,
-            links: _,
-            list: _,
-        } = self;
-    }
-}
 
 // Puts the objects at the first places into a new list, as many as that and in their order.
 fn filled<K: ForwardLinks<L>, L: LinkOps>(links: &mut L, members: usize) -> Chain<K, u64>
@@ -55,48 +36,35 @@ fn filled<K: ForwardLinks<L>, L: LinkOps>(links: &mut L, members: usize) -> Chai
     list
 }
 
-// A list of all eight objects, in their order.
-fn eight<K: ForwardLinks<PlainTable<W>>, W: Words>(rt: &impl Abort, alloc: Global) -> Fixture<K, W>
-    ensures shown { ShowsPlaced (ShowsChain K.Between K.kept (table W.unlinked result.links) result.list) result.objects }
-    ensures some { ShowsSomeChain K.Between K.kept (table W.unlinked result.links) result.list }
-{
-    let (objects, mut links) = eight_objects(alloc, TENS).expect(rt, "memory");
-    let list = filled(&mut links, 8);
-    Fixture {
-        objects,
-        links,
-        list,
-    }
-}
-
 // Sorts a list of numbers, the largest first.
 fn sort_down<K: Following<L>, L: LinkOps>(
     list: &mut Chain<K, u64>,
     links: &mut L,
     objects: &Objects<u64>,
 )
-    requires placed { ShowsPlaced (ShowsChain K.Between K.kept (L.table links.old) list.old) objects.now }
-    ensures shown { ShowsSomeChain K.Between K.kept (L.table links.new) list.new }
+    requires held { HoldsOfEight K.Between K.kept (L.table links.old) list.old objects.now }
+    ensures held { HoldsOfEight K.Between K.kept (L.table links.new) list.new objects.now }
 {
     let mut largest_first = By::new(|a: &u64, b: &u64| b.cmp(a));
     algorithms::sort_by(list, links, objects, &mut largest_first);
 }
 
-// Sorts a list of numbers, and answers how often two of them were compared.
+// Sorts a list of numbers, and returns how often two of them were compared.
 fn sort_and_count<K: Following<L>, L: LinkOps>(
     list: &mut Chain<K, u64>,
     links: &mut L,
     objects: &Objects<u64>,
 ) -> u64
-    requires placed { ShowsPlaced (ShowsChain K.Between K.kept (L.table links.old) list.old) objects.now }
+    requires held { HoldsOfEight K.Between K.kept (L.table links.old) list.old objects.now }
     ensures few { (s : List Place) → ShowsChain K.Between K.kept (L.table links.old) list.old s → FewLooks 0 result (length s) }
+    ensures held { HoldsOfEight K.Between K.kept (L.table links.new) list.new objects.now }
 {
     let mut order = Counted::new(Natural);
     algorithms::sort_by(list, links, objects, &mut order);
     order.looks()
 }
 
-// Sorts a list by the numbers that stand beside its links, the largest first, and answers the member that is first then.
+// Sorts a list by the numbers that stand beside its links, the largest first, and returns the member that is first then.
 fn sorted_down_keyed<K: Following<L>, L: LinkValues<u64>>(
     list: &mut Chain<K, u64>,
     links: &mut L,
@@ -110,7 +78,7 @@ fn sorted_down_keyed<K: Following<L>, L: LinkValues<u64>>(
     index_of_first(list)
 }
 
-// Sorts a list by the numbers that stand beside its links, the smallest first, merges an empty list into it, and answers its first member.
+// Sorts a list by the numbers that stand beside its links, the smallest first, merges an empty list into it, and returns its first member.
 fn merged_keyed<K: Following<L>, L: LinkValues<u64>>(
     list: &mut Chain<K, u64>,
     links: &mut L,
@@ -130,7 +98,7 @@ fn walked<K: ForwardLinks<L>, L: LinkOps>(
     links: &L,
     objects: &Objects<u64>,
 ) -> (bool, usize, Option<usize>, Option<usize>, Option<usize>)
-    requires placed { ShowsPlaced (ShowsChain K.Between K.kept (L.table links.now) list.now) objects.now }
+    requires held { HoldsOfEight K.Between K.kept (L.table links.now) list.now objects.now }
 {
     (
         algorithms::is_sorted_by(list, links, objects, &mut Natural),
@@ -149,45 +117,50 @@ fn index(object: Option<UnsafeRef<u64>>) -> Option<usize> {
     }
 }
 
-// Merges an empty list into one, puts one behind it, and turns it behind its first two members: it answers the member that is first then.
+// Merges an empty list into one, puts one behind it, and turns it behind its first two members: it returns the member that is first then.
 fn merged<K: Following<L>, L: LinkOps>(
     list: &mut Chain<K, u64>,
     links: &mut L,
     objects: &Objects<u64>,
 ) -> Option<usize>
-    requires placed { ShowsPlaced (ShowsChain K.Between K.kept (L.table links.old) list.old) objects.now }
+    requires held { HoldsOfEight K.Between K.kept (L.table links.old) list.old objects.now }
+    ensures held { HoldsOfEight K.Between K.kept (L.table links.new) list.new objects.now }
 {
     algorithms::merge_by(list, links, objects, &mut Natural, Chain::new());
     turned(list, links)
 }
 
-// Turns a list behind its first two members, and answers the member that is first then.
+// Turns a list behind its first two members, and returns the member that is first then.
 fn turned<K: ForwardLinks<L>, L: LinkOps>(list: &mut Chain<K, u64>, links: &mut L) -> Option<usize>
     requires shown { ShowsSomeChain K.Between K.kept (L.table links.old) list.old }
+    ensures shown { ShowsSomeChain K.Between K.kept (L.table links.new) list.new }
+    ensures extent { (L.table links.new).extent ≡ (L.table links.old).extent }
 {
     algorithms::rotate_left(list, links, 2);
     index_of_first(list)
 }
 
-// Keeps the numbers above 30, and answers the first member.
+// Keeps the numbers above 30, and returns the first member.
 fn sifted<K: ForwardLinks<L>, L: LinkOps>(
     list: &mut Chain<K, u64>,
     links: &mut L,
     objects: &Objects<u64>,
 ) -> Option<usize>
-    requires placed { ShowsPlaced (ShowsChain K.Between K.kept (L.table links.old) list.old) objects.now }
+    requires held { HoldsOfEight K.Between K.kept (L.table links.old) list.old objects.now }
+    ensures held { HoldsOfEight K.Between K.kept (L.table links.new) list.new objects.now }
 {
     algorithms::retain(list, links, objects, |value: &u64| *value > 30);
     index_of_first(list)
 }
 
-// Of the numbers that have the same hundreds keeps the first: it answers how many members there are then.
+// Of the numbers that have the same hundreds keeps the first: it returns how many members there are then.
 fn deduped<K: ForwardLinks<L>, L: LinkOps>(
     list: &mut Chain<K, u64>,
     links: &mut L,
     objects: &Objects<u64>,
 ) -> usize
-    requires placed { ShowsPlaced (ShowsChain K.Between K.kept (L.table links.old) list.old) objects.now }
+    requires held { HoldsOfEight K.Between K.kept (L.table links.old) list.old objects.now }
+    ensures held { HoldsOfEight K.Between K.kept (L.table links.new) list.new objects.now }
 {
     algorithms::dedup_by(
         list,
@@ -230,65 +203,87 @@ fn index_of_first<K: ListKind>(list: &Chain<K, u64>) -> Option<usize> {
     }
 }
 
+// Makes each call that all kinds of lists have, on a list of all eight objects.
+fn play<K: Following<L>, L: LinkOps>(
+    rt: &impl Abort,
+    links: &mut L,
+    objects: &Objects<u64>,
+) -> Chain<K, u64>
+    requires covered { (L.table links.old).extent.places ≡ 8 }
+    requires placed { (q : Place) → index_of q < 8 → is_placed objects.now q ≡ true }
+    ensures held { HoldsOfEight K.Between K.kept (L.table links.new) result objects.now }
+{
+    let mut list: Chain<K, u64> = filled(links, 8);
+    let found = walked(&list, &*links, objects);
+    assert_same(rt, found, (true, 8, Some(3), Some(4), Some(4)));
+    assert_same(rt, sort_and_count(&mut list, links, objects), 12);
+    assert_same(rt, merged(&mut list, links, objects), Some(2));
+    sort_down(&mut list, links, objects);
+    assert_same(rt, index_of_first(&list), Some(7));
+    assert_same(rt, turned(&mut list, links), Some(5));
+    let _ = sort_and_count(&mut list, links, objects);
+    assert_same(rt, sifted(&mut list, links, objects), Some(3));
+    list.clear(links);
+    let mut list: Chain<K, u64> = filled(links, 8);
+    assert_same(rt, deduped(&mut list, links, objects), 1);
+    list
+}
+
+// Makes the calls on a list that keeps its last member.
+fn play_double_ended<K: DoubleEnded + Following<L>, L: LinkOps>(
+    rt: &impl Abort,
+    links: &mut L,
+    objects: &Objects<u64>,
+)
+    requires covered { (L.table links.old).extent.places ≡ 8 }
+    requires placed { (q : Place) → index_of q < 8 → is_placed objects.now q ≡ true }
+{
+    let mut list: Chain<K, u64> = play(rt, links, objects);
+    assert_true(rt, appended(&mut list, links));
+}
+
+// Makes the calls on a list that keeps its first member alone.
+fn play_single_ended<K: SingleEnded + Following<L>, L: LinkOps>(
+    rt: &impl Abort,
+    links: &mut L,
+    objects: &Objects<u64>,
+)
+    requires covered { (L.table links.old).extent.places ≡ 8 }
+    requires placed { (q : Place) → index_of q < 8 → is_placed objects.now q ≡ true }
+{
+    let mut list: Chain<K, u64> = play(rt, links, objects);
+    assert_true(rt, appended_walking(&mut list, links));
+}
+
+// Makes the calls of a list by numbers that stand beside the links: 30, 10 and 20.
+fn play_keyed<K: Following<L>, L: LinkValues<u64>>(rt: &impl Abort, links: &mut L)
+    requires covered { (L.table links.old).extent.places ≡ 8 }
+{
+    links.set_value(place_at(0), 30);
+    links.set_value(place_at(1), 10);
+    links.set_value(place_at(2), 20);
+    let mut list: Chain<K, u64> = filled(links, 3);
+    assert_same(rt, sorted_down_keyed(&mut list, links), Some(0));
+    assert_same(rt, merged_keyed(&mut list, links), Some(1));
+    assert_same(rt, turned(&mut list, links), Some(0));
+}
+
 #[test]
 fn algorithms_over_doubly_lists(rt: HostRuntime) {
-    let alloc = rt.alloc();
-    let mut eight_there: Fixture<DoublyLinked, TwoWords> = eight(&rt, alloc);
-    let found = walked(&eight_there.list, &eight_there.links, &eight_there.objects);
-    assert_same(&rt, found, (true, 8, Some(3), Some(4), Some(4)));
-    sort_down(
-        &mut eight_there.list,
-        &mut eight_there.links,
-        &eight_there.objects,
-    );
-    assert_same(&rt, index_of_first(&eight_there.list), Some(7));
-    let first = turned(&mut eight_there.list, &mut eight_there.links);
-    assert_same(&rt, first, Some(5));
-    let mut other: Fixture<DoublyLinked, TwoWords> = eight(&rt, alloc);
-    let first = merged(&mut other.list, &mut other.links, &other.objects);
-    assert_same(&rt, first, Some(2));
-    let mut other: Fixture<DoublyLinked, TwoWords> = eight(&rt, alloc);
-    let first = sifted(&mut other.list, &mut other.links, &other.objects);
-    assert_same(&rt, first, Some(3));
-    let mut other: Fixture<DoublyLinked, TwoWords> = eight(&rt, alloc);
-    let members = deduped(&mut other.list, &mut other.links, &other.objects);
-    assert_same(&rt, members, 1);
-    let mut other: Fixture<DoublyLinked, TwoWords> = eight(&rt, alloc);
-    assert_true(&rt, appended(&mut other.list, &mut other.links));
-    let mut other: Fixture<DoublyLinked, TwoWords> = eight(&rt, alloc);
-    let looks = sort_and_count(&mut other.list, &mut other.links, &other.objects);
-    assert_same(&rt, looks, 12);
+    let (objects, mut links) = eight_objects(rt.alloc(), TENS).expect(&rt, "memory");
+    play_double_ended::<DoublyLinked, PlainTable<TwoWords>>(&rt, &mut links, &objects);
 }
 
 #[test]
 fn algorithms_over_singly_lists(rt: HostRuntime) {
-    let alloc = rt.alloc();
-    let mut eight_there: Fixture<SinglyLinked, OneWord<Singly>> = eight(&rt, alloc);
-    sort_down(
-        &mut eight_there.list,
-        &mut eight_there.links,
-        &eight_there.objects,
-    );
-    assert_same(&rt, index_of_first(&eight_there.list), Some(7));
-    let mut other: Fixture<SinglyLinked, OneWord<Singly>> = eight(&rt, alloc);
-    let first = merged(&mut other.list, &mut other.links, &other.objects);
-    assert_same(&rt, first, Some(2));
-    let mut other: Fixture<SinglyLinked, OneWord<Singly>> = eight(&rt, alloc);
-    let is_empty = appended_walking(&mut other.list, &mut other.links);
-    assert_true(&rt, is_empty);
+    let (objects, mut links) = eight_objects(rt.alloc(), TENS).expect(&rt, "memory");
+    play_single_ended::<SinglyLinked, PlainTable<OneWord<Singly>>>(&rt, &mut links, &objects);
 }
 
-// The numbers 30, 10 and 20 stand beside the links.
 #[test]
 fn sorts_by_what_stands_beside_links(rt: HostRuntime) {
     let mut links: LinkOpsWith<u64> = LinkOpsWith::new(rt.alloc());
     let _ = links.cover(8);
     assert!(rt; links.covers() == 8);
-    links.set_value(place_at(0), 30);
-    links.set_value(place_at(1), 10);
-    links.set_value(place_at(2), 20);
-    let mut list: Chain<DoublyLinked, u64> = filled(&mut links, 3);
-    assert_same(&rt, sorted_down_keyed(&mut list, &mut links), Some(0));
-    assert_same(&rt, merged_keyed(&mut list, &mut links), Some(1));
-    assert_same(&rt, turned(&mut list, &mut links), Some(0));
+    play_keyed::<DoublyLinked, LinkOpsWith<u64>>(&rt, &mut links);
 }

@@ -1,8 +1,12 @@
 use Rattle.ic_list_algorithms.proofs.RunLemmas.{no_test}
+use Rattle.structure_tests.proofs.PlacedChains.{placed_members, still_of_eight}
 use Rattle.structure_tests.proofs.algorithms.sort_down.Goals as goal
+
+pub sort_by-requires-clause-placed : goal.sort_by-requires-clause-placed
+sort_by-requires-clause-placed g c = placed_members (λ q b a k. g.met.L.LinkOps.linked_is_covered c.args.links.now q (g.met.K.ForwardLinks.between_linked _ b a k)) c.requires.held
 
 pub returns : goal.returns
 returns g c =
-    let p = c.requires.placed in
-    let k = c.sort_by.ensures.sorted p.members no_test p.shown in
-    record { shown = (k.sorted, k.shown) }
+    let h = c.requires.held in
+    let k = c.sort_by.ensures.sorted h.shown.0 no_test h.shown.1 in
+    record { held = still_of_eight h k.frame.extent (k.sorted, k.shown) }

@@ -1,0 +1,12 @@
+use Rattle.ic_list_algorithms.proofs.RunLemmas.{no_test}
+use Rattle.structure_tests.proofs.PlacedChains.{placed_members, still_of_eight}
+use Rattle.structure_tests.proofs.algorithms.sort_and_count.Goals as goal
+
+pub sort_by-requires-clause-placed : goal.sort_by-requires-clause-placed
+sort_by-requires-clause-placed g c = placed_members (λ q b a k. g.met.L.LinkOps.linked_is_covered c.args.links.now q (g.met.K.ForwardLinks.between_linked _ b a k)) c.requires.held
+
+pub returns-clause-held : goal.returns-clause-held
+returns-clause-held g c =
+    let h = c.requires.held in
+    let k = c.sort_by.ensures.sorted h.shown.0 no_test h.shown.1 in
+    still_of_eight h k.frame.extent (k.sorted, k.shown)
