@@ -1,6 +1,6 @@
 //! Trees with summaries: edits and questions in turn, each requirement met by the call before.
 
-ghost use Rattle.std.specs.Prelude.{◌≡◌, ◌<◌, None, List, filter, length, map, min};
+ghost use Rattle.std.specs.Prelude.{◌≡◌, ◌<◌, ◌≤◌, None, List, filter, length, map, min};
 ghost use Rattle.std.specs.Ordering.{nat_cmp};
 ghost use Rattle.ic_unsafe_ref.specs.declared.place.Place.{Place};
 ghost use Rattle.ic_unsafe_ref.specs.Places.{index_of};
@@ -8,7 +8,7 @@ ghost use Rattle.ic_link_ops.specs.Sequences.{first};
 ghost use Rattle.ic_link_ops.specs.Tables.{IsCovered};
 ghost use Rattle.ic_link_ops.specs.ThreeWords.{node_of};
 ghost use Rattle.ic_rbtree.specs.Borders.{IsSorted};
-ghost use Rattle.ic_rbtree.specs.KeyedTrees.{keyed_table, keys_of};
+ghost use Rattle.ic_rbtree.specs.KeyedTrees.{keyed_table};
 ghost use Rattle.ic_rbtree.specs.Tree.{root_of};
 ghost use Rattle.ic_augmented.specs.Consistent.{ShowsSummed};
 ghost use Rattle.ic_augmented.specs.Counts.{counts};
@@ -140,54 +140,85 @@ fn first_above<T, L: RBTreeOps, A: Allocator>(
 }
 
 // The first interval that overlaps `[from, to)`: each starts at its key, and ends at its number.
-fn first_overlapping(
+fn first_overlapping<L: RBTreeOps + LinkValues<u64>>(
     tree: &RBTree<OwnKey>,
-    summed: &Summed<LinkOpsWith<u64>, Greatest>,
+    summed: &Summed<L, Greatest>,
     from: u64,
     to: u64,
 ) -> Option<Place>
-    requires ready { IsReady node_of keyed_table greatest (λ sums q. index_of q < room_of sums) tree.now summed.now }
-    ensures found { (s : List Place) → ShowsSummed node_of (greatest (sums_of summed.now)) (keyed_table (links_of summed.now)) (root_of tree.now) s
-        → IsSorted nat_cmp (map (start_in (keys_of (links_of summed.now))) s)
-        → result ≡ first (filter (overlaps (start_in (keys_of (links_of summed.now))) (number_at (sums_of summed.now)) from to) s) }
+    requires ready { IsReady L.node L.table greatest (λ sums q. index_of q < room_of sums) tree.now summed.now }
+    ensures found { (s : List Place) → ShowsSummed L.node (greatest (sums_of summed.now)) (L.table (links_of summed.now)) (root_of tree.now) s
+        → IsSorted nat_cmp (map (start_in (L.values (links_of summed.now))) s)
+        → result ≡ first (filter (overlaps (start_in (L.values (links_of summed.now))) (number_at (sums_of summed.now)) from to) s) }
 {
     first_overlap(tree, summed, &summed.links, from, to)
 }
 
-// Members by their position, and those that leave by it.
-#[test]
-fn members_by_position(rt: HostRuntime) {
-    let alloc = rt.alloc();
-    let (mut tree, mut summed) = empty_tree::<()>(&rt, alloc, &[40, 10, 30, 20]);
+// Inserts three objects, in the order of their keys.
+fn put_three<L: RBTreeOps + LinkValues<u64>, M: RenewSums>(
+    tree: &mut RBTree<OwnKey>,
+    summed: &mut Summed<L, M>,
+)
+    requires covers { 3 ≤ (L.table (links_of summed.old)).extent.places }
+    requires ready { IsReady L.node L.table M.sums M.Covers tree.old summed.old }
+    ensures ready { IsReady L.node L.table M.sums M.Covers tree.new summed.new }
+    ensures extent { (L.table (links_of summed.new)).extent ≡ (L.table (links_of summed.old)).extent }
+{
     for index in 0..3 {
-        put(&mut tree, &mut summed, reference(index));
+        put(tree, summed, reference(index));
     }
-    put_and_propagate(&rt, &mut tree, &mut summed, reference(3));
-    assert_same(&rt, position_of_nth(&tree, &summed, 2), 2);
-    assert_same(&rt, position_of_nth(&tree, &summed, 9), 4);
-    assert_same(&rt, take_nth(&mut tree, &mut summed, 1), Some(place_at(3)));
-    assert_same(&rt, take_nth(&mut tree, &mut summed, 3), None);
-    assert_same(&rt, position_of_nth(&tree, &summed, 9), 3);
-    assert_same(&rt, take_nth(&mut tree, &mut summed, 1), Some(place_at(2)));
+}
+
+// Members by their position, and those that leave by it.
+fn play_positions<L: RBTreeOps + LinkValues<u64>>(
+    rt: &impl Abort,
+    tree: &mut RBTree<OwnKey>,
+    summed: &mut Summed<L, Counts>,
+)
+    requires covers { (L.table (links_of summed.old)).extent.places ≡ 4 }
+    requires ready { IsReady L.node L.table counts (λ sums q. index_of q < room_of sums) tree.old summed.old }
+{
+    put_three(tree, summed);
+    put_and_propagate(rt, tree, summed, reference(3));
+    assert_same(rt, position_of_nth(&*tree, &*summed, 2), 2);
+    assert_same(rt, position_of_nth(&*tree, &*summed, 9), 4);
+    assert_same(rt, take_nth(tree, summed, 1), Some(place_at(3)));
+    assert_same(rt, take_nth(tree, summed, 3), None);
+    assert_same(rt, position_of_nth(&*tree, &*summed, 9), 3);
+    assert_same(rt, take_nth(tree, summed, 1), Some(place_at(2)));
 }
 
 // The first member with a number above a bound, before and after one is raised, and the first interval that overlaps another.
+fn play_above<L: RBTreeOps + LinkValues<u64>>(
+    rt: &impl Abort,
+    tree: &mut RBTree<OwnKey>,
+    summed: &mut Summed<L, Greatest>,
+)
+    requires covers { (L.table (links_of summed.old)).extent.places ≡ 3 }
+    requires ready { IsReady L.node L.table greatest (λ sums q. index_of q < room_of sums) tree.old summed.old }
+{
+    put_three(tree, summed);
+    let found = first_above(&*tree, summed, place_at(2), 50, 0);
+    assert_same(rt, found, Some(place_at(2)));
+    let found = first_above(&*tree, summed, place_at(0), 60, 40);
+    assert_same(rt, found, Some(place_at(0)));
+    let found = first_above(&*tree, summed, place_at(0), 40, 40);
+    assert_same(rt, found, Some(place_at(2)));
+    let found = first_above(&*tree, summed, place_at(1), 50, 50);
+    assert_same(rt, found, None);
+    let found = first_overlapping(&*tree, &*summed, 45, 46);
+    assert_same(rt, found, Some(place_at(1)));
+    assert_same(rt, first_overlapping(&*tree, &*summed, 50, 60), None);
+}
+
+#[test]
+fn members_by_position(rt: HostRuntime) {
+    let (mut tree, mut summed) = empty_tree::<()>(&rt, rt.alloc(), &[40, 10, 30, 20]);
+    play_positions(&rt, &mut tree, &mut summed);
+}
+
 #[test]
 fn the_first_above(rt: HostRuntime) {
-    let alloc = rt.alloc();
-    let (mut tree, mut summed) = empty_tree::<u64>(&rt, alloc, &[10, 20, 30]);
-    for index in 0..3 {
-        put(&mut tree, &mut summed, reference(index));
-    }
-    let found = first_above(&tree, &mut summed, place_at(2), 50, 0);
-    assert_same(&rt, found, Some(place_at(2)));
-    let found = first_above(&tree, &mut summed, place_at(0), 60, 40);
-    assert_same(&rt, found, Some(place_at(0)));
-    let found = first_above(&tree, &mut summed, place_at(0), 40, 40);
-    assert_same(&rt, found, Some(place_at(2)));
-    let found = first_above(&tree, &mut summed, place_at(1), 50, 50);
-    assert_same(&rt, found, None);
-    let found = first_overlapping(&tree, &summed, 45, 46);
-    assert_same(&rt, found, Some(place_at(1)));
-    assert_same(&rt, first_overlapping(&tree, &summed, 50, 60), None);
+    let (mut tree, mut summed) = empty_tree::<u64>(&rt, rt.alloc(), &[10, 20, 30]);
+    play_above(&rt, &mut tree, &mut summed);
 }

@@ -13,7 +13,7 @@ ghost use Rattle.ic_rbtree.specs.Vines.{ShowsVineSome};
 
 use crate::asserts::{assert_same, assert_true};
 use crate::keyed::{OwnKey, keyed_links};
-use ic_link_ops::LinkOps;
+use ic_link_ops::LinkValues;
 use ic_link_ops::rbtree::{LinkOpsWith, RBTreeOps};
 use ic_rbtree::{KeyAdapter, RBTree, RBTreeBuilder};
 use ic_test_support::objects::{place_at, reference};
@@ -53,26 +53,31 @@ fn built_anew<A: KeyAdapter, L: RBTreeOps>(
 }
 
 // Whether the members of the tree have these keys, in this order.
-fn has_keys(tree: &RBTree<OwnKey>, links: &LinkOpsWith<u64>, keys: &[u64]) -> bool
-    requires shown { ShowsSome node_of (keyed_table links.now) (root_of tree.now) }
+fn has_keys<L: RBTreeOps + LinkValues<u64>>(tree: &RBTree<OwnKey>, links: &L, keys: &[u64]) -> bool
+    requires shown { ShowsSome L.node (L.table links.now) (root_of tree.now) }
 {
     tree.iter(links, links).eq(keys)
 }
 
-// Three objects are pushed and built, taken apart, and built with a fourth.
-#[test]
-fn built_of_objects_in_order(rt: HostRuntime) {
-    let alloc = rt.alloc();
-    let mut links = keyed_links(&rt, alloc, &[10, 20, 30, 40]);
+// Three objects are pushed and built, taken apart, and built with a fourth. The keys 10 to 40 stand beside the links.
+fn play<L: RBTreeOps + LinkValues<u64>>(rt: &impl Abort, links: &mut L)
+    requires covers { (L.table links.old).extent.places ≡ 4 }
+{
     let mut builder = RBTreeBuilder::new(OwnKey);
     for index in 0..3 {
-        let last = push(&mut builder, &mut links, reference(index));
-        assert_same(&rt, last, Some(place_at(index)));
+        let last = push(&mut builder, links, reference(index));
+        assert_same(rt, last, Some(place_at(index)));
     }
-    let last = push(&mut builder, &mut links, reference(0));
-    assert_same(&rt, last, Some(place_at(2)));
-    let tree = builder.build(&mut links);
-    let (first, tree) = built_anew(tree, &mut links, reference(3));
-    assert_same(&rt, first, Some(place_at(0)));
-    assert_true(&rt, has_keys(&tree, &links, &[10, 20, 30, 40]));
+    let last = push(&mut builder, links, reference(0));
+    assert_same(rt, last, Some(place_at(2)));
+    let tree = builder.build(links);
+    let (first, tree) = built_anew(tree, links, reference(3));
+    assert_same(rt, first, Some(place_at(0)));
+    assert_true(rt, has_keys(&tree, &*links, &[10, 20, 30, 40]));
+}
+
+#[test]
+fn built_of_objects_in_order(rt: HostRuntime) {
+    let mut links = keyed_links(&rt, rt.alloc(), &[10, 20, 30, 40]);
+    play(&rt, &mut links);
 }

@@ -18,6 +18,7 @@ use ic_test_support::notes::{Answer, Text};
 use ic_test_support::objects::{eight_objects, reference};
 use ic_tree_merges::{ByKeys, difference, intersection, merge, union};
 use ic_unsafe_ref::Objects;
+use std::process::Abort;
 
 // Puts the object into the tree where its number belongs, beside another tree.
 fn put<L: RBTreeOps>(
@@ -129,6 +130,55 @@ fn write_members<L: RBTreeOps>(
     }
 }
 
+// Notes the members of two trees that are merged. Each comparison but the last takes a member over, so that there are at most eight.
+fn write_merged<L: RBTreeOps>(
+    rt: &impl Abort,
+    notes: &mut Text,
+    links: &mut L,
+    objects: &Objects<u64>,
+)
+    requires covers { (L.table links.old).extent.places ≡ 8 }
+    requires placed { (q : Place) → index_of q < 8 → is_placed objects.now q ≡ true }
+{
+    let (mut tree, other) = two_trees(links, objects);
+    let looks = merged(&mut tree, links, objects, other);
+    assert_true(rt, looks <= 8);
+    write_members(notes, &tree, &*links, objects);
+}
+
+// Notes the members of two trees that are united, and those that both had.
+fn write_united<L: RBTreeOps>(notes: &mut Text, links: &mut L, objects: &Objects<u64>)
+    requires covers { (L.table links.old).extent.places ≡ 8 }
+    requires placed { (q : Place) → index_of q < 8 → is_placed objects.now q ≡ true }
+{
+    let (mut tree, other) = two_trees(links, objects);
+    let doubles = united(&mut tree, links, objects, other);
+    write_members(notes, &tree, &*links, objects);
+    write_members(notes, &doubles, &*links, objects);
+}
+
+// Notes what the first tree keeps where it keeps what both have, and the rest.
+fn write_common<L: RBTreeOps>(notes: &mut Text, links: &mut L, objects: &Objects<u64>)
+    requires covers { (L.table links.old).extent.places ≡ 8 }
+    requires placed { (q : Place) → index_of q < 8 → is_placed objects.now q ≡ true }
+{
+    let (mut tree, other) = two_trees(links, objects);
+    let rest = kept_common(&mut tree, links, objects, &other);
+    write_members(notes, &tree, &*links, objects);
+    write_members(notes, &rest, &*links, objects);
+}
+
+// Notes what the first tree keeps where it keeps what the other one lacks, and what both have.
+fn write_rest<L: RBTreeOps>(notes: &mut Text, links: &mut L, objects: &Objects<u64>)
+    requires covers { (L.table links.old).extent.places ≡ 8 }
+    requires placed { (q : Place) → index_of q < 8 → is_placed objects.now q ≡ true }
+{
+    let (mut tree, other) = two_trees(links, objects);
+    let common = kept_rest(&mut tree, links, objects, &other);
+    write_members(notes, &tree, &*links, objects);
+    write_members(notes, &common, &*links, objects);
+}
+
 const NUMBERS: [u64; 8] = [10, 20, 30, 40, 20, 30, 50, 60];
 
 #[test]
@@ -136,15 +186,9 @@ fn two_trees_in_one(rt: HostRuntime) {
     let alloc = rt.alloc();
     let mut notes = Text::new(alloc);
     let (objects, mut links): (_, LinkOps) = eight_objects(alloc, NUMBERS).expect(&rt, "memory");
-    let (mut tree, other) = two_trees(&mut links, &objects);
-    let looks = merged(&mut tree, &mut links, &objects, other);
-    assert_true(&rt, looks <= 8);
-    write_members(&mut notes, &tree, &links, &objects);
+    write_merged(&rt, &mut notes, &mut links, &objects);
     let (objects, mut links): (_, LinkOps) = eight_objects(alloc, NUMBERS).expect(&rt, "memory");
-    let (mut tree, other) = two_trees(&mut links, &objects);
-    let doubles = united(&mut tree, &mut links, &objects, other);
-    write_members(&mut notes, &tree, &links, &objects);
-    write_members(&mut notes, &doubles, &links, &objects);
+    write_united(&mut notes, &mut links, &objects);
     assert_true(
         &rt,
         notes.has_words("10 20 20 30 30 40 50 60  10 20 30 40 50 60  20 30"),
@@ -156,14 +200,8 @@ fn a_tree_parted_by_another(rt: HostRuntime) {
     let alloc = rt.alloc();
     let mut notes = Text::new(alloc);
     let (objects, mut links): (_, LinkOps) = eight_objects(alloc, NUMBERS).expect(&rt, "memory");
-    let (mut tree, other) = two_trees(&mut links, &objects);
-    let rest = kept_common(&mut tree, &mut links, &objects, &other);
-    write_members(&mut notes, &tree, &links, &objects);
-    write_members(&mut notes, &rest, &links, &objects);
+    write_common(&mut notes, &mut links, &objects);
     let (objects, mut links): (_, LinkOps) = eight_objects(alloc, NUMBERS).expect(&rt, "memory");
-    let (mut tree, other) = two_trees(&mut links, &objects);
-    let common = kept_rest(&mut tree, &mut links, &objects, &other);
-    write_members(&mut notes, &tree, &links, &objects);
-    write_members(&mut notes, &common, &links, &objects);
+    write_rest(&mut notes, &mut links, &objects);
     assert_true(&rt, notes.has_words("20 30  10 40  10 40  20 30"));
 }

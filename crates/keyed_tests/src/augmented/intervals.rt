@@ -131,23 +131,37 @@ fn take_first<L: RBTreeOps + LinkValues<u64>>(
 }
 
 // The hundred intervals, at a hundred points, and once more after all have left.
+fn play<L: RBTreeOps + LinkValues<u64>>(
+    rt: &impl Abort,
+    random: &mut Random,
+    starts: &[u64; 100],
+    ends: &[u64; 100],
+    tree: &mut RBTree<OwnKey>,
+    summed: &mut Summed<L, Greatest>,
+)
+    requires covers { (L.table (links_of summed.old)).extent.places ≡ 100 }
+    requires intervals { AreIntervals L.node L.table L.values tree.old summed.old }
+{
+    for _ in 0..2 {
+        for index in 0..100 {
+            put(rt, tree, summed, reference(index), ends[index]);
+        }
+        for _ in 0..100 {
+            let point = random.next();
+            let count = count_overlaps(&*tree, &*summed, point, point + 1);
+            assert_same(rt, count, plain_count(starts, ends, point));
+        }
+        for _ in 0..100 {
+            assert!(rt; take_first(tree, summed, 0, u64::MAX).is_some());
+        }
+        assert_same(rt, count_overlaps(&*tree, &*summed, 0, u64::MAX), 0);
+    }
+}
+
 #[test]
 fn intervals_at_random(rt: HostRuntime) {
     let mut random = Random::new();
     let (starts, ends) = random_intervals(&mut random);
     let (mut tree, mut summed) = empty_tree::<u64>(&rt, rt.alloc(), &starts);
-    for _ in 0..2 {
-        for index in 0..100 {
-            put(&rt, &mut tree, &mut summed, reference(index), ends[index]);
-        }
-        for _ in 0..100 {
-            let point = random.next();
-            let count = count_overlaps(&tree, &summed, point, point + 1);
-            assert_same(&rt, count, plain_count(&starts, &ends, point));
-        }
-        for _ in 0..100 {
-            assert!(rt; take_first(&mut tree, &mut summed, 0, u64::MAX).is_some());
-        }
-        assert_same(&rt, count_overlaps(&tree, &summed, 0, u64::MAX), 0);
-    }
+    play(&rt, &mut random, &starts, &ends, &mut tree, &mut summed);
 }
