@@ -86,6 +86,21 @@ fn gathers(links: &mut linked_list::AtomicLinkOps, watch: &Watch) -> bool {
     is_taken && !links.is_linked(first) && watch.right.get() == 3
 }
 
+// Puts the object at `place` in a list. Whether it was free; the list and its links are dropped, and nobody unlinks it.
+fn is_left_linked(mut links: linked_list::AtomicLinkOps, place: Place) -> bool {
+    let mut list: LinkedList<u64> = LinkedList::new();
+    place.index() < links.covers() && list.push_back(&mut links, UnsafeRef::new(place)).is_ok()
+}
+
+// Whether the object at `place` is held and refused, where this party doesn't hold it.
+fn is_held_by_another(links: &mut linked_list::AtomicLinkOps, place: Place) -> bool {
+    let mut list: LinkedList<u64> = LinkedList::new();
+    if place.index() >= links.covers() || links.holds(place) {
+        return false;
+    }
+    links.is_linked(place) && list.push_back(links, UnsafeRef::new(place)).is_err()
+}
+
 // Links of any kind.
 #[derive(Drop)]
 enum AnyLinks<'c> {
@@ -104,15 +119,17 @@ fn turns_with(links: AnyLinks) -> bool {
     }
 }
 
-// Two parties in turn, then four in threads, and one at last.
+// Two parties in turn, then four in threads, and one at last, behind one whose links are dropped while they hold a place.
 // Promise: four tables of claims.
+// Promise: links that are dropped.
 #[test]
 fn parties_share_places(rt: HostRuntime) {
     let alloc = rt.alloc();
-    let (claims, mut holders) = Claims::new(alloc, 100, 6).expect(&rt, "claims");
+    let (claims, mut holders) = Claims::new(alloc, 100, 7).expect(&rt, "claims");
     let mut last: linked_list::AtomicLinkOps = next_links(&rt, alloc, &claims, &mut holders);
     let mut doubly = next_links(&rt, alloc, &claims, &mut holders);
     let is_list_seen = are_seen(LinkedList::new(), &mut doubly, &mut last);
+    let left = next_links(&rt, alloc, &claims, &mut holders);
     let mut tree = next_links(&rt, alloc, &claims, &mut holders);
     let is_tree_seen = are_seen(RBTree::new(ByValue), &mut tree, &mut last);
     let is_tree_cleared = is_cleared(&mut tree, &mut last);
@@ -130,6 +147,10 @@ fn parties_share_places(rt: HostRuntime) {
         right: Cell::new(0),
     };
     let is_gathered = gathers(&mut last, &watch);
+    let is_left_held = match Place::new(99) {
+        Some(place) => is_left_linked(left, place) && is_held_by_another(&mut last, place),
+        None => false,
+    };
     let covered = last.into_parts().1.covers();
     assert!(rt;
         is_list_seen
@@ -138,6 +159,7 @@ fn parties_share_places(rt: HostRuntime) {
             & had.contains(&true)
             & is_free
             & is_gathered
+            & is_left_held
             & (covered == 100)
     );
 }
