@@ -11,41 +11,55 @@ use ic_any_collection::Kind;
 use ic_rbtree::Bound;
 use ic_unsafe_ref::Place;
 use std::alloc::{AllocError, Allocator, Global};
-use std::error::Error;
 use std::fmt;
+use thiserror::Error;
 
 /// Why a call was refused. A refused call changes nothing.
 ///
 /// Where several apply the first of them, in this order, is the answer.
-#[derive(Clone, Copy, PartialEq, Eq)]
+#[derive(Clone, Copy, PartialEq, Eq, Error)]
 pub enum Refusal {
     /// There is no field of that number.
+    #[error("NoSuchField")]
     NoSuchField = 1,
     /// There is no collection of that number.
+    #[error("NoSuchCollection")]
     NoSuchCollection = 2,
     /// No object stands at that place.
+    #[error("NoSuchObject")]
     NoSuchObject = 3,
     /// The kind has no such call, the table can't carry the kind, or two kinds differ.
+    #[error("WrongKind")]
     WrongKind = 4,
     /// A collection can't be spliced into itself.
+    #[error("SameCollection")]
     SameCollection = 5,
     /// The two collections are of different fields.
+    #[error("OtherField")]
     OtherField = 6,
     /// Nothing stands where a member is to be replaced.
+    #[error("NothingThere")]
     NothingThere = 7,
     /// The object is no member of that collection.
+    #[error("NotAMember")]
     NotAMember = 8,
     /// The named neighbor isn't that one.
+    #[error("NotANeighbour")]
     NotANeighbour = 9,
     /// The object is linked in that field.
+    #[error("AlreadyLinked")]
     AlreadyLinked = 10,
     /// A member can't be unlinked by force.
+    #[error("IsMember")]
     IsMember = 11,
     /// The object is linked in some field.
+    #[error("StillLinked")]
     StillLinked = 12,
     /// There is no place left.
+    #[error("TooManyObjects")]
     TooManyObjects = 13,
     /// A growth found no memory.
+    #[error("OutOfMemory")]
     OutOfMemory = 14,
 }
 
@@ -79,19 +93,11 @@ impl Refusal {
     }
 }
 
-impl fmt::Display for Refusal {
-    fn fmt<W: fmt::Write>(&self, f: &mut fmt::Formatter<W>) -> fmt::Result {
-        f.write_str(self.name())
-    }
-}
-
 impl fmt::Debug for Refusal {
     fn fmt<W: fmt::Write>(&self, f: &mut fmt::Formatter<W>) -> fmt::Result {
         f.write_str(self.name())
     }
 }
-
-impl Error for Refusal {}
 
 /// A call of a world, with what it is given. Fields and collections are named by their numbers, objects by their places.
 #[derive(Copy)]
