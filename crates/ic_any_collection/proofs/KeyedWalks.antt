@@ -1,6 +1,7 @@
 -- Listing what a walk has left: a cursor goes along with it, and gives the places.
-use Rattle.std.proofs.Common.{◌≡◌, ◌∙◌, ◌+◌, Bool, true, false, ℕ, Option, Some, None, IsSome, List, [], ◌∷◌, ◌++◌, length, refl, sym, ap, subst, arith, append_assoc, append-nil}
+use Rattle.std.proofs.Common.{◌≡◌, ◌∙◌, ◌+◌, Bool, true, false, ℕ, Result, Ok, Err, IfOk, Option, Some, None, IsSome, List, [], ◌∷◌, ◌++◌, length, refl, sym, ap, subst, arith, append_assoc, append-nil}
 use Rattle.std.specs.List.{cons_option}
+use Rattle.std.specs.declared.vec.Vec.{Vec}
 use Rattle.ic_unsafe_ref.specs.declared.place.Place.{Place}
 use Rattle.ic_unsafe_ref.specs.Objects.{Objects, object_at}
 use Rattle.ic_link_ops.specs.PlacedObjects.{ArePlaced, values_at}
@@ -111,3 +112,8 @@ range_shown {runs = runs} {s} {w} shows x shown = by (runs x.low x.high) refl wh
   by : (b : Bool) → runs x.low x.high ≡ b → (front back : List Place) × shows (front ++ (w ++ back))
   by true e = let part = x.segment e in (part.front, part.back, subst shows (sym part.same) shown)
   by false e = ([], s, subst shows (sym (ap (λ r. r ++ s) (x.nothing e))) shown)
+
+-- what holds of the members that a walk had left, holds of those that are listed
+pub if_listed : {M E : Type 0} (P : List Place → Type 0) (walked : List Place) (listed : Result (Vec Place M) E) → IfOk listed (λ places. places.items ≡ walked) → P walked → IfOk listed (λ places. P places.items)
+if_listed P walked (Ok places) all h = subst P (sym all) h
+if_listed P walked (Err refusal) all h = tt

@@ -1,36 +1,14 @@
 -- What keyed calls of a tree leave and answer.
-use Rattle.std.specs.Prelude.{◌≡◌, ℕ, Option, List}
+use Rattle.std.specs.Prelude.{Option}
 use Rattle.std.specs.declared.cmp.Ordering.{Ordering}
 use Rattle.ic_unsafe_ref.specs.declared.place.Place.{Place}
 use Rattle.ic_link_ops.specs.Sequences.{Cut}
 use Rattle.ic_link_ops.specs.Tables.{Table}
-use Rattle.ic_rbtree.specs.declared.keys.key_adapter.Bound.{Bound}
-use Rattle.ic_rbtree.specs.declared.keys.key_adapter.Bound.TheVariants.{Included, Excluded, Unbounded}
-use Rattle.ic_rbtree.specs.declared.keys.probe.KeyProbe.{KeyProbe}
-pub use Rattle.ic_rbtree.specs.Comparing.{FewLooks}
-use Rattle.ic_rbtree.specs.KeyProbe.{looks_of}
 use Rattle.ic_rbtree.specs.Borders.{IsBorder, less_at, at_most_at}
 use Rattle.ic_any_collection.specs.declared.entry.Entry.{Entry}
 use Rattle.ic_any_collection.specs.declared.any_collection.AnyCollection.{AnyCollection}
 use Rattle.ic_any_collection.specs.AnyCollection.{members_in}
 use Rattle.ic_any_collection.specs.Edits.{AtGap, Puts}
-
--- SO FEW LOOKS as a search within this bound makes in a tree with the members s: none by `Unbounded`
-abbrev pub FewLooksWithin : {B : Type 0} → Bound B → ℕ → List Place → Type 0
-FewLooksWithin (Included _) looks s = FewLooks looks s
-FewLooksWithin (Excluded _) looks s = FewLooks looks s
-FewLooksWithin Unbounded looks s = looks ≡ 0
-
-module _ {A V K : Type 0} where
-  -- the looks of a search within a bound
-  abbrev pub looks_within : Bound (KeyProbe A V K) → ℕ
-  looks_within (Included probe) = looks_of probe
-  looks_within (Excluded probe) = looks_of probe
-  looks_within Unbounded = 0
-
-  -- it has made none
-  abbrev pub HasNoLooks : Bound (KeyProbe A V K) → Type 0
-  HasNoLooks bound = looks_within bound ≡ 0
 
 -- the gap where what is searched would stand: the member in front is smaller, and the one behind larger
 abbrev pub IsVacantFor : (Place → Ordering) → Cut → Type 0

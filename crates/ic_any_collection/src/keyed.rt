@@ -1,92 +1,41 @@
-//! Keyed calls of a collection that is a tree.
+//! Keyed calls of a collection that is a tree. Each searches through a probe of the caller's, which alone compares, and counts how often.
 //!
 //! ```text
-//! let looks = tree.insert(&mut field, &objects, adapter, place); // None: it is linked
-//! tree.find(&field, &objects, adapter, &5) // the first member of key 5, and how many objects were compared
+//! let mut probe = KeyProbe::new(adapter, &5);
+//! tree.find_by(&field, &objects, &mut probe) // the first member of key 5
+//! probe.looks() // with how many objects the key was compared
 //! ```
 
 ghost use Rattle.std.specs.Prelude.{◌≡◌, List, ◌++◌, Option, Some, None, true, false, IfOk, OnOk, OnErr, IfSome, IfNone};
 ghost use Rattle.ic_unsafe_ref.specs.declared.place.Place.{Place};
-ghost use Rattle.ic_unsafe_ref.specs.Objects.{Objects as Placed, is_placed};
 ghost use Rattle.ic_link_ops.specs.Sequences.{IsBefore};
 ghost use Rattle.ic_link_ops.specs.Edits.{Inserts};
 ghost use Rattle.ic_link_ops.specs.Tables.{IsCovered, IsLinked, LinksAlso};
 ghost use Rattle.ic_link_ops.specs.PlacedObjects.{ArePlaced, ShowsPlaced};
 ghost use Rattle.ic_link_ops.specs.RedBlackTree.{Shows};
 ghost use Rattle.ic_rbtree.specs.Borders.{Finds, IsLowerBorder, IsUpperBorder};
-ghost use Rattle.ic_rbtree.specs.Comparing.{compared, compared_within, order_of, own_order, HasRoom, Looks};
+ghost use Rattle.ic_rbtree.specs.Comparing.{compared, compared_within, HasRoom, HasRoomWithin, Looks, LooksWithin};
 ghost use Rattle.ic_rbtree.specs.CursorMut as editing;
 ghost use Rattle.ic_rbtree.specs.Entry as gaps;
 ghost use Rattle.ic_rbtree.specs.Iter.{rest_of, CanWalk};
 ghost use Rattle.ic_rbtree.specs.KeyProbe.{key_order, looks_of, HasAdapter};
 ghost use Rattle.ic_rbtree.specs.Ordered.{InsertsInOrder};
 ghost use Rattle.ic_rbtree.specs.Ranges.{runs_up, IsRange};
-ghost use Rattle.ic_rbtree.specs.Tree.{root_of, adapter_of};
+ghost use Rattle.ic_rbtree.specs.Tree.{root_of};
 ghost use Rattle.ic_any_collection.specs.Entries.{is_linked, node};
 ghost use Rattle.ic_any_collection.specs.AnyTables.{look};
 ghost use Rattle.ic_any_collection.specs.TreeTables as tree_table;
 ghost use Rattle.ic_any_collection.specs.Edits.{AtGap};
 ghost use Rattle.ic_any_collection.specs.Refusals.{refusal_in, refusal_of_object, refusal_of_put};
-ghost use Rattle.ic_any_collection.specs.Keyed.{FewLooks, FewLooksWithin, looks_within, HasNoLooks, IsVacantFor};
+ghost use Rattle.ic_any_collection.specs.Keyed.{IsVacantFor};
 
 use crate::unkeyed::Unkeyed;
 use crate::{AnyCollection, AnyTable, EditError, TableWithPrev, TreeTable};
 use ic_link_ops::PlaceWord;
 use ic_link_ops::rbtree::RBTreeOps;
-use ic_rbtree::{Bound, Entry, Iter, KeyAdapter, KeyProbe, RBTree, RefusedInsert};
+use ic_rbtree::{Bound, Entry, Iter, KeyAdapter, KeyProbe, Probe, RBTree, RefusedInsert};
 use ic_unsafe_ref::{Objects, Place, UnsafeRef, Values};
 use std::alloc::{AllocError, Allocator};
-
-// The bound, of a search for its key that has made no look, and makes none where there is no key.
-#[inline]
-fn probe_for<'k, A: KeyAdapter>(adapter: A, bound: &'k Bound<A::Key>) -> Bound<KeyProbe<'k, A>>
-    ensures order { (objects : Placed A.Value) → compared_within (key_order A.Key.cmp A.key_of) objects result
-        ≡ compared_within (order_of A.Key.cmp (A.key_of adapter)) objects bound.now }
-    ensures adapter { HasAdapter adapter result }
-    ensures none { HasNoLooks result }
-{
-    match bound {
-        Bound::Included(key) => Bound::Included(KeyProbe::new(adapter, key)),
-        Bound::Excluded(key) => Bound::Excluded(KeyProbe::new(adapter, key)),
-        Bound::Unbounded => Bound::Unbounded,
-    }
-}
-
-// How many looks the search within a bound has made.
-#[inline]
-fn looks_in<A: KeyAdapter>(bound: &Bound<KeyProbe<'_, A>>) -> u64
-    ensures { result ≡ looks_within bound.now }
-{
-    match bound {
-        Bound::Included(probe) => probe.looks(),
-        Bound::Excluded(probe) => probe.looks(),
-        Bound::Unbounded => 0,
-    }
-}
-
-// A walk over the members between two bounds, and the looks of both descents.
-fn walk_between<'a, A: KeyAdapter, L: RBTreeOps, O: Values<A::Value>>(
-    tree: &'a RBTree<A>,
-    links: &'a L,
-    objects: &'a O,
-    min: &Bound<A::Key>,
-    max: &Bound<A::Key>,
-) -> (Iter<'a, A, L, O>, u64, u64)
-    requires placed { ShowsPlaced (Shows L.node (L.table links.now) (root_of tree.now)) (O.values objects.now) }
-    ensures range { (s : List Place) → Shows L.node (L.table links.now) (root_of tree.now) s
-        → IsRange (compared_within (order_of A.Key.cmp (A.key_of (adapter_of tree.now))) (O.values objects.now) min.now)
-        (compared_within (order_of A.Key.cmp (A.key_of (adapter_of tree.now))) (O.values objects.now) max.now)
-        (runs_up A.Key.cmp (A.key_of (adapter_of tree.now)) (O.values objects.now)) s (rest_of L.node L.table result.0) }
-    ensures can_walk { CanWalk L.node L.table O.values result.0 }
-    ensures looks { (s : List Place) → Shows L.node (L.table links.now) (root_of tree.now) s
-        → FewLooksWithin min.now result.1 s × FewLooksWithin max.now result.2 s }
-{
-    let adapter = tree.adapter();
-    let mut from = probe_for(adapter, min);
-    let mut to = probe_for(adapter, max);
-    let walk = tree.range_by(links, objects, &mut from, &mut to);
-    (walk, looks_in(&from), looks_in(&to))
-}
 
 // The places of the members that a walk has left, which stand side by side in the tree, in memory of `alloc`.
 fn list_walk<A: KeyAdapter, L: RBTreeOps, O: Values<A::Value>, N: Allocator>(
@@ -117,33 +66,32 @@ impl<T> AnyCollection<T> {
     ghost use Rattle.ic_any_collection.specs.Edits.{Moves, Puts, IsUnchanged};
     ghost use Rattle.ic_any_collection.specs.Keyed.{PutsInOrder, PutsAtKey};
 
-    /// Puts the cursor on the first member of this key, null if there is none, and returns it with the looks of the descent.
+    /// Puts the cursor on the first member that compares equal, null if there is none, and returns it.
     ///
-    /// It requires that this is a tree, and that an object stands at each member. O(log n).
-    pub fn find<A: KeyAdapter<Value = T>, M: Allocator, B: Allocator>(
+    /// It requires that this is a tree, that an object stands at each member, and that the probe's count is at most `u64::MAX - 66`.
+    /// O(log n): the probe is asked v times in a tree of n members, where `2^v <= (n + 1)^2`.
+    pub fn find_by<P: Probe<T>, M: Allocator, B: Allocator>(
         &mut self,
         links: &AnyTable<M>,
         objects: &Objects<T, B>,
-        adapter: A,
-        key: &A::Key,
-    ) -> (Option<Place>, u64)
+        probe: &mut P,
+    ) -> Option<Place>
         requires held { Held (look links.now) self.old }
         requires can { is_tree (kind_in self.old) ≡ true }
         requires placed { ArePlaced objects.now (members_in (look links.now) self.old) }
-        ensures found { Finds (compared (order_of A.Key.cmp (A.key_of adapter) key.now) objects.now)
-            (members_in (look links.now) self.old) result.0 }
-        ensures looks { FewLooks result.1 (members_in (look links.now) self.old) }
-        ensures moved { Moves (look links.now) self.old self.new result.0 }
+        requires room { HasRoom (P.count probe.old) }
+        ensures found { Finds (compared (P.order probe.old) objects.now) (members_in (look links.now) self.old) result }
+        ensures looks { Looks P.order P.count probe.old probe.new (members_in (look links.now) self.old) }
+        ensures moved { Moves (look links.now) self.old self.new result }
     {
-        let mut probe = KeyProbe::new(adapter, key);
         let position = match (&*self, links) {
             (Self::Tree(tree, _), AnyTable::WithPrev(TableWithPrev::Tree(links))) => {
-                tree.find_by(links, objects, &mut probe).get_ptr()
+                tree.find_by(links, objects, probe).get_ptr()
             }
             _ => unreachable!(),
         };
         self.stand_at(links, position);
-        (position, probe.looks())
+        position
     }
 
     // Puts the cursor on a member of a tree, or to null.
@@ -160,97 +108,95 @@ impl<T> AnyCollection<T> {
         }
     }
 
-    /// Puts the cursor on the first member whose key meets the bound, null if there is none, and returns it with the looks of
-    /// the descent: none for `Unbounded`.
+    /// Puts the cursor on the first member that meets the bound, null if there is none, and returns it. `Unbounded` asks nothing.
     ///
-    /// It requires that this is a tree, and that an object stands at each member. In a tree that isn't sorted the cursor is on a
-    /// border. O(log n).
-    pub fn lower_bound<A: KeyAdapter<Value = T>, M: Allocator, B: Allocator>(
+    /// It requires what [`AnyCollection::find_by`] does, of the bound's probe. In a tree that isn't sorted for the probe the cursor is
+    /// on a border. O(log n).
+    pub fn lower_bound_by<P: Probe<T>, M: Allocator, B: Allocator>(
         &mut self,
         links: &AnyTable<M>,
         objects: &Objects<T, B>,
-        adapter: A,
-        bound: &Bound<A::Key>,
-    ) -> (Option<Place>, u64)
+        bound: &mut Bound<P>,
+    ) -> Option<Place>
         requires held { Held (look links.now) self.old }
         requires can { is_tree (kind_in self.old) ≡ true }
         requires placed { ArePlaced objects.now (members_in (look links.now) self.old) }
-        ensures border { IsLowerBorder (compared_within (order_of A.Key.cmp (A.key_of adapter)) objects.now bound.now)
-            (members_in (look links.now) self.old) result.0 }
-        ensures looks { FewLooksWithin bound.now result.1 (members_in (look links.now) self.old) }
-        ensures moved { Moves (look links.now) self.old self.new result.0 }
+        requires room { HasRoomWithin P.count bound.old }
+        ensures border { IsLowerBorder (compared_within P.order objects.now bound.old) (members_in (look links.now) self.old) result }
+        ensures looks { LooksWithin P.order P.count bound.old bound.new (members_in (look links.now) self.old) }
+        ensures moved { Moves (look links.now) self.old self.new result }
     {
-        let mut probe = probe_for(adapter, bound);
         let position = match (&*self, links) {
             (Self::Tree(tree, _), AnyTable::WithPrev(TableWithPrev::Tree(links))) => {
-                tree.lower_bound_by(links, objects, &mut probe).get_ptr()
+                tree.lower_bound_by(links, objects, bound).get_ptr()
             }
             _ => unreachable!(),
         };
         self.stand_at(links, position);
-        (position, looks_in(&probe))
+        position
     }
 
-    /// Puts the cursor on the last member whose key meets the bound, null if there is none, and returns it with the looks of
-    /// the descent: none for `Unbounded`.
+    /// Puts the cursor on the last member that meets the bound, null if there is none, and returns it. `Unbounded` asks nothing.
     ///
-    /// It requires that this is a tree, and that an object stands at each member. In a tree that isn't sorted the cursor is on a
-    /// border. O(log n).
+    /// It requires what [`AnyCollection::find_by`] does, of the bound's probe. In a tree that isn't sorted for the probe the cursor is
+    /// on a border. O(log n).
     #[tactic(auto, using(crate::proofs::KeyedSearches::upper_member))]
-    pub fn upper_bound<A: KeyAdapter<Value = T>, M: Allocator, B: Allocator>(
+    pub fn upper_bound_by<P: Probe<T>, M: Allocator, B: Allocator>(
         &mut self,
         links: &AnyTable<M>,
         objects: &Objects<T, B>,
-        adapter: A,
-        bound: &Bound<A::Key>,
-    ) -> (Option<Place>, u64)
+        bound: &mut Bound<P>,
+    ) -> Option<Place>
         requires held { Held (look links.now) self.old }
         requires can { is_tree (kind_in self.old) ≡ true }
         requires placed { ArePlaced objects.now (members_in (look links.now) self.old) }
-        ensures border { IsUpperBorder (compared_within (order_of A.Key.cmp (A.key_of adapter)) objects.now bound.now)
-            (members_in (look links.now) self.old) result.0 }
-        ensures looks { FewLooksWithin bound.now result.1 (members_in (look links.now) self.old) }
-        ensures moved { Moves (look links.now) self.old self.new result.0 }
+        requires room { HasRoomWithin P.count bound.old }
+        ensures border { IsUpperBorder (compared_within P.order objects.now bound.old) (members_in (look links.now) self.old) result }
+        ensures looks { LooksWithin P.order P.count bound.old bound.new (members_in (look links.now) self.old) }
+        ensures moved { Moves (look links.now) self.old self.new result }
     {
-        let mut probe = probe_for(adapter, bound);
         let position = match (&*self, links) {
             (Self::Tree(tree, _), AnyTable::WithPrev(TableWithPrev::Tree(links))) => {
-                tree.upper_bound_by(links, objects, &mut probe).get_ptr()
+                tree.upper_bound_by(links, objects, bound).get_ptr()
             }
             _ => unreachable!(),
         };
         self.stand_at(links, position);
-        (position, looks_in(&probe))
+        position
     }
 
-    /// The members between two bounds, in memory of `alloc`, and the looks of both descents.
+    /// The members between two bounds, in memory of `alloc`. Each bound's probe is asked in a descent of its own.
     ///
-    /// It requires that this is a tree, and that an object stands at each member. O(log n + answer).
-    pub fn range<A: KeyAdapter<Value = T>, M: Allocator, B: Allocator, N: Allocator>(
+    /// It requires that this is a tree, that an object stands at each member, that both probes have the adapter, and that their counts
+    /// are at most `u64::MAX - 66`. O(log n + answer).
+    pub fn range_by<A: KeyAdapter<Value = T>, M: Allocator, B: Allocator, N: Allocator>(
         &self,
         alloc: N,
         links: &AnyTable<M>,
         objects: &Objects<T, B>,
         adapter: A,
-        min: &Bound<A::Key>,
-        max: &Bound<A::Key>,
-    ) -> Result<(Vec<Place, N>, u64, u64), AllocError>
+        min: &mut Bound<KeyProbe<'_, A>>,
+        max: &mut Bound<KeyProbe<'_, A>>,
+    ) -> Result<Vec<Place, N>, AllocError>
         requires held { Held (look links.now) self.now }
         requires can { is_tree (kind_in self.now) ≡ true }
         requires placed { ArePlaced objects.now (members_in (look links.now) self.now) }
-        ensures range { IfOk result (λ answer. IsRange (compared_within (order_of A.Key.cmp (A.key_of adapter)) objects.now min.now)
-            (compared_within (order_of A.Key.cmp (A.key_of adapter)) objects.now max.now) (runs_up A.Key.cmp (A.key_of adapter) objects.now)
-            (members_in (look links.now) self.now) answer.0.items) }
-        ensures looks { IfOk result (λ answer. FewLooksWithin min.now answer.1 (members_in (look links.now) self.now)
-            × FewLooksWithin max.now answer.2 (members_in (look links.now) self.now)) }
+        requires min_room { HasRoomWithin looks_of min.old }
+        requires max_room { HasRoomWithin looks_of max.old }
+        requires min_adapter { HasAdapter adapter min.old }
+        requires max_adapter { HasAdapter adapter max.old }
+        ensures range { IfOk result (λ places. IsRange (compared_within (key_order A.Key.cmp A.key_of) objects.now min.old)
+            (compared_within (key_order A.Key.cmp A.key_of) objects.now max.old) (runs_up A.Key.cmp (A.key_of adapter) objects.now)
+            (members_in (look links.now) self.now) places.items) }
+        ensures min_looks { LooksWithin (key_order A.Key.cmp A.key_of) looks_of min.old min.new (members_in (look links.now) self.now) }
+        ensures max_looks { LooksWithin (key_order A.Key.cmp A.key_of) looks_of max.old max.new (members_in (look links.now) self.now) }
     {
         match self {
             Self::Tree(tree, _) => match links {
                 AnyTable::WithPrev(TableWithPrev::Tree(links)) => {
                     let tree = RBTree::from_root(adapter, tree.root());
-                    let (walk, from, to) = walk_between(&tree, links, objects, min, max);
-                    let places = list_walk(alloc, &tree, links, walk)?;
-                    Ok((places, from, to))
+                    let walk = tree.range_by(links, objects, min, max);
+                    list_walk(alloc, &tree, links, walk)
                 }
                 AnyTable::WithPrev(TableWithPrev::Doubly(_))
                 | AnyTable::Singly(_)
@@ -260,36 +206,36 @@ impl<T> AnyCollection<T> {
         }
     }
 
-    /// Puts the object where its own key belongs, behind members with the same key, and the cursor on it. Returns the looks of the
-    /// descent. O(log n).
+    /// Puts the object where the probe's order wants it, behind members that compare equal, and the cursor on it. O(log n).
     ///
-    /// It requires that an object stands at each member and at the place, and that the place is covered. Refused: `WrongKind` of a list,
-    /// `AlreadyLinked`.
+    /// It requires that an object stands at each member, that the place is covered, and that the probe's count is at most
+    /// `u64::MAX - 66`. Refused: `WrongKind` of a list, `AlreadyLinked`. A refused insert asks nothing.
     #[inline]
-    pub fn insert<A: KeyAdapter<Value = T>, M: Allocator, B: Allocator>(
+    pub fn insert_by<P: Probe<T>, M: Allocator, B: Allocator>(
         &mut self,
         links: &mut AnyTable<M>,
         objects: &Objects<T, B>,
-        adapter: A,
+        probe: &mut P,
         object: Place,
-    ) -> Result<u64, EditError>
+    ) -> Result<(), EditError>
         requires held { Held (look links.old) self.old }
         requires placed { ArePlaced objects.now (members_in (look links.old) self.old) }
-        requires object { is_placed objects.now object ≡ true }
         requires covered { IsCovered (look links.old) object }
+        requires room { HasRoom (P.count probe.old) }
         ensures tested { refusal_in result ≡ refusal_of_put (is_tree (kind_in self.old)) (look links.old) object }
-        ensures inserted { OnOk result (PutsInOrder (compared (own_order A.Key.cmp (A.key_of adapter) objects.now object) objects.now)
+        ensures inserted { OnOk result (PutsInOrder (compared (P.order probe.old) objects.now)
             (look links.old) (look links.new) self.old self.new object (Some object)) }
-        ensures looks { IfOk result (λ looks. FewLooks looks (members_in (look links.old) self.old)) }
+        ensures looks { OnOk result (Looks P.order P.count probe.old probe.new (members_in (look links.old) self.old)) }
+        ensures no_look { OnErr result (probe.new ≡ probe.old) }
         ensures unchanged { OnErr result (IsUnchanged links.old links.new self.old self.new) }
     {
         match self {
             Self::Tree(tree, at) => match links {
                 AnyTable::WithPrev(TableWithPrev::Tree(links)) => {
-                    match put_in_order(tree, links, objects, adapter, object) {
-                        Ok(looks) => {
+                    match put_in_order(tree, links, objects, probe, object) {
+                        Ok(()) => {
                             *at = PlaceWord::of(Some(object));
-                            Ok(looks)
+                            Ok(())
                         }
                         Err(refusal) => Err(refusal),
                     }
@@ -302,29 +248,30 @@ impl<T> AnyCollection<T> {
         }
     }
 
-    /// Puts the object where its own key belongs, behind members with the same key. The cursor stays. It requires, returns and refuses
-    /// what [`AnyCollection::insert`] does.
-    pub fn cursor_insert<A: KeyAdapter<Value = T>, M: Allocator, B: Allocator>(
+    /// Puts the object where the probe's order wants it, behind members that compare equal. The cursor stays. It requires and refuses
+    /// what [`AnyCollection::insert_by`] does.
+    pub fn cursor_insert_by<P: Probe<T>, M: Allocator, B: Allocator>(
         &mut self,
         links: &mut AnyTable<M>,
         objects: &Objects<T, B>,
-        adapter: A,
+        probe: &mut P,
         object: Place,
-    ) -> Result<u64, EditError>
+    ) -> Result<(), EditError>
         requires held { Held (look links.old) self.old }
         requires placed { ArePlaced objects.now (members_in (look links.old) self.old) }
-        requires object { is_placed objects.now object ≡ true }
         requires covered { IsCovered (look links.old) object }
+        requires room { HasRoom (P.count probe.old) }
         ensures tested { refusal_in result ≡ refusal_of_put (is_tree (kind_in self.old)) (look links.old) object }
-        ensures inserted { OnOk result (PutsInOrder (compared (own_order A.Key.cmp (A.key_of adapter) objects.now object) objects.now)
+        ensures inserted { OnOk result (PutsInOrder (compared (P.order probe.old) objects.now)
             (look links.old) (look links.new) self.old self.new object (cursor_in self.old)) }
-        ensures looks { IfOk result (λ looks. FewLooks looks (members_in (look links.old) self.old)) }
+        ensures looks { OnOk result (Looks P.order P.count probe.old probe.new (members_in (look links.old) self.old)) }
+        ensures no_look { OnErr result (probe.new ≡ probe.old) }
         ensures unchanged { OnErr result (IsUnchanged links.old links.new self.old self.new) }
     {
         match self {
             Self::Tree(tree, _) => match links {
                 AnyTable::WithPrev(TableWithPrev::Tree(links)) => {
-                    put_in_order(tree, links, objects, adapter, object)
+                    put_in_order(tree, links, objects, probe, object)
                 }
                 AnyTable::WithPrev(TableWithPrev::Doubly(_))
                 | AnyTable::Singly(_)
@@ -334,41 +281,41 @@ impl<T> AnyCollection<T> {
         }
     }
 
-    /// Puts the cursor on the first member with this key, or puts the object into the gap where the key would stand and the cursor
-    /// on it. Answers whether a member had the key, the member, and the looks of the descent; `None` where none had it and the
-    /// object is linked, and then nothing has changed.
+    /// Puts the cursor on the first member that compares equal, or puts the object into the gap where what is searched would stand
+    /// and the cursor on it. Answers whether a member compares equal, and that member or the object; `None` where none does and the
+    /// object is linked, and then neither tree nor links have changed.
     ///
-    /// It requires that this is a tree, that an object stands at each member, and that the object's place is covered. O(log n).
-    pub fn entry<A: KeyAdapter<Value = T>, M: Allocator, B: Allocator>(
+    /// It requires that this is a tree, that an object stands at each member, that the object's place is covered, and that the
+    /// probe's count is at most `u64::MAX - 66`. O(log n).
+    pub fn entry_by<P: Probe<T>, M: Allocator, B: Allocator>(
         &mut self,
         links: &mut AnyTable<M>,
         objects: &Objects<T, B>,
-        adapter: A,
-        key: &A::Key,
+        probe: &mut P,
         object: Place,
-    ) -> Option<(bool, Place, u64)>
+    ) -> Option<(bool, Place)>
         requires held { Held (look links.old) self.old }
         requires can { is_tree (kind_in self.old) ≡ true }
         requires placed { ArePlaced objects.now (members_in (look links.old) self.old) }
         requires covered { IsCovered (look links.old) object }
-        ensures occupied { IfSome result (λ e. e.0 ≡ true → Finds (compared (order_of A.Key.cmp (A.key_of adapter) key.now) objects.now)
+        requires room { HasRoom (P.count probe.old) }
+        ensures occupied { IfSome result (λ e. e.0 ≡ true → Finds (compared (P.order probe.old) objects.now)
             (members_in (look links.old) self.old) (Some e.1) × (links.new ≡ links.old)
             × Moves (look links.old) self.old self.new (Some e.1)) }
         ensures vacant { IfSome result (λ e. e.0 ≡ false → (e.1 ≡ object)
-            × PutsAtKey (compared (order_of A.Key.cmp (A.key_of adapter) key.now) objects.now)
+            × PutsAtKey (compared (P.order probe.old) objects.now)
             (look links.old) (look links.new) self.old self.new object (Some object)) }
-        ensures looks { IfSome result (λ e. FewLooks e.2 (members_in (look links.old) self.old)) }
+        ensures looks { Looks P.order P.count probe.old probe.new (members_in (look links.old) self.old) }
         ensures refused { IfNone result (IsLinked is_linked (look links.old) object
-            × AtGap (members_in (look links.old) self.old) (IsVacantFor (compared (order_of A.Key.cmp (A.key_of adapter) key.now) objects.now))
+            × AtGap (members_in (look links.old) self.old) (IsVacantFor (compared (P.order probe.old) objects.now))
             × IsUnchanged links.old links.new self.old self.new) }
     {
         match self {
             Self::Tree(tree, at) => match links {
                 AnyTable::WithPrev(TableWithPrev::Tree(links)) => {
-                    let mut probe = KeyProbe::new(adapter, key);
-                    let (occupied, place) = put_at_key(tree, links, objects, &mut probe, object)?;
+                    let (is_member, place) = put_at_key(tree, links, objects, probe, object)?;
                     *at = PlaceWord::of(Some(place));
-                    Some((occupied, place, probe.looks()))
+                    Some((is_member, place))
                 }
                 AnyTable::WithPrev(TableWithPrev::Doubly(_))
                 | AnyTable::Singly(_)
@@ -379,60 +326,60 @@ impl<T> AnyCollection<T> {
     }
 }
 
-// Puts the object where its own key belongs, and returns the looks of the descent.
+// Puts the object where the probe's order wants it.
 #[inline]
-fn put_in_order<A: KeyAdapter, M: Allocator, B: Allocator>(
-    tree: &mut RBTree<Unkeyed<A::Value>>,
+fn put_in_order<T, P: Probe<T>, M: Allocator, B: Allocator>(
+    tree: &mut RBTree<Unkeyed<T>>,
     links: &mut TreeTable<M>,
-    objects: &Objects<A::Value, B>,
-    adapter: A,
+    objects: &Objects<T, B>,
+    probe: &mut P,
     object: Place,
-) -> Result<u64, EditError>
+) -> Result<(), EditError>
     requires placed { ShowsPlaced (Shows node (tree_table.look links.old) (root_of tree.old)) objects.now }
-    requires object { is_placed objects.now object ≡ true }
     requires covered { IsCovered (tree_table.look links.old) object }
+    requires room { HasRoom (P.count probe.old) }
     ensures tested { refusal_in result ≡ refusal_of_object (tree_table.look links.old) object }
     ensures inserted { (s : List Place) → Shows node (tree_table.look links.old) (root_of tree.old) s → OnOk result
-        (InsertsInOrder (Shows node) (compared (own_order A.Key.cmp (A.key_of adapter) objects.now object) objects.now)
+        (InsertsInOrder (Shows node) (compared (P.order probe.old) objects.now)
         (tree_table.look links.old) (tree_table.look links.new) (root_of tree.new) s object) }
     ensures acquired { OnOk result (LinksAlso is_linked (tree_table.look links.old) (tree_table.look links.new) object) }
-    ensures looks { (s : List Place) → Shows node (tree_table.look links.old) (root_of tree.old) s → IfOk result (λ looks. FewLooks looks s) }
+    ensures looks { (s : List Place) → Shows node (tree_table.look links.old) (root_of tree.old) s
+        → OnOk result (Looks P.order P.count probe.old probe.new s) }
+    ensures no_look { OnErr result (probe.new ≡ probe.old) }
     ensures unchanged { OnErr result ((tree.new ≡ tree.old) × (links.new ≡ links.old)) }
 {
-    let value = objects.get(object).unwrap(); // proved: it is placed
-    let mut probe = KeyProbe::new(adapter, adapter.get_key(value));
     let object = UnsafeRef::new(object);
-    let Ok(()) = tree.insert_by(links, objects, &mut probe, object) else {
+    let Ok(()) = tree.insert_by(links, objects, probe, object) else {
         return Err(EditError::AlreadyLinked);
     };
-    Ok(probe.looks())
+    Ok(())
 }
 
 // The first member that compares equal, or the object, which goes into the gap where the search ended; `None` where it is linked.
-fn put_at_key<A: KeyAdapter, M: Allocator, B: Allocator>(
-    tree: &mut RBTree<Unkeyed<A::Value>>,
+fn put_at_key<T, P: Probe<T>, M: Allocator, B: Allocator>(
+    tree: &mut RBTree<Unkeyed<T>>,
     links: &mut TreeTable<M>,
-    objects: &Objects<A::Value, B>,
-    probe: &mut KeyProbe<'_, A>,
+    objects: &Objects<T, B>,
+    probe: &mut P,
     object: Place,
 ) -> Option<(bool, Place)>
     requires placed { ShowsPlaced (Shows node (tree_table.look links.old) (root_of tree.old)) objects.now }
-    requires room { HasRoom (looks_of probe.old) }
+    requires room { HasRoom (P.count probe.old) }
     requires covered { IsCovered (tree_table.look links.old) object }
     ensures found { (s : List Place) → Shows node (tree_table.look links.old) (root_of tree.old) s → IfSome result (λ e. e.0 ≡ true
-        → Finds (compared (key_order A.Key.cmp A.key_of probe.old) objects.now) s (Some e.1)) }
+        → Finds (compared (P.order probe.old) objects.now) s (Some e.1)) }
     ensures stays { IfSome result (λ e. e.0 ≡ true → (tree.new ≡ tree.old) × (links.new ≡ links.old)) }
     ensures put { (s : List Place) → Shows node (tree_table.look links.old) (root_of tree.old) s → IfSome result (λ e. e.0 ≡ false
-        → AtGap s (λ gap. IsVacantFor (compared (key_order A.Key.cmp A.key_of probe.old) objects.now) gap
+        → AtGap s (λ gap. IsVacantFor (compared (P.order probe.old) objects.now) gap
         × Inserts (Shows node) (tree_table.look links.old) (tree_table.look links.new) (root_of tree.new) gap object)) }
     ensures links { IfSome result (λ e. e.0 ≡ false → (e.1 ≡ object)
         × LinksAlso is_linked (tree_table.look links.old) (tree_table.look links.new) object) }
     ensures refused { (s : List Place) → Shows node (tree_table.look links.old) (root_of tree.old) s → IfNone result
-        (AtGap s (IsVacantFor (compared (key_order A.Key.cmp A.key_of probe.old) objects.now))) }
+        (AtGap s (IsVacantFor (compared (P.order probe.old) objects.now))) }
     ensures unchanged { IfNone result (IsLinked is_linked (tree_table.look links.old) object
         × (tree.new ≡ tree.old) × (links.new ≡ links.old)) }
     ensures looks { (s : List Place) → Shows node (tree_table.look links.old) (root_of tree.old) s
-        → Looks (key_order A.Key.cmp A.key_of) looks_of probe.old probe.new s }
+        → Looks P.order P.count probe.old probe.new s }
 {
     match tree.entry_by(links, objects, probe) {
         Entry::Occupied(found) => Some((true, found.get_ptr().unwrap())),

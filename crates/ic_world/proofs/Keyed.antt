@@ -1,5 +1,5 @@
 -- What keyed calls leave to the world, from what the tree's own calls give.
-use Rattle.std.proofs.Common.{◌≡◌, ◌∙◌, ℕ, inl, Bool, true, false, not, Option, Some, None, List, [], ◌∷◌, refl, sym, ap, Result, Ok, Err, OnOk, OnErr, IfOk, IfSome, IfNone}
+use Rattle.std.proofs.Common.{◌≡◌, ◌∙◌, ℕ, inl, Bool, true, false, not, Option, Some, None, List, [], ◌∷◌, refl, sym, ap, Result, Ok, Err, OnOk, OnErr, IfOk}
 use Rattle.std.specs.declared.cmp.Ordering.{Ordering}
 use Rattle.ic_unsafe_ref.specs.declared.place.Place.{Place}
 use Rattle.ic_unsafe_ref.specs.Objects.{Objects}
@@ -11,17 +11,18 @@ use Rattle.ic_any_collection.specs.AnyTables.{look}
 use Rattle.ic_any_collection.specs.Entries.{is_linked}
 use Rattle.ic_any_collection.specs.declared.any_collection.AnyCollection.{AnyCollection}
 use Rattle.ic_any_collection.specs.declared.edit_error.EditError.{EditError}
-use Rattle.ic_any_collection.specs.AnyCollection.{kind_in, members_in, is_tree, Held}
+use Rattle.ic_any_collection.specs.AnyCollection.{kind_in, members_in, is_tree}
 use Rattle.ic_any_collection.specs.Refusals.{refusal_in, refusal_of_put}
 use Rattle.ic_any_collection.specs.Edits.{AtGap, Moves, IsUnchanged}
-use Rattle.ic_any_collection.specs.Keyed.{FewLooks, IsVacantFor, PutsInOrder, PutsAtKey}
+use Rattle.ic_any_collection.specs.Keyed.{IsVacantFor, PutsInOrder, PutsAtKey}
+use Rattle.ic_world.specs.Looks.{FewLooks}
 use Rattle.ic_any_collection.proofs.AllKinds.{lawful}
 use Rattle.ic_world.specs.declared.call.Refusal.TheVariants.{WrongKind, AlreadyLinked}
 use Rattle.ic_world.specs.Calls.{State, put, moved, asks, asks_unlinked, key_at, EntryReplies}
-use Rattle.ic_world.specs.Replies.{entry_or_linked, told}
+use Rattle.ic_world.specs.Replies.{entry_or_linked, told, with_looks}
 use Rattle.ic_world.specs.Turns.{Turns, Ran, state_of}
 use Rattle.ic_world.proofs.Linked.{in_linked}
-use Rattle.ic_world.proofs.Tested.{goes_on, told_put, told_err}
+use Rattle.ic_world.proofs.Tested.{goes_on, told_put}
 use Rattle.ic_world.proofs.Turned.{turns_by, turns_put}
 
 -- the cursor alone has moved, in a call that names what it may
@@ -40,22 +41,31 @@ module _ {V M : Type 0} {links : AnyTable M} {m : AnyCollection V} where
       → Ran names (λ s. asks (is_tree s.kind) WrongKind None) accepts links links m m' (Ok answer)
   searched answer is e accepts = record { tested = goes_on _ _ _ is refl; turned = still links e accepts; unchanged = tt }
 
-  -- AN INSERT IN ORDER, or its refusal
-  pub inserted : {R : Type 0} {links' : AnyTable M} {m' : AnyCollection V} {cursor : Option Place} {accepts : R → State → State → Type 0} (at : Place → Ordering) (p : Place) (answer : Result R EditError)
-      {Looks : R → Type 0} → refusal_in answer ≡ refusal_of_put (is_tree (kind_in m)) (look links) p → OnOk answer (PutsInOrder at (look links) (look links') m m' p cursor) → IfOk answer Looks
-      → ((a : R) → Looks a → (gap : Cut) → join gap ≡ members_in (look links) m → IsBorder (less_at at) gap → state_of (look links') m' ≡ put (state_of (look links) m) gap p cursor
-      → accepts a (state_of (look links) m) (state_of (look links') m'))
-      → OnErr answer (IsUnchanged links links' m m') → Ran (p ∷ []) (λ s. asks (is_tree s.kind) WrongKind (asks_unlinked s p)) accepts links links' m m' (told answer)
-  inserted {R = R'} {links' = links'} {m' = to} {cursor = there} {accepts = accepts} at p answer {Looks = Looks} tests put looks finish unchanged = record {
-    tested = told_put answer _ (look links) p tests ∙ ap (λ b. asks (is_tree (kind_in m)) WrongKind (asks (not b) AlreadyLinked None)) (sym (in_linked (look links) (lawful links) p));
-    turned = by answer put looks;
-    unchanged = told_err _ answer unchanged;
+  -- AN INSERT IN ORDER with so many looks, or its refusal
+  pub inserted : {links' : AnyTable M} {m' : AnyCollection V} {cursor : Option Place} {accepts : ℕ → State → State → Type 0} (at : Place → Ordering) (p : Place) (answer : Result Unit EditError) (looks : ℕ)
+      → refusal_in answer ≡ refusal_of_put (is_tree (kind_in m)) (look links) p → OnOk answer (PutsInOrder at (look links) (look links') m m' p cursor)
+      → IfOk answer (λ _. FewLooks looks (members_in (look links) m))
+      → (FewLooks looks (members_in (look links) m) → (gap : Cut) → join gap ≡ members_in (look links) m → IsBorder (less_at at) gap → state_of (look links') m' ≡ put (state_of (look links) m) gap p cursor
+      → accepts looks (state_of (look links) m) (state_of (look links') m'))
+      → OnErr answer (IsUnchanged links links' m m') → Ran (p ∷ []) (λ s. asks (is_tree s.kind) WrongKind (asks_unlinked s p)) accepts links links' m m' (with_looks looks (told answer))
+  inserted {links' = links'} {m' = to} {cursor = there} {accepts = accepts} at p answer looks tests put few finish unchanged = record {
+    tested = same_refusal answer ∙ told_put answer _ (look links) p tests ∙ ap (λ b. asks (is_tree (kind_in m)) WrongKind (asks (not b) AlreadyLinked None)) (sym (in_linked (look links) (lawful links) p));
+    turned = by answer put few;
+    unchanged = stays answer unchanged;
   }
     where
-      by : (answer : Result R' EditError) → OnOk answer (PutsInOrder at (look links) (look links') m to p there) → IfOk answer Looks
-          → IfOk (told answer) (λ a. Turns (p ∷ []) (accepts a) (look links) (look links') m to)
-      by (Ok a) e few = turns_put (lawful links) (lawful links') e.0 p e.1 e.2.1 (finish a few e.0 e.1 e.2.0)
+      same_refusal : (answer : Result Unit EditError) → refusal_in (with_looks looks (told answer)) ≡ refusal_in (told answer)
+      same_refusal (Ok a) = refl
+      same_refusal (Err x) = refl
+
+      by : (answer : Result Unit EditError) → OnOk answer (PutsInOrder at (look links) (look links') m to p there) → IfOk answer (λ _. FewLooks looks (members_in (look links) m))
+          → IfOk (with_looks looks (told answer)) (λ a. Turns (p ∷ []) (accepts a) (look links) (look links') m to)
+      by (Ok a) e few = turns_put (lawful links) (lawful links') e.0 p e.1 e.2.1 (finish few e.0 e.1 e.2.0)
       by (Err x) e few = tt
+
+      stays : (answer : Result Unit EditError) → OnErr answer (IsUnchanged links links' m to) → OnErr (with_looks looks (told answer)) (IsUnchanged links links' m to)
+      stays (Ok a) same = tt
+      stays (Err x) same = same
 
 -- AN ENTRY
 module _ {V K : Type 0} (cmp : K → K → Ordering) (key_of : V → K) (objects : Objects V) (key : K) (p : Place) where
@@ -83,15 +93,14 @@ module _ {V K : Type 0} (cmp : K → K → Ordering) (key_of : V → K) (objects
         turns_put (lawful links) (lawful links') e.1.0 p e.1.1 put
         (λ same. (e.0, in_linked (look links) (lawful links) p ∙ put.links.was, looks, (e.1.0, e.1.1, (e.1.2.0, same))))
 
-    pub entered : (answer : Option (Bool × Place × ℕ)) → Held (look links) m
-        → IfSome answer (λ e. Occupied e.0 e.1) → IfSome answer (λ e. Vacant e.0 e.1) → IfSome answer (λ e. FewLooks e.2 (members_in (look links) m))
-        → IfNone answer (IsLinked is_linked (look links) p × AtGap (members_in (look links) m) (IsVacantFor at) × IsUnchanged links links' m m')
-        → is_tree (kind_in m) ≡ true → Ran (p ∷ []) (λ s. asks (is_tree s.kind) WrongKind None) Answers links links' m m' (Ok answer)
-    entered (Some e) held occupied vacant looks none is =
-        record { tested = goes_on _ _ _ is refl; turned = entered_at e.0 e.1 e.2 occupied vacant looks; unchanged = tt }
-    entered None held occupied vacant looks none is =
-        record {
-          tested = goes_on _ _ _ is refl;
-          turned = rw none.2.0 (still links none.2.1 (λ same. (in_linked (look links) (lawful links) p ∙ none.0, none.1, same)));
-          unchanged = tt;
-        }
+    pub entered : (b : Bool) (q : Place) (n : ℕ) → Occupied b q → Vacant b q → FewLooks n (members_in (look links) m) → is_tree (kind_in m) ≡ true
+        → Ran (p ∷ []) (λ s. asks (is_tree s.kind) WrongKind None) Answers links links' m m' (Ok (Some (b, q, n)))
+    entered b q n occupied vacant looks is = record { tested = goes_on _ _ _ is refl; turned = entered_at b q n occupied vacant looks; unchanged = tt }
+
+    pub not_entered : IsLinked is_linked (look links) p × AtGap (members_in (look links) m) (IsVacantFor at) × IsUnchanged links links' m m' → is_tree (kind_in m) ≡ true
+        → Ran (p ∷ []) (λ s. asks (is_tree s.kind) WrongKind None) Answers links links' m m' (Ok None)
+    not_entered none is = record {
+      tested = goes_on _ _ _ is refl;
+      turned = rw none.2.0 (still links none.2.1 (λ same. (in_linked (look links) (lawful links) p ∙ none.0, none.1, same)));
+      unchanged = tt;
+    }

@@ -1,5 +1,6 @@
 pub mod Runs
 pub mod Ranged
+pub mod Looks
 pub mod Keyed
 pub mod Parted
 pub mod Linked

@@ -10,7 +10,7 @@ use Rattle.ic_any_collection.specs.declared.entry.Entry.{Entry}
 use Rattle.ic_any_collection.specs.declared.kind.Kind.{Kind}
 use Rattle.ic_any_collection.specs.declared.any_collection.AnyCollection.{AnyCollection}
 use Rattle.ic_any_collection.specs.AnyCollection.{kind_in, cursor_in, members_in, is_tree}
-use Rattle.ic_any_collection.specs.Keyed.{FewLooksWithin}
+use Rattle.ic_world.specs.Looks.{FewLooksWithin}
 use Rattle.ic_world.specs.declared.collection.Collection.{Collection}
 use Rattle.ic_world.specs.declared.call.Command.TheVariants.{Range, Current}
 use Rattle.ic_world.specs.Family.{Family, objects_of}

@@ -12,7 +12,8 @@ use Rattle.ic_rbtree.specs.declared.keys.key_adapter.Bound.{Bound}
 use Rattle.ic_rbtree.specs.Borders.{Finds, IsBorder, IsLowerBorder, IsUpperBorder, less_at}
 use Rattle.ic_rbtree.specs.Comparing.{compared, compared_within, order_of, own_order}
 use Rattle.ic_any_collection.specs.AnyCollection.{has_before, is_list, is_two_way_list, is_singly, is_xor, is_tree, has_pointer}
-use Rattle.ic_any_collection.specs.Keyed.{FewLooks, FewLooksWithin, IsVacantFor}
+use Rattle.ic_any_collection.specs.Keyed.{IsVacantFor}
+use Rattle.ic_world.specs.Looks.{FewLooks, FewLooksWithin}
 pub use Rattle.ic_any_collection.specs.Refusals.{asks}
 use Rattle.ic_world.specs.declared.call.Refusal.{Refusal}
 use Rattle.ic_world.specs.declared.call.Refusal.TheVariants.{WrongKind, NothingThere, NotAMember, NotANeighbour, AlreadyLinked}

@@ -34,6 +34,11 @@ abbrev pub told : {A : Type 0} → Result A EditError → Result A Refusal
 told (Ok a) = Ok a
 told (Err e) = Err (refusal_by e)
 
+-- what was done with so many looks, or refused
+abbrev pub with_looks : ℕ → Result Unit Refusal → Result ℕ Refusal
+with_looks looks (Ok _) = Ok looks
+with_looks looks (Err r) = Err r
+
 -- the field and the kind of a collection that is there
 abbrev pub field_and_kind : Option Sequence → Option (ℕ × Kind)
 field_and_kind None = None

@@ -9,7 +9,7 @@ use Rattle.ic_link_ops.specs.Sequences.{IsAfter, IsBefore}
 use Rattle.ic_rbtree.specs.declared.keys.key_adapter.Bound.{Bound}
 use Rattle.ic_rbtree.specs.Ranges.{runs_up, IsRange}
 use Rattle.ic_any_collection.specs.AnyCollection.{has_before, is_list, is_two_way_list, is_tree}
-use Rattle.ic_any_collection.specs.Keyed.{FewLooksWithin}
+use Rattle.ic_world.specs.Looks.{FewLooksWithin}
 use Rattle.ic_world.specs.declared.call.Refusal.{Refusal}
 use Rattle.ic_world.specs.declared.call.Refusal.TheVariants.{NoSuchField, NoSuchObject, WrongKind, IsMember, StillLinked, TooManyObjects, OutOfMemory}
 use Rattle.ic_world.specs.declared.call.Command.{Command}

@@ -10,6 +10,7 @@ pub(crate) mod insertion;
 pub(crate) mod keyed;
 pub(crate) mod kinds;
 pub(crate) mod one_call;
+pub(crate) mod probes;
 pub(crate) mod search;
 pub(crate) mod seek;
 pub(crate) mod unkeyed;

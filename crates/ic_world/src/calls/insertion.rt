@@ -5,13 +5,32 @@
 //! EntryAt(&5, place).run(&mut members, &mut links, &objects, adapter)?       // the member of key 5, or the object
 //! ```
 
+ghost use Rattle.std.specs.Prelude.{◌≡◌};
+ghost use Rattle.ic_rbtree.specs.KeyProbe.{looks_of};
+ghost use Rattle.ic_world.specs.Replies.{told, with_looks};
+
 use crate::call::Refusal;
 use crate::calls::kinds::is_tree;
 use crate::calls::one_call::{OneCall, told};
-use ic_any_collection::{AnyCollection, AnyTable};
-use ic_rbtree::KeyAdapter;
+use crate::calls::probes::own_probe;
+use ic_any_collection::{AnyCollection, AnyTable, EditError};
+use ic_rbtree::{KeyAdapter, KeyProbe};
 use ic_unsafe_ref::{Objects, Place};
 use std::alloc::Allocator;
+
+// What an insert gave, as the world tells it: done, with how often its probe was asked, or refused.
+#[inline]
+fn looked<A: KeyAdapter>(
+    put: Result<(), EditError>,
+    probe: &KeyProbe<'_, A>,
+) -> Result<u64, Refusal>
+    ensures told { result ≡ with_looks (looks_of probe.now) (told put) }
+{
+    match told(put) {
+        Ok(()) => Ok(probe.looks()),
+        Err(refusal) => Err(refusal),
+    }
+}
 
 /// An object goes where its own key belongs, behind members with the same key.
 #[derive(Clone, Copy)]
@@ -48,9 +67,15 @@ impl<A: KeyAdapter> OneCall<A> for Insertion {
         adapter: A,
     ) -> Result<u64, Refusal> {
         match *self {
-            Insertion::Insert(object) => told(members.insert(links, objects, adapter, object)),
+            Insertion::Insert(object) => {
+                let mut probe = own_probe(adapter, objects, object);
+                let put = members.insert_by(links, objects, &mut probe, object);
+                looked(put, &probe)
+            }
             Insertion::CursorInsert(object) => {
-                told(members.cursor_insert(links, objects, adapter, object))
+                let mut probe = own_probe(adapter, objects, object);
+                let put = members.cursor_insert_by(links, objects, &mut probe, object);
+                looked(put, &probe)
             }
         }
     }
@@ -89,6 +114,10 @@ impl<A: KeyAdapter> OneCall<A> for EntryAt<A::Key> {
         if !is_tree(members.kind()) {
             return Err(Refusal::WrongKind);
         }
-        Ok(members.entry(links, objects, adapter, &self.key, self.object))
+        let mut probe = KeyProbe::new(adapter, &self.key);
+        match members.entry_by(links, objects, &mut probe, self.object) {
+            Some((is_member, place)) => Ok(Some((is_member, place, probe.looks()))),
+            None => Ok(None),
+        }
     }
 }

@@ -10,6 +10,7 @@ use crate::World;
 use crate::call::{Command, Refusal};
 use crate::calls::insertion::{EntryAt, Insertion};
 use crate::calls::kinds::is_tree;
+use crate::calls::probes::{looks_in, probe_within};
 use crate::calls::search::Search;
 use ic_rbtree::{Bound, KeyAdapter};
 use ic_unsafe_ref::Place;
@@ -113,8 +114,17 @@ where
         if !is_tree(members.kind()) {
             return Err(Refusal::WrongKind);
         }
-        match members.range(self.alloc, links, &self.objects, self.adapter, &min, &max) {
-            Ok(answer) => Ok(answer),
+        let mut from = probe_within(self.adapter, &min);
+        let mut to = probe_within(self.adapter, &max);
+        match members.range_by(
+            self.alloc,
+            links,
+            &self.objects,
+            self.adapter,
+            &mut from,
+            &mut to,
+        ) {
+            Ok(places) => Ok((places, looks_in(&from), looks_in(&to))),
             Err(_) => Err(Refusal::OutOfMemory),
         }
     }

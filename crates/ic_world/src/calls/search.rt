@@ -7,8 +7,9 @@
 use crate::call::Refusal;
 use crate::calls::kinds::is_tree;
 use crate::calls::one_call::OneCall;
+use crate::calls::probes::{looks_in, probe_within};
 use ic_any_collection::{AnyCollection, AnyTable};
-use ic_rbtree::{Bound, KeyAdapter};
+use ic_rbtree::{Bound, KeyAdapter, KeyProbe};
 use ic_unsafe_ref::{Objects, Place};
 use std::alloc::Allocator;
 
@@ -50,9 +51,21 @@ impl<A: KeyAdapter> OneCall<A> for Search<A::Key> {
             return Err(Refusal::WrongKind);
         }
         match self {
-            Search::Find(key) => Ok(members.find(links, objects, adapter, key)),
-            Search::LowerBound(bound) => Ok(members.lower_bound(links, objects, adapter, bound)),
-            Search::UpperBound(bound) => Ok(members.upper_bound(links, objects, adapter, bound)),
+            Search::Find(key) => {
+                let mut probe = KeyProbe::new(adapter, key);
+                let found = members.find_by(links, objects, &mut probe);
+                Ok((found, probe.looks()))
+            }
+            Search::LowerBound(bound) => {
+                let mut probe = probe_within(adapter, bound);
+                let found = members.lower_bound_by(links, objects, &mut probe);
+                Ok((found, looks_in(&probe)))
+            }
+            Search::UpperBound(bound) => {
+                let mut probe = probe_within(adapter, bound);
+                let found = members.upper_bound_by(links, objects, &mut probe);
+                Ok((found, looks_in(&probe)))
+            }
         }
     }
 }

@@ -1,0 +1,20 @@
+-- How few looks a search makes, and how many its probe has counted.
+use Rattle.std.specs.Prelude.{◌≡◌, ℕ, List}
+use Rattle.ic_unsafe_ref.specs.declared.place.Place.{Place}
+use Rattle.ic_rbtree.specs.declared.keys.key_adapter.Bound.{Bound}
+use Rattle.ic_rbtree.specs.declared.keys.key_adapter.Bound.TheVariants.{Included, Excluded, Unbounded}
+use Rattle.ic_rbtree.specs.declared.keys.probe.KeyProbe.{KeyProbe}
+use Rattle.ic_rbtree.specs.KeyProbe.{looks_of}
+pub use Rattle.ic_rbtree.specs.Comparing.{FewLooks}
+
+-- SO FEW LOOKS as a search within this bound makes in a tree with the members s: none by `Unbounded`
+abbrev pub FewLooksWithin : {B : Type 0} → Bound B → ℕ → List Place → Type 0
+FewLooksWithin (Included _) looks s = FewLooks looks s
+FewLooksWithin (Excluded _) looks s = FewLooks looks s
+FewLooksWithin Unbounded looks s = looks ≡ 0
+
+-- how often the probe of a bound was asked: never, where there is none
+abbrev pub looks_within : {A V K : Type 0} → Bound (KeyProbe A V K) → ℕ
+looks_within (Included probe) = looks_of probe
+looks_within (Excluded probe) = looks_of probe
+looks_within Unbounded = 0
