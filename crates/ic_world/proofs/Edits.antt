@@ -47,7 +47,7 @@ module _ {V : Type 0} where
       elim (side (length ts) f) [
         | inl past ↦ absurd (let no : is_linked ((table ts f).entry q) ≡ false = ap (λ (t : Table Entry). is_linked (t.entry q)) (get_or_past ts f no_table past) in cc)
         | inr within ↦
-            let a = whole.within (index_of q) (whole.placed f q h) in
+            let a = (whole.within (index_of q) (whole.placed f q h)).0 in
             let b = whole.covered f within in
             omega (arith, a, b)
       ]
@@ -76,7 +76,7 @@ module _ {V : Type 0} where
 
     pub edited_lawful : IsLawful t
     edited_lawful q h =
-        let a = whole.within (index_of q) (e.placed q h) in
+        let a = (whole.within (index_of q) (e.placed q h)).0 in
         let b = whole.covered k.field in_ts in
         let same = ap (λ x. x.places) e.frame.extent in
         omega (arith, a, b, same)

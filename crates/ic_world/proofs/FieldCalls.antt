@@ -45,7 +45,7 @@ module _ {A V M : Type 0} {adapter : A} {objects : Objects V} {room : ℕ} (tabl
   -- each table covers each object
   pub covers_object : (f : ℕ) (t : WorldField M) (p : Place) → f < length tables → t ≡ get_or tables f t → place_is_placed objects p ≡ true → IsCovered (table_of t) p
   covers_object f t p within read has =
-      let reach = kept.0.within (index_of p) has in
+      let reach = (kept.0.within (index_of p) has).0 in
       let covers = kept.0.covered f (rw length-map within) in
       let same = ap (λ u. u.extent.places) (table_read tables f t within read) in
       omega (arith, reach, covers, same)

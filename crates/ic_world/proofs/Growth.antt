@@ -133,7 +133,7 @@ module _ {V : Type 0} {objects : Objects V} {room : ℕ} {ts : List (Table Entry
   pub kept_whole : (more : ℕ) → room ≤ more → length ts ≤ length us → ((f : ℕ) → f < length us → more ≤ (table us f).extent.places)
       → ((f : ℕ) (q : Place) → is_linked ((table us f).entry q) ≡ true → HasObject objects (index_of q)) → IsWhole objects more us cs
   kept_whole more reach longer covered placed = record {
-    within = λ i has. let h = whole.within i has in omega (arith, h, reach);
+    within = λ i has. let h = whole.within i has in (let low = h.0 in omega (arith, low, reach), h.1);
     covered = covered;
     placed = placed;
     in_field = λ c k is. let old = whole.in_field c k is in omega (arith, old, longer);

@@ -1,5 +1,5 @@
 -- An object more, another value in an object's place, and an object less.
-use Rattle.std.proofs.Common.{◌≡◌, ◌≢◌, ℕ, ◌<◌, ◌⊎◌, inl, inr, Bool, true, false, cond, List, length, map, get_or, Option, Some, None, is_some, refl, sym, ap, subst, ◌∙◌, eq-eqb, ne_eqb, arith, Result, Ok, Err, IfOk}
+use Rattle.std.proofs.Common.{◌≡◌, ◌≢◌, ℕ, ◌<◌, ◌^◌, ◌⊎◌, inl, inr, Bool, true, false, cond, List, length, map, get_or, Option, Some, None, is_some, refl, sym, ap, subst, ◌∙◌, eq-eqb, ne_eqb, arith, Result, Ok, Err, IfOk}
 use Rattle.std.proofs.lemmas.Bool.{cases_eq}
 use Rattle.std.proofs.lemmas.List.{get_or_past, get_or-map, length-map}
 use Rattle.std.proofs.lemmas.List.Folds.{list_any_at}
@@ -93,7 +93,7 @@ module _ {V : Type 0} {objects : Objects V} {room : ℕ} {ts : List (Table Entry
 
 module _ {V : Type 0} {old new : Objects V} {room : ℕ} {ts : List (Table Entry)} {cs : List (Option (Collection V))} (whole : IsWhole old room ts cs) where
   -- A VALUE PUT at a place for which there is room
-  pub put_whole : (p : Place) (v : V) → new.values ≡ map_of.insert old.values (index_of p) v → index_of p < room → IsWhole new room ts cs
+  pub put_whole : (p : Place) (v : V) → new.values ≡ map_of.insert old.values (index_of p) v → (index_of p < room) × (index_of p < 2 ^ 32) → IsWhole new room ts cs
   put_whole p v values reach = record {
     within = λ i has. elim (put_at old new p v values i) [
       | inl here ↦ rw here.0 reach
@@ -157,13 +157,14 @@ module _ {A V K : Type 0} (cmp : K → K → Ordering) (key_of : A → V → K) 
     pub none_grown : {left : List Bool} → NoneLeftLinked left old → (new : Objects V) → NoneLeftLinked left (family_of adapter new us cs)
     none_grown {left} none new = record { none = (subst (NoneLeftLinked left) (sym same_family) none).none }
 
-    pub value_placed : (has_room : Bool) → (has_room ≡ true → objects.next < room') → (v : V) (r : Result Place (Refusal × V)) (new : Objects V) → PlacesValue has_room objects v r new
+    pub value_placed : objects.next < 2 ^ 32 → (has_room : Bool) → (has_room ≡ true → objects.next < room') → (v : V) (r : Result Place (Refusal × V)) (new : Objects V) → PlacesValue has_room objects v r new
         → IsWhole new room' us cs × Step cmp key_of old (PlaceCall v) (reply_of_value (λ p. object p) r) (family_of adapter new us cs)
-    value_placed has_room reach v (Ok p) new e =
+    value_placed low has_room reach v (Ok p) new e =
         let put = e.1 in
         let here = reach e.0 in
-        let next = put.next in (
-          put_whole longer_whole p v put.values (omega (arith, here, next)),
-          rw (← same_family) (put.vacant, λ i. record { adapter = adapter; objects = put.values i; fields = map field_in us; collections = map (shown_as us) cs }),
+        let next = put.next in
+        let below : index_of p < 2 ^ 32 = omega (arith, low, next) in (
+          put_whole longer_whole p v put.values (omega (arith, here, next), below),
+          rw (← same_family) (put.vacant, below, λ i. record { adapter = adapter; objects = put.values i; fields = map field_in us; collections = map (shown_as us) cs }),
         )
-    value_placed has_room reach v (Err x) new e = rw (e.0, e.1) (longer_whole, same_family)
+    value_placed low has_room reach v (Err x) new e = rw (e.0, e.1) (longer_whole, same_family)

@@ -151,7 +151,7 @@ module _ {A V M : Type 0} {adapter : A} {objects : Objects V} {room : ℕ} {tabl
   placed_each (p ∷ s) e = let h = and_parts (place_is_placed objects p) _ e in (h.0, placed_each s h.1)
 
   pub room_for : (s : List Place) → list_all (place_is_placed objects) s ≡ true → Each (IsCovered (table_of now)) s
-  room_for s e = each_map (λ p. HasObject objects (index_of p)) (IsCovered (table_of now)) (λ p has. let a = whole.within (index_of p) has in let b = rw at_k.read at (whole.covered k.field at_k.field) in omega (arith, a, b)) s (placed_each s e)
+  room_for s e = each_map (λ p. HasObject objects (index_of p)) (IsCovered (table_of now)) (λ p has. let a = (whole.within (index_of p) has).0 in let b = rw at_k.read at (whole.covered k.field at_k.field) in omega (arith, a, b)) s (placed_each s e)
 
   module _ {K : Type 0} (cmp : K → K → Ordering) (key_of : A → V → K) (call : Call K) (placed : list_all (place_is_placed objects) (names call) ≡ true) {R : Type 0} (accepted : R → Reply) (r : Result R Refusal) (links : AnyTable M) (m : AnyCollection V)
       (ran : Ran (names call) (refusal_of call) (λ a s t. Replies cmp (key_of adapter) objects call s (accepted a) t) now.links links k.members m r) where

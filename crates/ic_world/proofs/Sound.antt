@@ -83,6 +83,7 @@ module _ {A V M : Type 0} (adapter : A) {objects : Objects V} {room : ℕ} (fiel
 
   pub is_sound : IsSound w
   is_sound = record {
+    below = λ p has. (kept.0.within (index_of p) has).1;
     placed = λ f p h. kept.0.placed f p (sym (linked_read f (none_past f p h) p) ∙ h);
     collections = λ c s is. let k = seen_at adapter kept.0 c s is in subst (IsSoundIn w) k.2 (sound_at c k.0 k.1);
     apart = are_apart adapter kept.0;

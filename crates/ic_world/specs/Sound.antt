@@ -1,5 +1,5 @@
 -- WHAT ALWAYS HOLDS of a world: it holds of a new one, and each call keeps it.
-use Rattle.std.specs.Prelude.{◌≡◌, ℕ, true, Some}
+use Rattle.std.specs.Prelude.{◌≡◌, ◌<◌, ◌^◌, ℕ, true, Some}
 use Rattle.std.specs.FinSet as set
 use Rattle.ic_unsafe_ref.specs.declared.place.Place.{Place}
 use Rattle.ic_unsafe_ref.specs.Places.{index_of}
@@ -16,8 +16,10 @@ module _ {A V : Type 0} where
     pub linked : (p : Place) → IsMember p s.members → set.contains (linked_of w s.field) (index_of p) ≡ true
     pub cursor : (p : Place) → s.cursor ≡ Some p → IsMember p s.members
 
-  -- A FAMILY IS SOUND: an object stands at each linked place, each collection is sound, and no member is shared
+  -- A FAMILY IS SOUND: objects stand at the first 2 ^ 32 places alone, an object stands at each linked place, each collection is sound,
+  -- and no member is shared. So each place that a family names is one of the first 2 ^ 32
   pub record IsSound (w : Family A V) : Type 0 where
+    pub below : (p : Place) → is_placed w p ≡ true → index_of p < 2 ^ 32
     pub placed : (f : ℕ) (p : Place) → set.contains (linked_of w f) (index_of p) ≡ true → is_placed w p ≡ true
     pub collections : (c : ℕ) (s : Sequence) → collection w c ≡ Some s → IsSoundIn w s
     pub apart : AreApart w

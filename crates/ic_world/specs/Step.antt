@@ -1,5 +1,5 @@
 -- ONE CALL OF A WORLD, as a step of its family, and a run of calls.
-use Rattle.std.specs.Prelude.{◌≡◌, ℕ, not, reverse, List, [], ◌∷◌, ◌++◌, length, Option, Some, None, MatchOption}
+use Rattle.std.specs.Prelude.{◌≡◌, ◌<◌, ◌^◌, ℕ, not, reverse, List, [], ◌∷◌, ◌++◌, length, Option, Some, None, MatchOption}
 use Rattle.std.specs.List.{list_all}
 use Rattle.std.specs.declared.cmp.Ordering.{Ordering}
 use Rattle.std.specs.FinSet as set
@@ -109,7 +109,7 @@ module _ {A V K : Type 0} (cmp : K → K → Ordering) (key_of : A → V → K) 
   Accepts old (call.Open f k) (refused OutOfMemory) new = new ≡ old
   Accepts old (call.Open f k) _ new = ⊥
   Accepts old (call.Place v) (object p) new =
-      (map.get old.objects (index_of p) ≡ None) × (new ≡ record old { objects = map.insert old.objects (index_of p) v })
+      (map.get old.objects (index_of p) ≡ None) × (index_of p < 2 ^ 32) × (new ≡ record old { objects = map.insert old.objects (index_of p) v })
   Accepts old (call.Place v) (refused TooManyObjects) new = new ≡ old
   Accepts old (call.Place v) (refused OutOfMemory) new = new ≡ old
   Accepts old (call.Place v) _ new = ⊥

@@ -1,5 +1,5 @@
 -- The family that tables show: nothing of it is stored beside them but the cursors.
-use Rattle.std.specs.Prelude.{◌≡◌, ◌≢◌, ℕ, ◌<◌, ◌≤◌, Bool, true, false, List, [], map, length, Option, Some, None, IsSome, slice_index_or}
+use Rattle.std.specs.Prelude.{◌≡◌, ◌≢◌, ℕ, ◌<◌, ◌≤◌, ◌^◌, Bool, true, false, List, [], map, length, Option, Some, None, IsSome, slice_index_or}
 use Rattle.std.specs.FinMap as map_of
 use Rattle.ic_unsafe_ref.specs.declared.place.Place.{Place}
 use Rattle.ic_unsafe_ref.specs.Places.{index_of}
@@ -63,10 +63,10 @@ module _ {V : Type 0} where
     collections = map (shown_as ts) cs;
   }
 
-  -- the objects stand below `room`, which each table covers; only objects are linked; each collection is kept by its table, and those of
+  -- the objects stand below 2 ^ 32 and below `room`, which each table covers; only objects are linked; each collection is kept by its table, and those of
   -- one field share no member
   pub record IsWhole (objects : Objects V) (room : ℕ) (ts : List (Table Entry)) (cs : List (Option (Collection V))) : Type 0 where
-    pub within : (i : ℕ) → HasObject objects i → i < room
+    pub within : (i : ℕ) → HasObject objects i → (i < room) × (i < 2 ^ 32)
     pub covered : (f : ℕ) → f < length ts → room ≤ (table ts f).extent.places
     pub placed : (f : ℕ) (q : Place) → is_linked ((table ts f).entry q) ≡ true → HasObject objects (index_of q)
     pub in_field : (c : ℕ) (k : Collection V) → at cs c ≡ Some k → k.field < length ts

@@ -254,8 +254,9 @@ impl<A: KeyAdapter, M: Allocator + Copy> World<A, M> {
         self.splice(collection, given, true)
     }
 
-    /// Says what always holds: an object stands at each linked place; the field of each collection is there and carries its kind, its
-    /// members are linked in it, and its cursor is null or a member; and no member is shared. It does nothing.
+    /// Says what always holds: each object stands at one of the first 2^32 places, and one stands at each linked place; the field of
+    /// each collection is there and carries its kind, its members are linked in it, and its cursor is null or a member; and no member
+    /// is shared. It does nothing.
     pub fn family_is_sound(&self)
         ensures { IsSound self.now }
     {

@@ -358,7 +358,7 @@ module _ {A V K : Type 0} {cmp : K → K → Ordering} (total : IsTotalOrder cmp
   ]
 
   place_order : (v : V) (reply : Reply) (new : Family A V) → Accepts cmp key_of old (call.Place v) reply new → Stands new entered
-  place_order v (object p) new h = left entered h.1 (objects_order p (map_of.insert old.objects (index_of p) v) (vacant_absent (objects_of old) p h.0 s.members placed) (inserted_at p v))
+  place_order v (object p) new h = left entered h.2 (objects_order p (map_of.insert old.objects (index_of p) v) (vacant_absent (objects_of old) p h.0 s.members placed) (inserted_at p v))
   place_order v (refused TooManyObjects) new h = same_order entered h refl
   place_order v (refused OutOfMemory) new h = same_order entered h refl
   place_order v _ new h = absurd h

@@ -273,7 +273,7 @@ module _ {A V : Type 0} (old : Family A V) (sound : IsSound old) where
       open_keeps f k _ e h = absurd h
 
       place_keeps : (v : V) (reply : Reply) → Accepts cmp key_of old (call.Place v) reply new → IsSound new
-      place_keeps v (object p) h = left h.1 (set_sound old sound p v)
+      place_keeps v (object p) h = left h.2 (set_sound old sound p h.1 v)
       place_keeps v (refused TooManyObjects) h = left h sound
       place_keeps v (refused OutOfMemory) h = left h sound
       place_keeps v _ h = absurd h
@@ -296,7 +296,7 @@ module _ {A V : Type 0} (old : Family A V) (sound : IsSound old) where
       keeps_sound (call.RemoveObject p) reply step = accepted (refusal {K = K} old (call.RemoveObject p)) (Accepts cmp key_of old (call.RemoveObject p)) reply step (λ e h.
           let there = asks_none (is_placed old p) NoSuchObject (asks (not (is_linked_somewhere old p)) StillLinked None) e in
           left h.1 (removed_sound old sound p (not_false (is_linked_somewhere old p) (asks_none (not (is_linked_somewhere old p)) StillLinked None there.1).0)))
-      keeps_sound (call.SetValue p v) reply step = accepted (refusal {K = K} old (call.SetValue p v)) (Accepts cmp key_of old (call.SetValue p v)) reply step (λ e h. left h.1 (set_sound old sound p v))
+      keeps_sound (call.SetValue p v) reply step = accepted (refusal {K = K} old (call.SetValue p v)) (Accepts cmp key_of old (call.SetValue p v)) reply step (λ e h. left h.1 (set_sound old sound p (sound.below p (asks_none (is_placed old p) NoSuchObject None e).0) v))
       keeps_sound (call.Dispose c) reply step = accepted (refusal {K = K} old (call.Dispose c)) (Accepts cmp key_of old (call.Dispose c)) reply step (λ e h. left h.3 (disposed c h.0 h.1))
       keeps_sound (call.FastClear c) reply step = accepted (refusal {K = K} old (call.FastClear c)) (Accepts cmp key_of old (call.FastClear c)) reply step (λ e h. left h.3 (emptied c h.0 h.1))
       keeps_sound (call.Take c) reply step = out_keeps c All reply step

@@ -1,5 +1,5 @@
 -- Families that differ from a sound one in one collection, in one field, or in one object.
-use Rattle.std.proofs.Common.{◌≡◌, ◌≢◌, ◌⊎◌, inl, inr, ℕ, ◌<◌, ◌≤◌, Bool, true, false, cond, nat_lt, List, [], ◌∷◌, ◌++◌, length, get_or, set, Option, Some, None, is_some, refl, sym, ap, ◌∙◌, subst, arith, ltb-true, true≢false, ne_eqb}
+use Rattle.std.proofs.Common.{◌≡◌, ◌≢◌, ◌⊎◌, inl, inr, ℕ, ◌<◌, ◌≤◌, ◌^◌, Bool, true, false, cond, nat_lt, List, [], ◌∷◌, ◌++◌, length, get_or, set, Option, Some, None, is_some, refl, sym, ap, ◌∙◌, subst, arith, ltb-true, true≢false, ne_eqb}
 use Rattle.std.proofs.lemmas.Bool.{cases_eq, lt-ltb}
 use Rattle.std.proofs.lemmas.List.{get_or-set_same, get_or-set_other, get_or_past, get_or_append_left, get_or_push, length-append, length-set}
 use Rattle.std.specs.Cmp.{nat_cmp_total, unsigned_tied}
@@ -128,6 +128,7 @@ module _ {A V : Type 0} (w : Family A V) (sound : IsSound w) (c : ℕ) (s : Sequ
 
   pub changed_sound : IsSound new
   changed_sound = record {
+    below = sound.below;
     placed = placed_in;
     collections = λ d r e. elim (which d r e) [ inl h ↦ mine r h.1 | inr h ↦ stays d r h.0 h.1 ];
     apart = (
@@ -159,6 +160,7 @@ module _ {A V : Type 0} (w : Family A V) (sound : IsSound w) (f : ℕ) (p : Plac
 
   pub freed_sound : IsSound (with_linked w f fewer)
   freed_sound = record {
+    below = sound.below;
     placed = λ g q h. elim (cases_eq g f) [
       | inl e ↦ sound.placed f q (still_in (linked_of w f) p q (sym (contains_fewer g q e) ∙ h)).1
       | inr d ↦ sound.placed g q (sym (contains_same g q d) ∙ h)
@@ -196,6 +198,7 @@ module _ {A V : Type 0} (w : Family A V) (sound : IsSound w) (x : Sequence) (rig
 
   pub opened_sound : IsSound (with_opened w x)
   opened_sound = record {
+    below = sound.below;
     placed = sound.placed;
     collections = λ d r e. elim (which_opened d r e) [ inl h ↦ subst (IsSoundIn (with_opened w x)) h.1 (same_fields x right) | inr h ↦ same_fields r (sound.collections d r h) ];
     apart = (
@@ -231,6 +234,7 @@ module _ {A V : Type 0} (w : Family A V) (sound : IsSound w) (kind : Kind) where
 
   pub added_sound : IsSound added
   added_sound = record {
+    below = sound.below;
     placed = λ f p h. elim (side (length w.fields) f) [
       | inl past ↦ absurd (true≢false (sym h ∙ none_linked f p past))
       | inr within ↦ sound.placed f p (ap (λ (x : LinkField). set_of.contains x.linked (index_of p)) (sym (field_still f within)) ∙ h)
@@ -248,10 +252,11 @@ module _ {A V : Type 0} (w : Family A V) (sound : IsSound w) (kind : Kind) where
     apart = sound.apart;
   }
 
--- OTHER OBJECTS, where one stands at each linked place
+-- OTHER OBJECTS, at the first 2 ^ 32 places alone, where one stands at each linked place
 pub objects_sound : {A V : Type 0} (w : Family A V) (sound : IsSound w) (m : map_of.FinMap nat_cmp V)
-    → ((f : ℕ) (p : Place) → set_of.contains (linked_of w f) (index_of p) ≡ true → is_some (map_of.get m (index_of p)) ≡ true) → IsSound (record w { objects = m })
-objects_sound w sound m placed = record {
+    → ((p : Place) → is_some (map_of.get m (index_of p)) ≡ true → index_of p < 2 ^ 32) → ((f : ℕ) (p : Place) → set_of.contains (linked_of w f) (index_of p) ≡ true → is_some (map_of.get m (index_of p)) ≡ true) → IsSound (record w { objects = m })
+objects_sound w sound m below placed = record {
+  below = below;
   placed = placed;
   collections = λ c s e. let k = sound.collections c s e in record { in_field = k.in_field; carried = k.carried; linked = k.linked; cursor = k.cursor };
   apart = sound.apart;
@@ -262,18 +267,35 @@ module _ {A V : Type 0} (w : Family A V) (sound : IsSound w) (p : Place) where
   cond_some true x o h = refl
   cond_some false x o h = h
 
-  pub set_sound : (v : V) → IsSound (record w { objects = map_of.insert w.objects (index_of p) v })
-  set_sound v = objects_sound w sound _ (λ f q h. ap is_some (get-insert nat_cmp_total w.objects (index_of p) v (index_of q)) ∙ cond_some _ v (map_of.get w.objects (index_of q)) (sound.placed f q h))
+  still_some : {X : Type 0} (b : Bool) (o : Option X) → is_some (cond b None o) ≡ true → is_some o ≡ true
+  still_some true o h = absurd (true≢false (sym h))
+  still_some false o h = h
+
+  -- another object, or a new one
+  pub set_sound : index_of p < 2 ^ 32 → (v : V) → IsSound (record w { objects = map_of.insert w.objects (index_of p) v })
+  set_sound low v = objects_sound w sound _
+      (λ q has. elim (cases_eq (index_of q) (index_of p)) [
+        | inl e ↦ rw e low
+        | inr d ↦ sound.below q (sym (ap is_some (elsewhere v q d)) ∙ has)
+      ])
+      (λ f q h. ap is_some (get-insert nat_cmp_total w.objects (index_of p) v (index_of q)) ∙ cond_some _ v (map_of.get w.objects (index_of q)) (sound.placed f q h))
+    where
+      elsewhere : (v : V) (q : Place) → index_of q ≢ index_of p → map_of.get (map_of.insert w.objects (index_of p) v) (index_of q) ≡ map_of.get w.objects (index_of q)
+      elsewhere v q d =
+          get-insert nat_cmp_total w.objects (index_of p) v (index_of q)
+          ∙ ap (λ b. cond b (Some v) (map_of.get w.objects (index_of q))) (unsigned_tied (index_of q) (index_of p) ∙ ne_eqb (index_of q) (index_of p) d)
 
   -- p is linked in no field
   pub removed_sound : is_linked_somewhere w p ≡ false → IsSound (record w { objects = map_of.remove w.objects (index_of p) })
-  removed_sound free = objects_sound w sound _ (λ f q h. elim (cases_eq (index_of q) (index_of p)) [
-    | inl e ↦ absurd (true≢false (sym (linked_is f q h e) ∙ free))
-    | inr d ↦
-        ap is_some (get-remove nat_cmp_total w.objects (index_of p) (index_of q)
-        ∙ ap (λ b. cond b None (map_of.get w.objects (index_of q))) (unsigned_tied (index_of q) (index_of p) ∙ ne_eqb (index_of q) (index_of p) d))
-        ∙ sound.placed f q h
-  ])
+  removed_sound free = objects_sound w sound _
+      (λ q has. sound.below q (still_some _ (map_of.get w.objects (index_of q)) (sym (ap is_some (get-remove nat_cmp_total w.objects (index_of p) (index_of q))) ∙ has)))
+      (λ f q h. elim (cases_eq (index_of q) (index_of p)) [
+        | inl e ↦ absurd (true≢false (sym (linked_is f q h e) ∙ free))
+        | inr d ↦
+            ap is_some (get-remove nat_cmp_total w.objects (index_of p) (index_of q)
+            ∙ ap (λ b. cond b None (map_of.get w.objects (index_of q))) (unsigned_tied (index_of q) (index_of p) ∙ ne_eqb (index_of q) (index_of p) d))
+            ∙ sound.placed f q h
+      ])
     where
       within : (f : ℕ) (q : Place) → set_of.contains (linked_of w f) (index_of q) ≡ true → f < length w.fields
       within f q h = elim (side (length w.fields) f) [

@@ -29,7 +29,7 @@ use std::alloc::{AllocError, Allocator};
 ///   keys are not greater than the key.
 /// - A sorted collection stays sorted, and its equal keys stand in the order of their insertion, but by a call that puts an object into it
 ///   by position or by another key, that turns, joins, splits or gives it up, or that gives a member another key.
-/// - Members are linked, linked places have objects, no member is shared, and each cursor is null or on a member.
+/// - Members are linked, linked places have objects, which stand below 2^32, no member is shared, and each cursor is null or on a member.
 #[inline]
 pub fn answer<A: KeyAdapter, M: Allocator + Copy>(
     world: &mut World<A, M>,
