@@ -31,7 +31,7 @@ def listed():
 def crates_below(name, of):
     """The repository's crates that one stands on, lowest first."""
     found = []
-    for crate in filter(of.get, of[name]):
+    for crate in filter(of.__contains__, of[name]):
         found += [it for it in [*crates_below(crate, of), crate] if it not in found]
     return found
 
@@ -40,7 +40,8 @@ def words(verb, crate):
     """The command of the kit, `build` or `check`, on the crate in whose folder it is run."""
     of, folder = listed(), kit()
     rlib = {name: ROOT / "crates" / name / "out/rlib" for name in of}
-    found = [folder / "bin/rattle", verb, "--crate-name", crate, "src/lib.rt", "--extern", f"std={folder}/rlibs/std.rlib"]
+    root = "src/main.rt" if (ROOT / "crates" / crate / "src/main.rt").exists() else "src/lib.rt"
+    found = [folder / "bin/rattle", verb, "--crate-name", crate, root, "--extern", f"std={folder}/rlibs/std.rlib"]
     for name in of[crate]:
         found += ["--extern", f"{name}={rlib.get(name, folder / 'rlibs')}/{name}.rlib"]
     for below in [folder / "rlibs", *(rlib[name] for name in crates_below(crate, of))]:
@@ -48,15 +49,26 @@ def words(verb, crate):
     return [*found, "--antt-project", folder / "rattle/logic/antt-project.json", "--logic-built", folder / "logic_built"]
 
 
-def sum_of_sources(crate):
-    """A sum of all that a proof and a build of the crate read: the kit, and the sources of it and of all that it stands on."""
-    found, of = hashlib.sha256(run(["rt", "version"]).encode()), listed()
+def kit_name():
+    """What the kit calls itself, or None if there is no kit."""
+    return run(["rt", "version"]).strip() if shutil.which("rt") else None
+
+
+def sums_of_sources(crate):
+    """For the crate and each that it stands on, lowest first, a sum of its sources and of what it stands on."""
+    sums, of = {}, listed()
     for name in [*crates_below(crate, of), crate]:
-        found.update(f"{name}: {of[name]}\n".encode())
+        found = hashlib.sha256(f"{name}: {of[name]}\n".encode())
         files = (it for part in ("src", "specs", "proofs") for it in (ROOT / "crates" / name / part).rglob("*") if it.is_file())
         for file in sorted(files):
             found.update(f"{file.relative_to(ROOT)} {hashlib.sha256(file.read_bytes()).hexdigest()}\n".encode())
-    return found.hexdigest()
+        sums[name] = found.hexdigest()
+    return sums
+
+
+def sum_of_sources(crate):
+    """A sum of all that a proof and a build of the crate read: the kit, and the sources of it and of all that it stands on."""
+    return hashlib.sha256(f"{kit_name()} {sums_of_sources(crate)}".encode()).hexdigest()
 
 
 def stamp_of(crate):
@@ -70,10 +82,15 @@ def stamp(crate, sum_before):
         stamp_of(crate).write_text(sum_before)
 
 
+def program_of(crate):
+    """The path of the crate's program."""
+    return ROOT / "crates" / crate / "out" / crate
+
+
 def is_current(crate):
     """Whether the crate's program was proved and built from the sources that stand here now."""
-    stamp, program = stamp_of(crate), ROOT / "crates" / crate / "out" / crate
-    return program.is_file() and stamp.is_file() and stamp.read_text() == sum_of_sources(crate)
+    stamp = stamp_of(crate)
+    return program_of(crate).is_file() and stamp.is_file() and stamp.read_text() == sum_of_sources(crate)
 
 
 def proved_program(crate):
@@ -82,4 +99,4 @@ def proved_program(crate):
         sum_before = sum_of_sources(crate)
         run(["rt", "run"], cwd=ROOT / "crates" / crate)
         stamp(crate, sum_before)
-    return ROOT / "crates" / crate / "out" / crate
+    return program_of(crate)

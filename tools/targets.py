@@ -38,14 +38,27 @@ TARGETS = {
     "wasm32": Target("wasm32-unknown-unknown", "x86_64-linux", "", (), (), "#"),
 }
 # What tells other tools of the compiler, or what the text has besides in a note.
-LEFT_OUT = re.compile(r"\s*\.(addrsig|ident|file|aeabi_subsection|aeabi_attribute)\b")
+LEFT_OUT = re.compile(r"\s*\.(addrsig|addrsig_sym|ident|file|aeabi_subsection|aeabi_attribute)\b")
+# A line of the assembly text that has a string, in which no comment begins and no name stands.
+STRING = re.compile(r"\s*\.(ascii|asciz)\s")
+# A name in quotes.
+QUOTED = re.compile(r'"([^"\n]*::[^"\n]*)"')
+# The lines that have a name in what llvm-objdump prints: what stands before it, the name, and what stands behind it.
+NAMED = [re.compile(line, re.M) for line in (
+    r"^((?:Disassembly|Contents) of section |RELOCATION RECORDS FOR \[)(.+?)(\]?:)$",
+    r"^(<)(.+)(>:)$",
+    r"^([^<\n]*\s<)(.+?)((?:\+0x[0-9a-f]+)?>)$",
+    r"^([0-9a-f]*\s+R_\w+\s+)(.+?)((?:[-+]0x[0-9a-f]+)?)$",
+)]
+# The sections that a program loads.
+LOADED = re.compile(r"\.(rodata|data|tdata|init_array|text)")
 # What is kept of a target of the kit.
-MADE = ("a", "ll", "s", "words", "verdict")
+MADE = ("a", "ll", "s", "words")
 STAND_IN = """#!{python} -B
 import sys
 sys.path.insert(0, {tools!r})
-import targets
-targets.compile_kept({clang!r}, {name!r}, {room!r}, sys.argv[1:])
+import {module}
+{module}.compile_kept({clang!r}, {name!r}, {room!r}, sys.argv[1:])
 """
 
 
@@ -68,17 +81,17 @@ def version_name():
     return "ic_version_" + "_".join(version()[:2])
 
 
-def rattle_words(triple, toolchain, archive):
+def rattle_words(crate, triple, toolchain, made):
     """The command that proves the crate over the libraries that are built, and compiles it."""
     # What one target's proof keeps, the next takes. A second job is of use only to a proof from nothing.
     kept = "out/incremental"
-    words = [*built.words("build", "ic_ffi"), "--links", "ic_ffi=", "--incremental", kept, "--jobs", "1" if (CRATE / kept).is_dir() else "2"]
-    words += ["--crate-type", "staticlib", "--backend", "llvm", *(["--cpu", "x86-64"] if triple.startswith("x86_64") else [])]
-    return [*words, "--target", triple, "--toolchain", toolchain, "-o", archive]
+    words = [*built.words("build", crate.name), "--links", f"{crate.name}=", "--incremental", kept, "--jobs", "1" if (crate / kept).is_dir() else "2"]
+    words += ["--backend", "llvm", *(["--cpu", "x86-64"] if triple.startswith("x86_64") else [])]
+    return [*words, "--target", triple, "--toolchain", toolchain, "-o", made]
 
 
-def stand_in(name, room):
-    """A toolchain whose clang hardens what it compiles for the target, and keeps it in the room."""
+def stand_in(name, room, module="targets"):
+    """A toolchain whose clang is the `compile_kept` of the module of tools/."""
     of, folder = kit() / "toolchain", room / f"toolchain-{name}"
     (folder / "bin").mkdir(parents=True)
     (folder / "lib").symlink_to(of / "lib")
@@ -86,7 +99,7 @@ def stand_in(name, room):
         if tool.name != "clang":
             (folder / "bin" / tool.name).symlink_to(tool)
     script = folder / "bin/clang"
-    words = {"python": sys.executable, "tools": str(ROOT / "tools"), "clang": str(of / "bin/clang"), "name": name, "room": str(room)}
+    words = {"python": sys.executable, "tools": str(ROOT / "tools"), "clang": str(of / "bin/clang"), "name": name, "room": str(room), "module": module}
     script.write_text(STAND_IN.format(**words))
     script.chmod(0o755)
     return folder
@@ -132,30 +145,36 @@ def write_hardened(module, name, room):
     return hardened
 
 
-def sum_of_files():
+def sum_of_files(crate, tools):
     """A sum of all that a build reads: the kit, the crate, the libraries that are built, whose `format` has a sum of each, and how it is built."""
     found = hashlib.sha256(f"{run(['rt', 'version'])}{version_name()}".encode())
-    own = [file for part in ("src", "specs", "proofs") for file in (CRATE / part).rglob("*") if file.is_file()]
+    own = [file for part in ("src", "specs", "proofs") for file in (crate / part).rglob("*") if file.is_file()]
     below = ROOT.glob("crates/*/out/rlib/*.rlib/format")
-    for file in sorted([*own, *below, ROOT / "crates.txt", pathlib.Path(built.__file__), pathlib.Path(__file__)]):
+    for file in sorted([*own, *below, ROOT / "crates.txt", pathlib.Path(built.__file__), pathlib.Path(__file__), *tools]):
         found.update(f"{file.relative_to(ROOT)} {hashlib.sha256(file.read_bytes()).hexdigest()}\n".encode())
     return found.hexdigest()
 
 
-def compile_proved(name, room):
-    """Writes ROOM/NAME.a, .ll, .s and .words of a target that the kit has, and returns the verdict."""
-    made, sum_now = CRATE / "out/made" / name, sum_of_files()
+def make_once(crate, name, endings, room, words, tools=()):
+    """Writes ROOM/NAME with each ending, by a build that has these words, and returns the verdict. A build of the same files is not made again."""
+    made, sum_now, endings = crate / "out/made" / name, sum_of_files(crate, tools), [*endings, "verdict"]
     if not (made / "sum").is_file() or (made / "sum").read_text() != sum_now:
-        said = run(rattle_words(TARGETS[name].triple, stand_in(name, room), room / f"{name}.a"), cwd=CRATE)
+        said = run(words, cwd=crate)
         (room / f"{name}.verdict").write_text(re.search(r"^logic=proved .*", said, re.M)[0])
         shutil.rmtree(made, ignore_errors=True)
         made.mkdir(parents=True)
-        for ending in MADE:
+        for ending in endings:
             shutil.copyfile(room / f"{name}.{ending}", made / f"{name}.{ending}")
         (made / "sum").write_text(sum_now)
-    for ending in MADE:
+    for ending in endings:
         shutil.copyfile(made / f"{name}.{ending}", room / f"{name}.{ending}")
     return (room / f"{name}.verdict").read_text()
+
+
+def compile_proved(name, room):
+    """Writes ROOM/NAME.a, .ll, .s and .words of a target that the kit has, and returns the verdict."""
+    words = rattle_words(CRATE, TARGETS[name].triple, stand_in(name, room), room / f"{name}.a")
+    return make_once(CRATE, name, MADE, room, [*words, "--crate-type", "staticlib"])
 
 
 def compile_other(name, room):
@@ -195,13 +214,17 @@ def plain(name):
 
 def portable(name, text):
     """The assembly text without comments and what other assemblers don't know, and with names that need no quotes."""
-    quoted = {it: plain(it) for it in re.findall(r'"([^"\n]*::[^"\n]*)"', text)}
+    text = re.sub(r"^\s*\.def\s+@feat\.00;\n(?:.*\n)*?\s*\.endef\n|^.*@feat\.00.*\n", "", text, flags=re.M)
+    quoted = {it: plain(it) for line in text.splitlines() if not STRING.match(line) for it in QUOTED.findall(line)}
     if len(set(quoted.values())) < len(quoted):
         raise ValueError("two names of the text are the same without what needs quotes")
-    text = re.sub(r'"([^"\n]*::[^"\n]*)"', lambda it: quoted[it[1]], text)
-    text = re.sub(r"^\s*\.def\s+@feat\.00;\n(?:.*\n)*?\s*\.endef\n|^.*@feat\.00.*\n", "", text, flags=re.M)
-    lines = (re.sub(rf"\s*{re.escape(TARGETS[name].comment)}+\s.*$", "", line).rstrip() for line in text.splitlines())
-    return "".join(f"{line}\n" for line in lines if line and not LEFT_OUT.match(line))
+    comment, lines = re.compile(rf"\s*{re.escape(TARGETS[name].comment)}+\s.*$"), []
+    for line in text.splitlines():
+        if not STRING.match(line):
+            line = comment.sub("", QUOTED.sub(lambda it: quoted[it[1]], line)).rstrip()
+        if line and not LEFT_OUT.match(line):
+            lines.append(line)
+    return "".join(f"{line}\n" for line in lines)
 
 
 def exported(name, text):
@@ -212,16 +235,37 @@ def exported(name, text):
 
 def has_other_code(name, text, room):
     """Whether the kit's clang assembles the text to other instructions than those of the kit's archive, but for how padding is written."""
-    ours, theirs = room / f"{name}.of-text.o", room / f"{name}.of-archive.o"
-    run([clang(), f"--target={TARGETS[name].triple}", "-c", text, "-o", ours])
+    theirs = room / f"{name}.of-archive.o"
     member = run(["llvm-ar", "t", room / f"{name}.a"], executable=clang()).split()[0]
     theirs.write_bytes(subprocess.run(["llvm-ar", "p", room / f"{name}.a", member], executable=clang(), check=True, stdout=subprocess.PIPE).stdout)
-    return instructions(ours) != instructions(theirs)
+    return instructions(assembled(name, text, room)) != instructions(theirs)
+
+
+def assembled(name, text, room):
+    """The object file that the kit's clang makes of the text."""
+    made = room / f"{name}.of-text.o"
+    run([clang(), f"--target={TARGETS[name].triple}", "-c", text, "-o", made])
+    return made
+
+
+def dumped(file, *words):
+    """What llvm-objdump prints of an object file, with names as `plain` writes them."""
+    text = run(["llvm-objdump", *words, file], executable=clang())
+    for line in NAMED:
+        text = line.sub(lambda it: f"{it[1]}{plain(it[2])}{it[3]}", text)
+    return text
 
 
 def instructions(file):
     """What each section of an object file has: instructions, their bytes, and relocations."""
-    text = run(["llvm-objdump", "-dr", "--no-leading-addr", file], executable=clang())
-    text = re.sub(r"[\w.$]+(?:::(?:<#\w+>|[\w.$]+))+", lambda it: plain(it[0]), text)
+    text = dumped(file, "-dr", "--no-leading-addr")
     text = re.sub(r"^ +[0-9a-f]{2}(?: [0-9a-f]{2})*\s+(?:nop\w?\b|xchgw\s+%ax, %ax).*\n", "", text, flags=re.M)
     return dict(re.findall(r"^Disassembly of section ([^\n]+):\n(.*?)(?=^Disassembly|\Z)", text, re.M | re.S))
+
+
+def contents(file):
+    """What each section of an object file has that a program loads: instructions as above, or bytes, and all relocations."""
+    text = dumped(file, "-sr")
+    parts = re.findall(r"^(Contents of section|RELOCATION RECORDS FOR) \[?([^\n]+?)\]?:\n(.*?)(?=^Contents|^RELOCATION|\Z)", text, re.M | re.S)
+    data = {(kind, name): part.strip() for kind, name, part in parts if LOADED.match(name)}
+    return instructions(file), {(kind, name): it for (kind, name), it in data.items() if kind[0] == "R" or not name.startswith(".text")}
