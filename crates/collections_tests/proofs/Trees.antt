@@ -21,6 +21,7 @@ use Rattle.ic_rbtree.specs.declared.keys.entry.Entry.{Entry}
 use Rattle.ic_rbtree.specs.declared.keys.entry.Entry.TheVariants.{Occupied, Vacant}
 use Rattle.ic_rbtree.specs.declared.keys.entry.InsertCursor.{InsertCursor}
 use Rattle.ic_rbtree.specs.declared.tree.RBTree.{RBTree}
+use Rattle.ic_rbtree.specs.Kept.{alone}
 
 pub none_shown : {A : Type 0} (links : TreeLinkOps A) (root : Option Place) → root ≡ None → PlainShowsSome links root
 none_shown links root e = ([], rw e (shows_nothing {n = node_of} (plain_table links)))
@@ -39,9 +40,9 @@ module _ {A : Type 0} (links : TreeLinkOps A) {T : Type 0} (o : Objects T) (all 
       record { members = s; shown = h; placed = each_placed s covered }
 
 -- a vacant entry of a tree that is shown has a gap where it inserts. `P` and `Q`: whatever else is known of it
-module _ {A L V K E : Type 0} (n : E → Node) (table : L → Table E) (at : Place → Ordering) (P Q : InsertCursor A L → Type 0) (tree : RBTree A) (links : L) {s : List Place}
+module _ {A L V K E : Type 0} (n : E → Node) (table : L → Table E) (at : Place → Ordering) (P Q : InsertCursor A L (Option Place) → Type 0) (tree : RBTree A (Option Place)) (links : L) {s : List Place}
     (shown : Shows n (table links) (root_of tree) s) where
-  pub can_insert : (e : Entry A L V K) → IfVacant e (IsVacantFor n at (table links) s) → IfVacant e (λ v. P v × Q v × (v.tree.now ≡ tree) × (v.links.now ≡ links))
-      → IfVacant e (CanInsert n table)
+  pub can_insert : (e : Entry A L (Option Place) V K) → IfVacant e (IsVacantFor n at (table links) s) → IfVacant e (λ v. P v × Q v × (v.tree.now ≡ tree) × (v.links.now ≡ links))
+      → IfVacant e (CanInsert alone n table)
   can_insert (Occupied c) f b = tt
   can_insert (Vacant v) f b = (f.gap, rw (b.2, b.3, f.same) shown, rw b.3 f.is_at)

@@ -31,7 +31,7 @@ on_it : {s : List Place} (front : List Place) (p : Place) (back : List Place) �
 on_it front p back same = (record { front = front ++ p ∷ []; back = back }, append_assoc front (p ∷ []) back ∙ same, sym (last_of_push front p))
 
 -- p IS PUT INTO A TREE, as its insert gives it
-pub puts_in_tree : {V : Type 0} {t t' : Table Entry} {l l' : RBTree (Unkeyed V)} {at at' : Option Place} {gap : Cut} {p : Place} {cursor : Option Place}
+pub puts_in_tree : {V : Type 0} {t t' : Table Entry} {l l' : RBTree (Unkeyed V) (Option Place)} {at at' : Option Place} {gap : Cut} {p : Place} {cursor : Option Place}
     → Held {V = V} t (Tree l at) → join gap ≡ members_in {V = V} t (Tree l at) → Inserts (tree.Shows node) t t' (root_of l') gap p
     → LinksAlso is_linked t t' p → IsAt (insert gap p) cursor → at' ≡ cursor
     → Puts {V = V} t t' (Tree l at) (Tree l' at') gap p cursor
@@ -57,7 +57,7 @@ still_at {s} gap p same (Some q) at =
     on_it k.0 q k.1 (sym k.2)
 
 -- and in order, while the cursor stays, or goes to the object. `l'`: the tree then
-module _ {V : Type 0} {t t' : Table Entry} {l l' : RBTree (Unkeyed V)} {at : Option Place} (held : Held {V = V} t (Tree l at)) (by : Place → Ordering) (p : Place) where
+module _ {V : Type 0} {t t' : Table Entry} {l l' : RBTree (Unkeyed V) (Option Place)} {at : Option Place} (held : Held {V = V} t (Tree l at)) (by : Place → Ordering) (p : Place) where
   put_in_order : {at' cursor : Option Place} → InsertsInOrder (tree.Shows node) by t t' (root_of l') (members_in {V = V} t (Tree l at)) p → LinksAlso is_linked t t' p
       → ((gap : Cut) → join gap ≡ members_in {V = V} t (Tree l at) → IsAt (insert gap p) cursor) → at' ≡ cursor
       → PutsInOrder {V = V} by t t' (Tree l at) (Tree l' at') p cursor
@@ -68,7 +68,7 @@ module _ {V : Type 0} {t t' : Table Entry} {l l' : RBTree (Unkeyed V)} {at : Opt
   puts_and_goes put links is = put_in_order put links (λ gap same. on_it gap.front p gap.back refl) is
 
 module _ {V R : Type 0} (result : Result R EditError) where
-  pub puts_and_stays : (t t' : Table Entry) (l l' : RBTree (Unkeyed V)) (at : Option Place) (by : Place → Ordering) (p : Place) → Held {V = V} t (Tree l at)
+  pub puts_and_stays : (t t' : Table Entry) (l l' : RBTree (Unkeyed V) (Option Place)) (at : Option Place) (by : Place → Ordering) (p : Place) → Held {V = V} t (Tree l at)
       → ((s : List Place) → tree.Shows node t (root_of l) s → OnOk result (InsertsInOrder (tree.Shows node) by t t' (root_of l') s p))
       → OnOk result (LinksAlso is_linked t t' p) → OnOk result (PutsInOrder {V = V} by t t' (Tree l at) (Tree l' at) p at)
   puts_and_stays t t' l l' at by p held = of result where
@@ -78,7 +78,7 @@ module _ {V R : Type 0} (result : Result R EditError) where
     of (Err r) put links = tt
 
   -- A REFUSAL leaves all as it was
-  pub put_stays : {L M : Type 0} (table : L → Table Entry) (field : L → AnyTable M) (old new : L) (l l' : RBTree (Unkeyed V)) (at : Option Place) → Held {V = V} (table old) (Tree l at)
+  pub put_stays : {L M : Type 0} (table : L → Table Entry) (field : L → AnyTable M) (old new : L) (l l' : RBTree (Unkeyed V) (Option Place)) (at : Option Place) → Held {V = V} (table old) (Tree l at)
       → OnErr result ((l' ≡ l) × (new ≡ old)) → OnErr result ((field new ≡ field old) × Moves {V = V} (table old) (Tree l at) (Tree l' at) at)
   put_stays {M = M'} table field old new l l' at held = of result where
     of : (result : Result R EditError) → OnErr result ((l' ≡ l) × (new ≡ old)) → OnErr result ((field new ≡ field old) × Moves {V = V} (table old) (Tree l at) (Tree l' at) at)
@@ -86,7 +86,7 @@ module _ {V R : Type 0} (result : Result R EditError) where
     of (Err r) same = (ap field same.1, record { kept = rw same.0 held; alike = refl; cursor_is = refl })
 
 -- an entry that is not occupied is vacant
-pub vacant_one : {A L V K : Type 0} (entry : TreeEntry A L V K) → ((c : CursorMut A L V) → entry ≡ Occupied c → ⊥) → (v : InsertCursor A L) × (entry ≡ Vacant v)
+pub vacant_one : {A L V K : Type 0} (entry : TreeEntry A L (Option Place) V K) → ((c : CursorMut A L V) → entry ≡ Occupied c → ⊥) → (v : InsertCursor A L (Option Place)) × (entry ≡ Vacant v)
 vacant_one (Occupied c) other = absurd (other c refl)
 vacant_one (Vacant v) other = (v, refl)
 
@@ -107,7 +107,7 @@ passed test (Some q) {p} e = by (test q) e where
   by true e = e
   by false e = absurd (none_not p (sym e))
 
-pub moves_to_key : {V : Type 0} {by : Place → Ordering} {t : Table Entry} {l l' : RBTree (Unkeyed V)} {at at' : Option Place} {p : Place} → Held {V = V} t (Tree l at)
+pub moves_to_key : {V : Type 0} {by : Place → Ordering} {t : Table Entry} {l l' : RBTree (Unkeyed V) (Option Place)} {at at' : Option Place} {p : Place} → Held {V = V} t (Tree l at)
     → Finds by (members_in {V = V} t (Tree l at)) (Some p) → l' ≡ l → at' ≡ Some p → Moves {V = V} t (Tree l at) (Tree l' at') (Some p)
 moves_to_key {by = by} {p = p} held found same there =
     let k = gap_after found.gap (Some p) (passed (equal_at by) (first found.gap.back) found.answer) in record {
@@ -117,7 +117,7 @@ moves_to_key {by = by} {p = p} held found same there =
     }
 
 -- AN OBJECT IS PUT where the key would stand, and the cursor is put on it
-pub puts_at_key : {V : Type 0} (by : Place → Ordering) {t t' : Table Entry} {l l' : RBTree (Unkeyed V)} {at at' : Option Place} {p : Place} → Held {V = V} t (Tree l at)
+pub puts_at_key : {V : Type 0} (by : Place → Ordering) {t t' : Table Entry} {l l' : RBTree (Unkeyed V) (Option Place)} {at at' : Option Place} {p : Place} → Held {V = V} t (Tree l at)
     → AtGap (members_in {V = V} t (Tree l at)) (λ gap. IsVacantFor by gap × Inserts (tree.Shows node) t t' (root_of l') gap p) → LinksAlso is_linked t t' p
     → at' ≡ Some p → PutsAtKey {V = V} by t t' (Tree l at) (Tree l' at') p (Some p)
 puts_at_key by {p = p} held put links there =

@@ -58,7 +58,7 @@ module _ {V L : Type 0} {table : L → Table Entry} {new : L} {t : Table Entry} 
     alike = refl;
   }
 
-  pub tree_turned : {l l' : RBTree (Unkeyed V)} → position.Stands (tree.Shows node) table (site new (root_of l') at')
+  pub tree_turned : {l l' : RBTree (Unkeyed V) (Option Place)} → position.Stands (tree.Shows node) table (site new (root_of l') at')
       → Turned {V = V} (tree.Shows node) t (table new) (root_of l) (root_of l') (Tree l at) (Tree l' at')
   tree_turned stands = record {
     reads = λ s shown. shown;

@@ -31,7 +31,7 @@ module _ {V : Type 0} (t : Table Entry) where
   pub new_xor : {l : Ends} {at : Option PlaceAndNext} → carries (kind_of t) kind.Xor ≡ true → l ≡ no_members → at ≡ None → Keeps {V = V} t (Xor l at) []
   new_xor carried empty null = record { carried = carried; shown = rw empty (xor_kind.nothing t); stands = xor_null [] null }
 
-  pub new_tree : {l : RBTree (Unkeyed V)} {at : Option Place} → carries (kind_of t) kind.Tree ≡ true → root_of l ≡ None → at ≡ None → Keeps {V = V} t (Tree l at) []
+  pub new_tree : {l : RBTree (Unkeyed V) (Option Place)} {at : Option Place} → carries (kind_of t) kind.Tree ≡ true → root_of l ≡ None → at ≡ None → Keeps {V = V} t (Tree l at) []
   new_tree carried empty null = record { carried = carried; shown = rw empty (tree_kind.nothing t); stands = at_null null }
 
 -- A TABLE THAT KEEPS an XOR list keeps it turned round

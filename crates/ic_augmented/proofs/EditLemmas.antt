@@ -1,6 +1,6 @@
 -- Edits of a tree keep each fresh summary right.
 use Rattle.std.specs.declared.cmp.Ordering.{Ordering}
-use Rattle.std.proofs.Common.{◌≡◌, ◌≢◌, ◌≤◌, ◌+◌, true, false, Option, None, List, [], ◌∷◌, ◌++◌, refl, sym, ap, ◌∙◌, subst, arith, inl, inr}
+use Rattle.std.proofs.Common.{◌≡◌, ◌≢◌, ◌≤◌, ◌+◌, true, false, Option, None, List, [], ◌∷◌, refl, sym, ap, ◌∙◌, subst, arith, inl, inr}
 use Rattle.ic_unsafe_ref.specs.declared.place.Place.{Place}
 use Rattle.ic_unsafe_ref.specs.Objects.{Objects, is_placed}
 use Rattle.ic_unsafe_ref.proofs.PlaceLemmas.{same_or_not}
@@ -19,10 +19,9 @@ use Rattle.ic_rbtree.specs.Closed.{IsNode}
 use Rattle.ic_rbtree.specs.Height.{height}
 use Rattle.ic_rbtree.specs.Insertion.{IsHole, Attaches}
 use Rattle.ic_rbtree.specs.Ordered.{InsertsInOrder}
-use Rattle.ic_rbtree.specs.Transplants.{TakesAway}
 use Rattle.ic_rbtree.specs.Pieces.{loose, Shown}
 use Rattle.ic_rbtree.proofs.Attaching.{inserts}
-use Rattle.ic_rbtree.proofs.Removing.{shown_of, shows_of}
+use Rattle.ic_rbtree.proofs.Removing.{shows_of}
 use Rattle.ic_rbtree.proofs.Climbed.{path_few}
 use Rattle.ic_augmented.specs.Sums.{Sums}
 use Rattle.ic_augmented.specs.Consistent.{IsSameAt, IsConsistent, IsConsistentTree, KeepsConsistent, ShowsConsistent, ShowsSummed, Refreshes, IsJoined}
@@ -85,31 +84,11 @@ module _ {E S : Type 0} (n : E → Node) where
   stale_more : (v : Table E) (z : Sums S) (s : List Place) (p : Place) → z.fresh p ≡ None → IsConsistent n v z s → IsConsistent n v z (p ∷ s)
   stale_more v z s p none h q m but x e = h q (omega (arith, m, one_at_other q p (not_stale z p q x none e))) but x e
 
-  -- AN INSERT
-  pub attached : (v w : Table E) (z y x : Sums S) (root new_root parent : Option Place) (d : Side) (p : Place) (gap : Cut)
-      → y.fresh p ≡ None → KeepsConsistent n v v z y → Attaches n v w root new_root parent d p → ((s : List Place) → IsConsistent n v y s → IsConsistent n w x s)
-      → IsNode n v p → IsAbsent p (join gap) → ShowsConsistent n z v root (join gap) → IsHole n v parent d gap → ShowsConsistent n x w new_root (insert gap p)
-  attached v w z y x root new_root parent d p gap none invalidated done keeps linked out h hole = (
-    shows_of n (done v gap [] (loose_shown n v root (join gap) p h.0 out linked) hole),
-    fewer_consistent w x (p ∷ join gap) (insert gap p) (λ q. omega (arith, times_append q gap.front gap.back, times_append q gap.front (p ∷ gap.back)))
-        (keeps (p ∷ join gap) (stale_more v y (join gap) p none (invalidated.consistent (join gap) h.1))),
-  )
-
   -- with a stale place in it, each fresh summary is right
   pub stale_with : (v : Table E) (z y : Sums S) (p : Place) (gap : Cut) → y.fresh p ≡ None → KeepsConsistent n v v z y → IsConsistent n v z (join gap) → IsConsistent n v y (insert gap p)
   stale_with v z y p gap none invalidated h =
       fewer_consistent v y (p ∷ join gap) (insert gap p) (λ q. omega (arith, times_append q gap.front gap.back, times_append q gap.front (p ∷ gap.back)))
       (stale_more v y (join gap) p none (invalidated.consistent (join gap) h))
-
-  -- A REMOVAL
-  pub taken : (v w : Table E) (z y x : Sums S) (root new_root : Option Place) (p : Place) (front back : List Place)
-      → TakesAway n v w root new_root p → ((s : List Place) → IsConsistent n v z s → IsConsistent n w y s) → KeepsConsistent n w w y x
-      → ShowsConsistent n z v root (front ++ p ∷ back) → ShowsConsistent n x w new_root (front ++ back)
-  taken v w z y x root new_root p front back done keeps invalidated h = (
-    shows_of n (done v front back [] (shown_of n h.0)),
-    fewer_consistent w x (front ++ p ∷ back) (front ++ back) (λ q. omega (arith, times_append q front back, times_append q front (p ∷ back)))
-        (invalidated.consistent (front ++ p ∷ back) (keeps (front ++ p ∷ back) h.1)),
-  )
 
   -- the shown tree is consistent
   pub consistent_shown : (v : Table E) (z : Sums S) (root : Option Place) (s : List Place) (h : ShowsConsistent n z v root s) → IsConsistentTree z h.0.tree
@@ -154,20 +133,6 @@ module _ {E S : Type 0} (n : E → Node) where
   pub acquired_consistent : (old v : Table E) (z : Sums S) (root : Option Place) (s t : List Place) (p : Place) → t ≡ s → (n (old.entry p)).linked ≡ false → ChangesOnly old v p
       → ShowsConsistent n z old root s → ShowsConsistent n z v root t
   acquired_consistent old v z root s t p e free only h = subst (ShowsConsistent n z v root) (sym e) (beside_shows old v z root s p (free_absent h.0 free) only h)
-
-  -- an insert in order, in whose sequence each fresh summary is right
-  pub inserts_consistent : {at : Place → Ordering} (old w : Table E) (x : Sums S) (root : Option Place) (s : List Place) (p : Place) (gap : Cut) → join gap ≡ s → IsConsistent n w x (insert gap p)
-      → InsertsInOrder (Shows n) at old w root s p → InsertsInOrder (ShowsConsistent n x) at old w root s p
-  inserts_consistent old w x root s p gap same h i = record {
-    gap = i.gap;
-    same = i.same;
-    border = i.border;
-    inserted = record { shows = (i.inserted.shows, fewer_consistent w x (insert gap p) (insert i.gap p) fewer h); frame = i.inserted.frame };
-  } where
-    fewer : (q : Place) → times_in q (insert i.gap p) ≤ times_in q (insert gap p)
-    fewer q =
-        let k : times_in q (join i.gap) ≡ times_in q (join gap) = ap (times_in q) (i.same ∙ sym same) in
-        omega (arith, k, times_append q i.gap.front i.gap.back, times_append q gap.front gap.back, times_append q i.gap.front (p ∷ i.gap.back), times_append q gap.front (p ∷ gap.back))
 
   -- an insert in order, into a tree that is summed then
   pub inserts_summed : {at : Place → Ordering} (old w : Table E) (x : Sums S) (root : Option Place) (s : List Place) (p : Place) (gap : Cut) → ShowsSummed n x w root (insert gap p)

@@ -1,5 +1,6 @@
 mod ConsistencyLemmas
 mod EditLemmas
+pub mod StepLemmas
 mod CountLemmas
 mod SubtreeLemmas
 mod RankLemmas

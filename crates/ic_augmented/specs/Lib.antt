@@ -2,7 +2,8 @@ pub mod Sums
 pub mod MarkLaws
 pub mod Summed
 pub mod Consistent
-pub mod QuietEdits
+pub mod SummedSteps
+pub mod StepLaws
 pub mod Marking
 pub mod Changes
 pub mod SumTables

@@ -1,9 +1,9 @@
-//! Edits of a tree whose links have summaries beside them.
+//! Summaries renewed after edits of a tree, or with one.
 //!
 //! ```text
-//! attach(&mut tree, &mut summed, parent, side, place);
+//! tree.insert_keyed(&mut summed, object)?;
 //! propagate(&mut summed, place);
-//! unlink(&mut tree, &mut summed, other);
+//! tree.remove(&mut summed, &other);
 //! refresh(&tree, &mut summed);
 //! ```
 
@@ -12,52 +12,24 @@ ghost use Rattle.ic_unsafe_ref.specs.declared.place.Place.{Place};
 ghost use Rattle.ic_link_ops.specs.Sequences.{Cut, join, insert, IsAbsent, IsDisjoint};
 ghost use Rattle.ic_link_ops.specs.Positions.{HasMember};
 ghost use Rattle.ic_link_ops.specs.RedBlackTree.{Shows};
-ghost use Rattle.ic_rbtree.specs.Closed.{IsNode, IsSafe, IsSafeBut, StaysClosed, ClosesAt, KeepsNodes};
+ghost use Rattle.ic_rbtree.specs.Closed.{IsNode, IsSafeBut, KeepsNodes};
 ghost use Rattle.ic_rbtree.specs.Insertion.{IsHole, Attaches};
-ghost use Rattle.ic_rbtree.specs.Transplants.{TakesAway};
 ghost use Rattle.ic_rbtree.specs.Tree.{root_of, adapter_of};
 ghost use Rattle.ic_augmented.specs.Summed.{links_of, sums_of};
-ghost use Rattle.ic_augmented.specs.Consistent.{IsSameAt, KeepsConsistent, ShowsConsistent, ShowsSummed};
+ghost use Rattle.ic_augmented.specs.Consistent.{IsSameAt, ShowsConsistent, ShowsSummed};
 
 use crate::climb::settle;
 use crate::marking::attach_marking;
 use crate::stale::{invalidate_up, refresh_below, refresh_path};
 use crate::summed::Summed;
-use crate::sums::{RenewSums, Sums};
+use crate::sums::RenewSums;
 use ic_link_ops::Side;
 use ic_rbtree::{Nodes, RBTree};
 use ic_unsafe_ref::Place;
 
-/// Puts `place` in on this side of `parent`, as [`RBTree::attach`] does, and makes the summaries stale that it changes.
+/// Puts `place` in, as [`RBTree::attach`] does, and renews the stale summaries of the tree: then it is summed.
 ///
-/// It requires what `RBTree::attach` requires. Each fresh summary stays right, of every tree in the table, and none is written. O(log n).
-pub fn attach<A, N: Nodes, M: Sums>(
-    tree: &mut RBTree<A>,
-    summed: &mut Summed<N, M>,
-    parent: Option<Place>,
-    side: Side,
-    place: Place,
-)
-    requires { IsSafeBut N.node (N.table (links_of summed.old)) (root_of tree.old) place (Some place ∷ parent ∷ []) }
-    ensures consistent { (gap : Cut) → IsNode N.node (N.table (links_of summed.old)) place → IsAbsent place (join gap)
-        → ShowsConsistent N.node (M.sums (sums_of summed.old)) (N.table (links_of summed.old)) (root_of tree.old) (join gap)
-        → IsHole N.node (N.table (links_of summed.old)) parent side gap
-        → ShowsConsistent N.node (M.sums (sums_of summed.new)) (N.table (links_of summed.new)) (root_of tree.new) (insert gap place) }
-    ensures attached { Attaches N.node (N.table (links_of summed.old)) (N.table (links_of summed.new)) (root_of tree.old) (root_of tree.new) parent side place }
-    ensures safe { ClosesAt N.node (N.table (links_of summed.old)) (N.table (links_of summed.new)) (root_of tree.old) (root_of tree.new) place (Some place ∷ parent ∷ []) }
-    ensures linked { KeepsNodes N.node (N.table (links_of summed.old)) (N.table (links_of summed.new)) }
-    ensures quiet { N.Quiet (links_of summed.old) (links_of summed.new) }
-    ensures sums { KeepsConsistent N.node (N.table (links_of summed.old)) (N.table (links_of summed.new)) (M.sums (sums_of summed.old)) (M.sums (sums_of summed.new)) }
-    ensures covers { (q : Place) → M.Covers (sums_of summed.old) q → M.Covers (sums_of summed.new) q }
-    ensures adapter { adapter_of tree.new ≡ adapter_of tree.old }
-{
-    invalidate_up(&summed.links, &mut summed.sums, place);
-    tree.attach(summed, parent, side, place);
-}
-
-/// Puts `place` in, as [`attach`] does, and renews the stale summaries of the tree: then it is summed.
-///
-/// It does what `attach` and [`refresh`] do, and is faster: the summaries above the place are renewed as far as they change, each by what has
+/// It does what `RBTree::attach` and [`refresh`] do, and is faster: the summaries above the place are renewed as far as they change, each by what has
 /// changed below. Each fresh summary of another tree in the table stays right. It requires what `RBTree::attach` requires, that the links show a
 /// tree with this hole, and that there is room for a summary at each linked place. O(log n + v) for v summaries that were stale before.
 pub fn attach_fresh<A, N: Nodes, M: RenewSums>(
@@ -94,26 +66,6 @@ pub fn attach_fresh<A, N: Nodes, M: RenewSums>(
     settle(&summed.links, &mut summed.sums, place, edge);
     let top = tree.root();
     let _ = refresh_below(&summed.links, &mut summed.sums, top, None, 67);
-}
-
-/// Takes the member at `place` out, as [`RBTree::unlink`] does, and makes the summaries stale that it changes. The place stays linked.
-///
-/// It requires what `RBTree::unlink` requires. Each fresh summary stays right, of every tree in the table, and none is written. O(log n).
-pub fn unlink<A, N: Nodes, M: Sums>(tree: &mut RBTree<A>, summed: &mut Summed<N, M>, place: Place)
-    requires { IsSafe N.node (N.table (links_of summed.old)) (root_of tree.old) (Some place ∷ []) }
-    ensures consistent { (front back : List Place)
-        → ShowsConsistent N.node (M.sums (sums_of summed.old)) (N.table (links_of summed.old)) (root_of tree.old) (front ++ place ∷ back)
-        → ShowsConsistent N.node (M.sums (sums_of summed.new)) (N.table (links_of summed.new)) (root_of tree.new) (front ++ back) }
-    ensures taken { TakesAway N.node (N.table (links_of summed.old)) (N.table (links_of summed.new)) (root_of tree.old) (root_of tree.new) place }
-    ensures safe { StaysClosed N.node (N.table (links_of summed.old)) (N.table (links_of summed.new)) (root_of tree.old) (root_of tree.new) (Some place ∷ []) [] }
-    ensures linked { KeepsNodes N.node (N.table (links_of summed.old)) (N.table (links_of summed.new)) }
-    ensures quiet { N.Quiet (links_of summed.old) (links_of summed.new) }
-    ensures sums { KeepsConsistent N.node (N.table (links_of summed.old)) (N.table (links_of summed.new)) (M.sums (sums_of summed.old)) (M.sums (sums_of summed.new)) }
-    ensures covers { (q : Place) → M.Covers (sums_of summed.old) q → M.Covers (sums_of summed.new) q }
-    ensures adapter { adapter_of tree.new ≡ adapter_of tree.old }
-{
-    tree.unlink(summed, place);
-    invalidate_up(&summed.links, &mut summed.sums, place);
 }
 
 /// Renews the stale summaries of the tree: then it is summed. The links stay, and so does all that is kept at places outside the tree.

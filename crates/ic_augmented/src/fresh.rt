@@ -25,7 +25,7 @@ use ic_link_ops::{AlreadyLinked, LinkOps, LinkValues, Side};
 use ic_rbtree::{KeyAdapter, KeyProbe, RBTree};
 use ic_unsafe_ref::{UnsafeRef, Values};
 
-/// Inserts the object as [`insert_keyed`](crate::insert_keyed) does, and renews the stale summaries of the tree: then it is summed.
+/// Inserts the object as [`RBTree::insert_keyed`] does, and renews the stale summaries of the tree: then it is summed.
 ///
 /// It does what `insert_keyed` and [`refresh`](crate::refresh) do, and is faster. Each fresh summary of another tree in the table stays right. It
 /// requires that the object's place is covered, that the links show a tree, and that there is room for a summary at each covered place. A refused

@@ -2,7 +2,7 @@
 //!
 //! ```text
 //! set_value(&mut summed, place, 20); // the end of an interval, say, whose start is its key
-//! insert_keyed(&mut tree, &mut summed, object)?;
+//! tree.insert_keyed(&mut summed, object)?;
 //! propagate(&mut summed, place);
 //! ```
 

@@ -4,7 +4,7 @@
 //! An edit marks each summary as stale that may have changed, and `refresh` renews the stale ones. So several edits share one `refresh`.
 //!
 //! ```text
-//! insert_keyed(&mut tree, &mut summed, object)?;
+//! tree.insert_keyed(&mut summed, object)?;
 //! refresh(&tree, &mut summed);
 //! nth(&tree, &summed, 3) // the fourth member
 //! ```
@@ -16,7 +16,6 @@ mod edits;
 mod exceeding;
 mod fresh;
 mod greatest;
-mod linking;
 mod marking;
 mod no_sums;
 mod overlaps;
@@ -28,14 +27,12 @@ mod summed;
 mod sums;
 
 pub use counts::Counts;
-pub use edits::{attach, attach_fresh, propagate, refresh, unlink};
+pub use edits::{attach_fresh, propagate, refresh};
 pub use exceeding::first_greater;
 pub use fresh::insert_fresh;
 pub use greatest::Greatest;
-pub use linking::{insert_keyed, remove};
 pub use no_sums::NoSums;
 pub use overlaps::{first_overlap, next_overlap};
-pub use pooled::insert;
 pub use ranks::{index_of, len, nth};
 pub use sum_table::{Cell, Joins, SumTable, set_value};
 pub use summed::Summed;

@@ -1,15 +1,17 @@
-//! Links and summaries together: what the surgery of a tree writes to.
+//! Links and summaries together: a table of tree links like any other.
 //!
 //! ```text
 //! let mut summed = Summed { links, sums };
+//! tree.insert_keyed(&mut summed, object)?; // marks summaries as stale
 //! ```
 
-ghost use Rattle.std.specs.Prelude.{◌≡◌};
+ghost use Rattle.ic_augmented.specs.Summed.{links_of, sums_of};
 
 use crate::stale::invalidate_up;
 use crate::sums::Sums;
-use ic_rbtree::{Color, Nodes};
-use ic_unsafe_ref::Place;
+use ic_link_ops::rbtree::RBTreeOps;
+use ic_link_ops::{Color, LinkOps, LinkValues};
+use ic_unsafe_ref::{Place, Values};
 
 /// Links, and the summaries beside them.
 #[derive(Drop)]
@@ -18,21 +20,53 @@ pub struct Summed<N, M> {
     pub sums: M,
 }
 
-/// Each write of a child makes the summaries above it stale.
-impl<N: Nodes, M: Sums> Nodes for Summed<N, M> {
-    ghost use Rattle.ic_augmented.specs.Summed.{links_of, sums_of};
-    ghost use Rattle.ic_augmented.specs.Consistent.{KeepsConsistent};
-    ghost use Rattle.ic_augmented.specs.QuietEdits.{QuietlyKeeps};
+/// A link that is acquired or released makes the summary of its place stale, and those above.
+impl<L: RBTreeOps, M: Sums> LinkOps for Summed<L, M> {
+    ghost use Rattle.std.specs.Prelude.{◌≡◌, [], ◌++◌};
     ghost use Rattle.ic_augmented.specs.MarkLaws.{marks_still, marks_on};
-    ghost use Rattle.std.proofs.Common.{refl, ◌∙◌};
+    ghost use Rattle.ic_augmented.specs.StepLaws.{right_still, right_on};
+    ghost use Rattle.ic_augmented.specs.SummedSteps.{DoesSummed};
+    ghost use Rattle.std.proofs.Common.{refl, ap, ◌∙◌};
 
-    type Entry = N::Entry;
+    type Entry = L::Entry;
 
-    ghost table = { λ t. N.table (links_of t) };
+    ghost table = { λ t. L.table (links_of t) };
 
-    ghost node = { N.node };
+    ghost linked = { L.linked };
 
-    ghost Quiet = { QuietlyKeeps N.Quiet N.node N.table M.sums M.Covers };
+    ghost Does = { DoesSummed L.Does L.node L.table M.sums M.Covers };
+
+    ghost Refused = { λ old new place. L.Refused (links_of old) (links_of new) place × (sums_of new ≡ sums_of old) };
+
+    #[inline]
+    fn acquire_link(&mut self, place: Place) -> bool {
+        if !self.links.acquire_link(place) {
+            return false;
+        }
+        invalidate_up(&self.links, &mut self.sums, place);
+        true
+    }
+
+    #[inline]
+    fn release_link(&mut self, place: Place) {
+        self.links.release_link(place);
+        invalidate_up(&self.links, &mut self.sums, place);
+    }
+
+    ghost linked_is_covered = { λ t place is. L.linked_is_covered (links_of t) place is };
+
+    ghost does_nothing = { λ t. record { links = L.does_nothing (links_of t); right = right_still L.node (L.table (links_of t)) (M.sums (sums_of t)); marks = marks_still (M.sums (sums_of t)); covers = λ q h. h; join = refl } };
+
+    ghost does_on = { λ a b c s t x y. record { links = L.does_on (links_of a) (links_of b) (links_of c) s t x.links y.links; right = right_on L.node (L.table (links_of a)) (L.table (links_of b)) (L.table (links_of c)) (M.sums (sums_of a)) (M.sums (sums_of b)) (M.sums (sums_of c)) s t x.right y.right; marks = marks_on x.marks y.marks; covers = λ q h. y.covers q (x.covers q h); join = y.join ∙ x.join } };
+
+    ghost does_replay = { λ old new s x. L.does_replay (links_of old) (links_of new) s x.links };
+
+    ghost refused_keeps = { λ old new place x. L.refused_keeps (links_of old) (links_of new) place x.0 };
+}
+
+/// Each write of a child makes the summaries above it stale.
+impl<L: RBTreeOps, M: Sums> RBTreeOps for Summed<L, M> {
+    ghost node = { L.node };
 
     #[inline]
     fn left(&self, place: Place) -> Option<Place> {
@@ -81,9 +115,30 @@ impl<N: Nodes, M: Sums> Nodes for Summed<N, M> {
         self.links.set_parent_and_color(place, parent, color);
     }
 
-    ghost quiet_still = { λ t. record { quiet = N.quiet_still (links_of t); consistent = λ s h. h; marks = marks_still (M.sums (sums_of t)); covers = λ q h. h; join = refl } };
+    ghost linked_alike = { λ e. L.linked_alike e };
+}
 
-    ghost quiet_on = { λ a b c x y. record { quiet = N.quiet_on (links_of a) (links_of b) (links_of c) x.quiet y.quiet; consistent = λ s h. y.consistent s (x.consistent s h); marks = marks_on x.marks y.marks; covers = λ q h. y.covers q (x.covers q h); join = y.join ∙ x.join } };
+/// The values that the links have beside them.
+impl<V, L: Values<V>, M> Values<V> for Summed<L, M> {
+    ghost values = { λ t. L.values (links_of t) };
 
-    ghost quiet_keeps = { λ old new x. N.quiet_keeps (links_of old) (links_of new) x.quiet };
+    #[inline]
+    fn value(&self, place: Place) -> &V {
+        self.links.value(place)
+    }
+}
+
+/// A value that is set makes the summary of its place stale, and those above.
+impl<V, L: RBTreeOps + LinkValues<V>, M: Sums> LinkValues<V> for Summed<L, M> {
+    ghost LinksAlike = { L.LinksAlike };
+
+    #[inline]
+    fn set_value(&mut self, place: Place, value: V) {
+        self.links.set_value(place, value);
+        invalidate_up(&self.links, &mut self.sums, place);
+    }
+
+    ghost covered_has_value = { λ t place covered. L.covered_has_value (links_of t) place covered };
+
+    ghost values_stay = { λ old new same. L.values_stay (links_of old) (links_of new) same };
 }

@@ -141,7 +141,7 @@ module _ {T K : Type 0} {cmp : K → K → Ordering} (total : IsTotalOrder cmp) 
       }
 
 -- A TREE IN ORDER
-module _ {D T K : Type 0} (cmp : K → K → Ordering) (key_of : D → T → K) (t : Table TreeLink) (tree : RBTree D) (objects : Objects T) (o : IsInOrder cmp key_of t tree objects) where
+module _ {D T K : Type 0} (cmp : K → K → Ordering) (key_of : D → T → K) (t : Table TreeLink) (tree : RBTree D (Option Place)) (objects : Objects T) (o : IsInOrder cmp key_of t tree objects) where
   -- is shown, with an object at each member,
   pub in_order_placed : ShowsPlaced (ShowsTree t (root_of tree)) objects
   unfolding IsInOrder

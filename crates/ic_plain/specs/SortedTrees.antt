@@ -1,5 +1,5 @@
 -- Trees whose members stand in the order of their keys.
-use Rattle.std.specs.Prelude.{Bool, not, List, ◌∷◌, ◌++◌, map}
+use Rattle.std.specs.Prelude.{Option, Bool, not, List, ◌∷◌, ◌++◌, map}
 use Rattle.std.specs.List.{filter}
 use Rattle.std.specs.declared.cmp.Ordering.{Ordering}
 use Rattle.ic_unsafe_ref.specs.declared.place.Place.{Place}
@@ -21,14 +21,14 @@ module _ {T K : Type 0} (cmp : K → K → Ordering) (key : T → K) where
 -- `cmp`: how two keys compare. `key_of`: the key of an object, as an adapter finds it
 module _ {D T K : Type 0} (cmp : K → K → Ordering) (key_of : D → T → K) where
   -- THE TREE IS IN ORDER: its members stand in the order of their keys, as the table shows them
-  unfoldable pub IsInOrder : Table TreeLink → RBTree D → Objects T → Type 0
+  unfoldable pub IsInOrder : Table TreeLink → RBTree D (Option Place) → Objects T → Type 0
   IsInOrder t tree objects = ShowsInOrder cmp (key_of (adapter_of tree)) (ShowsTree t (root_of tree)) objects
 
   -- THE ORDER STAYS, whatever objects there are
-  abbrev pub StaysInOrder : Table TreeLink → RBTree D → Table TreeLink → RBTree D → Type 0
+  abbrev pub StaysInOrder : Table TreeLink → RBTree D (Option Place) → Table TreeLink → RBTree D (Option Place) → Type 0
   StaysInOrder t old u new = (objects : Objects T) → IsInOrder t old objects → IsInOrder u new objects
 
-  module _ (tree : RBTree D) (objects : Objects T) where
+  module _ (tree : RBTree D (Option Place)) (objects : Objects T) where
     -- of a sequence, the members with this key, and those with this key or a greater one
     abbrev pub with_key : K → List Place → List Place
     with_key key s = filter (equal_at (compared (order_of cmp (key_of (adapter_of tree)) key) objects)) s

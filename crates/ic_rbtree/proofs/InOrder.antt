@@ -4,12 +4,13 @@ use Rattle.std.specs.declared.cmp.Ordering.{Ordering}
 use Rattle.std.specs.Bool.{OnTrue, OnFalse}
 use Rattle.ic_unsafe_ref.specs.declared.place.Place.{Place}
 use Rattle.ic_unsafe_ref.specs.Objects.{Objects, object_at}
+use Rattle.ic_link_ops.specs.declared.side.Side.{Side}
 use Rattle.ic_link_ops.specs.declared.side.Side.TheVariants.{Right}
 use Rattle.ic_link_ops.specs.declared.errors.AlreadyLinked.{AlreadyLinked}
 use Rattle.ic_link_ops.specs.LinkSteps.{LinkStep, acquires}
 use Rattle.ic_link_ops.specs.Positions as Standing
 use Rattle.ic_link_ops.specs.Positions.{Site, ShowsAt}
-use Rattle.ic_link_ops.specs.Sequences.{Cut, join, insert, IsAbsent, IsMember}
+use Rattle.ic_link_ops.specs.Sequences.{Cut, join, insert, IsAbsent, IsMember, IsDistinct}
 use Rattle.ic_link_ops.specs.Tables.{Table, IsLinked, IsUnlinked, ChangesOnly}
 use Rattle.ic_link_ops.specs.RedBlackTree.{Node, Shows}
 use Rattle.ic_link_ops.proofs.Calling.{has_member}
@@ -18,50 +19,57 @@ use Rattle.ic_link_ops.proofs.SequenceLemmas.{absent_without, split_member}
 use Rattle.ic_link_ops.proofs.ShownTrees.{shows_beside, free_absent}
 use Rattle.ic_cursors.specs.Answers.{inserted}
 use Rattle.ic_rbtree.specs.declared.keys.descent.Descent.{Descent}
-use Rattle.ic_rbtree.specs.Borders.{IsBorder, less_at}
+use Rattle.ic_rbtree.specs.Borders.{less_at}
 use Rattle.ic_rbtree.specs.Comparing.{answer_at, compared, order_of, own_order}
 use Rattle.ic_rbtree.specs.Descents.{gap_in, EndsAt}
+use Rattle.ic_rbtree.specs.Holes.{IsInOrder}
 use Rattle.ic_rbtree.specs.Insertion.{IsHole, Attaches}
+use Rattle.ic_rbtree.specs.Kept.{Kept, root_kept, ShowsFor, ShowsKept, TellsEnds, IsBelow}
 use Rattle.ic_rbtree.specs.Ordered.{InsertsInOrder, InsertsAmong}
 use Rattle.ic_rbtree.specs.Pieces.{loose, Shown}
 use Rattle.ic_rbtree.proofs.Attaching.{acquired_shown, inserts}
 use Rattle.ic_rbtree.proofs.Gaps.{gap_join, gap_border}
-use Rattle.ic_rbtree.proofs.Sending.{ends_at_root}
+use Rattle.ic_rbtree.proofs.KeptHeads.{shown, told, shows, inserts_kept, hole_below}
 
--- the place p fits into a gap of the tree: p is linked, and on its own
-pub record Fits {E : Type 0} (n : E → Node) (v : Table E) (root : Option Place) (p : Place) (at : Place → Ordering) (parent : Option Place) (d : Descent) (s : List Place) : Type 0 where
-  pub gap : Cut
-  pub same : join gap ≡ s
-  pub border : IsBorder (less_at at) gap
-  pub shown : Shown n v v root (join gap) (loose p ∷ [])
-  pub hole : IsHole n v parent d.side gap
+-- A DESCENT ENDS where what is searched belongs
+pub ended_in_order : {E : Type 0} (n : E → Node) {v : Table E} {root : Option Place} {s : List Place} {at : Place → Ordering} {d : Descent} {parent : Option Place}
+    (h : Shows n v root s) → EndsAt n v at Right h.tree d → parent ≡ d.parent → IsInOrder n v at s parent d.side
+ended_in_order n {v} {at = at} {d} h x same =
+    let gap : Cut = gap_in (less_at at) h.tree in
+    record {
+      gap = gap;
+      same = gap_join (less_at at) h.tree ∙ h.held.order;
+      border = gap_border (less_at at) h.tree;
+      hole = subst (λ o. IsHole n v o d.side gap) (sym same) x.hole;
+    }
 
-module _ {E : Type 0} (n : E → Node) (linked : E → Bool) (alike : (e : E) → (n e).linked ≡ linked e) {old v : Table E} {root : Option Place} {p : Place}
+module _ {E : Type 0} (n : E → Node) (linked : E → Bool) (alike : (e : E) → (n e).linked ≡ linked e) {old v : Table E} {p : Place}
     (was : IsUnlinked linked old p) (is : IsLinked linked v p) (only : ChangesOnly old v p) where
-  -- the tree is still shown, whatever word there is for its root,
-  pub still_shown : {other : Option Place} {s : List Place} → other ≡ root → Shows n old root s → Shows n v other s
-  still_shown {other} {s} same h = subst (λ o. Shows n v o s) (sym same) (shows_beside h (free_absent h (alike (old.entry p) ∙ was)) only.others)
+  -- the tree is still shown,
+  pub still_shown : {root : Option Place} {s : List Place} → Shows n old root s → Shows n v root s
+  still_shown h = shows_beside h (free_absent h (alike (old.entry p) ∙ was)) only.others
 
-  -- and the place fits into the gap at which the descent ended
-  pub fits : {at : Place → Ordering} {other parent : Option Place} {d : Descent} {s : List Place} → Shows n old root s → other ≡ root
-      → ((s : List Place) (h : Shows n v other s) → EndsAt n v at Right h.tree d) → parent ≡ d.parent → Fits n v root p at parent d s
-  fits {at} {other} {parent} {d} {s} shown same_root ends same_parent =
-      let h : Shows n v root s = still_shown refl shown in
-      let x : EndsAt n v at Right h.tree d = ends_at_root n same_root ends h in
-      let gap : Cut = gap_in (less_at at) h.tree in
-      let same : join gap ≡ s = gap_join (less_at at) h.tree ∙ h.held.order in
+  pub still_kept : (k : Kept) (s : List Place) → ShowsFor n old k s → ShowsFor n v k s
+  still_kept k s h = shows k (still_shown (shown k h)) (told n old k s h)
+
+  -- and the place fits into the gap where what is searched belongs: it is linked, and on its own
+  pub fits : {root : Option Place} {at : Place → Ordering} {parent : Option Place} {d : Side} {s : List Place} → Shows n old root s → (x : IsInOrder n v at s parent d)
+      → Shown n v v root (join x.gap) (loose p ∷ [])
+  fits {root} h x = acquired_shown n linked alike old v root (join x.gap) p (subst (Shows n old root) (sym x.same) h) was is only
+
+  pub fitted : {H : Type 0} (kept : H → Kept) (head new : H) {at : Place → Ordering} {parent : Option Place} {d : Side} {s : List Place} {w : Table E} → ShowsFor n old (kept head) s → IsInOrder n v at s parent d
+      → Attaches n v w (root_kept (kept head)) (root_kept (kept new)) parent d p
+      → ((gap : Cut) → IsBelow parent d gap → IsDistinct (join gap) → TellsEnds (kept head) (join gap) → TellsEnds (kept new) (insert gap p))
+      → InsertsInOrder (ShowsKept kept n) at old w new s p
+  fitted kept head new {parent = parent} {d} {s} {w} h x attached ends =
+      let was_shown = shown (kept head) h in
       record {
-        gap = gap;
-        same = same;
-        border = gap_border (less_at at) h.tree;
-        shown = acquired_shown n linked alike old v root (join gap) p (subst (Shows n old root) (sym same) shown) was is only;
-        hole = subst (λ o. IsHole n v o d.side gap) (sym same_parent) x.hole;
+        gap = x.gap;
+        same = x.same;
+        border = x.border;
+        inserted = inserts_kept kept new (inserts n old v w (root_kept (kept head)) (root_kept (kept new)) p x.gap only (attached v x.gap [] (fits was_shown x) x.hole))
+            (ends x.gap (hole_below n v parent d x.gap x.hole) (subst IsDistinct (sym x.same) was_shown.held.distinct) (subst (TellsEnds (kept head)) (sym x.same) (told n old (kept head) s h)));
       }
-
-  pub fitted : {at : Place → Ordering} {parent : Option Place} {d : Descent} {s : List Place} {w : Table E} {new_root : Option Place} → Fits n v root p at parent d s
-      → Attaches n v w root new_root parent d.side p → InsertsInOrder (Shows n) at old w new_root s p
-  fitted {w = w} {new_root} x attached =
-      record { gap = x.gap; same = x.same; border = x.border; inserted = inserts n old v w root new_root p x.gap only (attached v x.gap [] x.shown x.hole) }
 
 -- a search by the object's own key
 pub own_is : {A V K : Type 0} (cmp : K → K → Ordering) (key_of : A → V → K) (objects : Objects V) {a b : A} {key : K} {value : V} {object place : Place} → b ≡ a → key ≡ key_of a value → place ≡ object → object_at objects place ≡ Some value

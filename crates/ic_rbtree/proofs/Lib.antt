@@ -1,6 +1,7 @@
 pub mod Branches
 pub mod Closed
 pub mod Pieces
+pub mod PlacedMembers
 pub mod NoSteps
 pub mod Rotations
 pub mod Zipper
@@ -13,6 +14,8 @@ pub mod Low
 pub mod Transplants
 pub mod Nearest
 pub mod Outermost
+pub mod KeptHeads
+pub mod EndsKept
 pub mod Removing
 pub mod Beside
 pub mod SidedEdits
@@ -34,6 +37,8 @@ pub mod Walking
 pub mod Gaps
 pub mod Sending
 pub mod InOrder
+pub mod LookBounds
+pub mod Neighbors
 pub mod Ranges
 pub mod KeyLaws
 pub mod RangeLaws

@@ -390,9 +390,9 @@ lt_of Less e k = refl
 lt_of Equal e k = sym k
 lt_of Greater e k = e
 
-module _ {E : Type 0} (n : E → Node) {A L : Type 0} where
+module _ {E : Type 0} (n : E → Node) {A L H : Type 0} where
   pub vacant_for : {v : Table E} {root : Option Place} {s : List Place} (h : Shows n v root s) {at : Place → Ordering} {d : Descent} → EndsAt n v at Left h.tree d → is_equal d ≡ false
-      → (c : InsertCursor A L) → c.parent ≡ d.parent → c.side ≡ d.side → IsVacantFor n at v s c
+      → (c : InsertCursor A L H) → c.parent ≡ d.parent → c.side ≡ d.side → IsVacantFor n at v s c
   vacant_for {v} h {at} {d} x equal c parent_is side_is =
       let gap : Cut = gap_in (at_most_at at) h.tree in
       let border : IsBorder (at_most_at at) gap = gap_border (at_most_at at) h.tree in

@@ -130,7 +130,7 @@ module _ {T : Type 0} (key : T → ℕ) (objects : Objects T) where
 
   -- WHAT IS SHOWN STAYS SORTED when a tree puts an object in where its key belongs, or refuses it,
   pub sorted_inserted : {A L E : Type 0} {n : E → Node} {table : L → Table E} {Refused : L → L → Place → Type 0} → ((a b : L) (q : Place) → Refused a b q → table b ≡ table a)
-      → {old new : L} (tree after : RBTree A) (p : Place) → IsSome (object_at objects p) → (q : ShowsSorted key (Trees.Shows n (table old) (root_of tree)) objects)
+      → {old new : L} (tree after : RBTree A (Option Place)) (p : Place) → IsSome (object_at objects p) → (q : ShowsSorted key (Trees.Shows n (table old) (root_of tree)) objects)
       → {X Y : Type 0} (r : Result X (AlreadyLinked Y)) → OnOk r (InsertsInOrder (Trees.Shows n) (against key objects p) (table old) (table new) (root_of after) q.placed.members p)
       → OnErr r (Refused old new p) → IfErr r (λ refused. (refused.0 ≡ p) × (after ≡ tree)) → ShowsSorted key (Trees.Shows n (table new) (root_of after)) objects
   sorted_inserted {n = n} {table} keeps {old} {new} tree after p here q (Ok a) puts refused unchanged = inserted (Trees.Shows n) (table old) (table new) (root_of tree) (root_of after) here q puts

@@ -17,7 +17,6 @@ use Rattle.ic_link_ops.proofs.Walks.{is_end_no, yields_placed, makes_progress, y
 use Rattle.ic_link_ops.proofs.Positions.{stands_on}
 use Rattle.ic_link_ops.proofs.PlacedEnds.{all_but_last}
 use Rattle.ic_rbtree.specs.declared.iter.Iter.{Iter}
-use Rattle.ic_rbtree.specs.Tree.{root_of}
 use Rattle.ic_rbtree.specs.Members.{up_to, between, IsWalk, members}
 use Rattle.ic_rbtree.specs.Iter.{objects_left, CanWalk}
 use Rattle.ic_rbtree.proofs.Members.{members_shown}
@@ -118,7 +117,7 @@ module _ {E : Type 0} {n : E → Node} {t : Table E} {root : Option Place} where
 module _ {A L O V K E : Type 0} (n : E → Node) (table : L → Table E) (values : O → Objects V) where
   -- the walk stands between the ends of w, all of which are placed
   abbrev Reaches : Iter A L O V K → List Place → Type 0
-  Reaches t w = IsWalk n (table t.links.now) (root_of t.tree.now) t.head t.tail w × ArePlaced (values t.objects.now) w
+  Reaches t w = IsWalk n (table t.links.now) t.root t.head t.tail w × ArePlaced (values t.objects.now) w
 
   -- a call gave out one of the members that it reached, and reaches the others
   pub record Steps (old new : Iter A L O V K) (with_it : List Place → List Place) : Type 0 where
@@ -131,24 +130,24 @@ module _ {A L O V K E : Type 0} (n : E → Node) (table : L → Table E) (values
   pub steps_last : (t : Iter A L O V K) (p : Place) (with_it : List Place → List Place) → with_it [] ≡ p ∷ [] → CanWalk n table values t
       → t.head ≡ Some p → t.tail ≡ Some p → Steps t (record t { head = None; tail = None }) with_it
   steps_last t p with_it is can at end =
-      let k : IsWalk n (table t.links.now) (root_of t.tree.now) (Some p) (Some p) can.0 = rw (at, end) at can.1 in
+      let k : IsWalk n (table t.links.now) t.root (Some p) (Some p) can.0 = rw (at, end) at can.1 in
       let e : can.0 ≡ with_it [] = walk_last k ∙ sym is in
       record { others = []; reached = (rw e at can.1, rw e at can.2); reaches = (walk_none can.1, tt); objects = refl }
 
   -- else it goes on where a move leads
   pub steps_more : (t : Iter A L O V K) (p : Place) (next : Option Place) → CanWalk n table values t → t.head ≡ Some p → is_end t.tail p ≡ false
-      → MovesOn (Shows n) table (site t.links.now (root_of t.tree.now) (Some p)) next → Steps t (record t { head = next }) (λ w. p ∷ w)
+      → MovesOn (Shows n) table (site t.links.now t.root (Some p)) next → Steps t (record t { head = next }) (λ w. p ∷ w)
   steps_more t p next can at end moved =
-      let k : IsWalk n (table t.links.now) (root_of t.tree.now) (Some p) t.tail can.0 = rw at at can.1 in
+      let k : IsWalk n (table t.links.now) t.root (Some p) t.tail can.0 = rw at at can.1 in
       let r = walk_more k (is_end_no t.tail p end) moved.leads in
       let placed : ArePlaced (values t.objects.now) (p ∷ r.0) = rw r.1 at can.2 in
       record { others = r.0; reached = (rw r.1 at can.1, placed); reaches = (r.2, placed.1); objects = refl }
 
   -- the same from the back
   pub steps_less : (t : Iter A L O V K) (p : Place) (prev : Option Place) → CanWalk n table values t → t.tail ≡ Some p → is_end t.head p ≡ false
-      → MovesBack (Shows n) table (site t.links.now (root_of t.tree.now) (Some p)) prev → Steps t (record t { tail = prev }) (λ w. w ++ p ∷ [])
+      → MovesBack (Shows n) table (site t.links.now t.root (Some p)) prev → Steps t (record t { tail = prev }) (λ w. w ++ p ∷ [])
   steps_less t p prev can at end moved =
-      let k : IsWalk n (table t.links.now) (root_of t.tree.now) t.head (Some p) can.0 = rw at at can.1 in
+      let k : IsWalk n (table t.links.now) t.root t.head (Some p) can.0 = rw at at can.1 in
       let r = walk_less k (is_end_no t.head p end) moved.leads in
       let placed : ArePlaced (values t.objects.now) (r.0 ++ p ∷ []) = rw r.1 at can.2 in
       record { others = r.0; reached = (rw r.1 at can.1, placed); reaches = (r.2, (all_but_last _ r.0 p placed).0); objects = refl }
@@ -158,24 +157,24 @@ module _ {A L O V K E : Type 0} (n : E → Node) (table : L → Table E) (values
   can_walk k = (k.others, k.reaches.0, k.reaches.1)
 
   -- an end that it gives out stands
-  pub first_stands : (t : Iter A L O V K) (p : Place) → CanWalk n table values t → t.head ≡ Some p → Stands (Shows n) table (site t.links.now (root_of t.tree.now) (Some p))
+  pub first_stands : (t : Iter A L O V K) (p : Place) → CanWalk n table values t → t.head ≡ Some p → Stands (Shows n) table (site t.links.now t.root (Some p))
   first_stands t p can at =
       let k = can.1 in
       let w : can.0 ≡ p ∷ drop 1 can.0 = first_is can.0 (sym at ∙ k.starts) in
       stands_on (record { front = k.front; back = drop 1 can.0 ++ k.back; shown = rw w at k.shown }) refl
 
-  pub last_stands : (t : Iter A L O V K) (p : Place) → CanWalk n table values t → t.tail ≡ Some p → Stands (Shows n) table (site t.links.now (root_of t.tree.now) (Some p))
+  pub last_stands : (t : Iter A L O V K) (p : Place) → CanWalk n table values t → t.tail ≡ Some p → Stands (Shows n) table (site t.links.now t.root (Some p))
   last_stands t p can at =
       let k = can.1 in
       let w : (can.0 ++ k.back) ≡ but_last can.0 ++ p ∷ k.back =
       ap (λ (l : List Place). l ++ k.back) (split_last can.0 (sym k.ends ∙ at)) ∙ append_assoc (but_last can.0) (p ∷ []) k.back in
-      let shown : Shows n (table t.links.now) (root_of t.tree.now) ((k.front ++ but_last can.0) ++ p ∷ k.back) =
+      let shown : Shows n (table t.links.now) t.root ((k.front ++ but_last can.0) ++ p ∷ k.back) =
       rw (append_assoc k.front (but_last can.0) (p ∷ k.back)) (rw w at k.shown) in
       stands_on (record { front = k.front ++ but_last can.0; back = k.back; shown = shown }) refl
 
   module _ (law : (t : L) (q : Place) → (n ((table t).entry q)).linked ≡ true → IsCovered (table t) q) where
     -- what is left is what stands at the members that it reaches
-    left_is : (t : Iter A L O V K) (w : List Place) → IsWalk n (table t.links.now) (root_of t.tree.now) t.head t.tail w → objects_left n table values t ≡ values_at (values t.objects.now) w
+    left_is : (t : Iter A L O V K) (w : List Place) → IsWalk n (table t.links.now) t.root t.head t.tail w → objects_left n table values t ≡ values_at (values t.objects.now) w
     left_is t w k = ap (values_at (values t.objects.now)) (walk_members n (table t.links.now) (law t.links.now) k)
 
     others_left : {old new : Iter A L O V K} {with_it : List Place → List Place} (k : Steps old new with_it) → objects_left n table values new ≡ values_at (values old.objects.now) k.others
@@ -184,12 +183,12 @@ module _ {A L O V K E : Type 0} (n : E → Node) (table : L → Table E) (values
     -- where it has no first member, or no last, nothing is left
     pub none_left : (t : Iter A L O V K) → CanWalk n table values t → t.head ≡ None → objects_left n table values t ≡ []
     none_left t can at =
-        let k : IsWalk n (table t.links.now) (root_of t.tree.now) None t.tail can.0 = rw at at can.1 in
+        let k : IsWalk n (table t.links.now) t.root None t.tail can.0 = rw at at can.1 in
         left_is t can.0 can.1 ∙ ap (values_at (values t.objects.now)) (walk_empty k)
 
     pub none_left_back : (t : Iter A L O V K) → CanWalk n table values t → t.tail ≡ None → objects_left n table values t ≡ []
     none_left_back t can at =
-        let k : IsWalk n (table t.links.now) (root_of t.tree.now) t.head None can.0 = rw at at can.1 in
+        let k : IsWalk n (table t.links.now) t.root t.head None can.0 = rw at at can.1 in
         left_is t can.0 can.1 ∙ ap (values_at (values t.objects.now)) (walk_empty_back k)
 
     -- the step gives the object at p, and leaves one less

@@ -4,21 +4,21 @@ use Rattle.ic_unsafe_ref.specs.declared.place.Place.{Place}
 use Rattle.ic_link_ops.specs.Positions.{Site, site}
 use Rattle.ic_cursors.specs.declared.cursor_owning.CursorOwning as any
 use Rattle.ic_rbtree.specs.declared.tree.RBTree.{RBTree}
-use Rattle.ic_rbtree.specs.Tree.{root_of}
+use Rattle.ic_rbtree.specs.Tree.{head_of}
 
--- a cursor of a tree with such an adapter. `V`: what the tree is of
-abbrev pub CursorOwning : Type 0 → Type 0 → Type 0
-CursorOwning A V = any.CursorOwning (RBTree A) V (Option Place) (Option Place)
+-- a cursor of a tree with such an adapter. `V`: what the tree is of. `H`: what it keeps
+abbrev pub CursorOwning : Type 0 → Type 0 → Type 0 → Type 0
+CursorOwning A V H = any.CursorOwning (RBTree A H) V (Option Place) H
 
-module _ {A V : Type 0} where
+module _ {A V H : Type 0} where
   -- the tree that it keeps
-  abbrev pub tree_of : CursorOwning A V → RBTree A
+  abbrev pub tree_of : CursorOwning A V H → RBTree A H
   tree_of c = c.list
 
   -- the member that it is on, none at null
-  abbrev pub position : CursorOwning A V → Option Place
+  abbrev pub position : CursorOwning A V H → Option Place
   position c = c.current
 
   -- with the tree that it keeps, and the table that a call is handed
-  abbrev pub site_of : {L : Type 0} → L → CursorOwning A V → Site L (Option Place)
-  site_of links c = site links (root_of (tree_of c)) (position c)
+  abbrev pub site_of : {L : Type 0} → L → CursorOwning A V H → Site L H
+  site_of links c = site links (head_of (tree_of c)) (position c)

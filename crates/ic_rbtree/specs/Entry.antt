@@ -8,7 +8,7 @@ use Rattle.ic_link_ops.specs.LinkSteps.{LinkStep, acquires}
 use Rattle.ic_link_ops.specs.Positions.{Stands}
 use Rattle.ic_link_ops.specs.Sequences.{Cut, join}
 use Rattle.ic_link_ops.specs.Tables.{Table}
-use Rattle.ic_link_ops.specs.RedBlackTree.{Node, Shows}
+use Rattle.ic_link_ops.specs.RedBlackTree.{Node}
 use Rattle.ic_rbtree.specs.declared.keys.entry.Entry.{Entry}
 use Rattle.ic_rbtree.specs.declared.keys.entry.Entry.TheVariants.{Occupied, Vacant}
 use Rattle.ic_rbtree.specs.declared.keys.entry.InsertCursor.{InsertCursor}
@@ -16,63 +16,65 @@ use Rattle.ic_rbtree.specs.declared.keys.entry.RefusedInsert.{RefusedInsert}
 use Rattle.ic_rbtree.specs.declared.tree.RBTree.{RBTree}
 use Rattle.ic_rbtree.specs.Borders.{IsBorder, at_most_at, less_at}
 use Rattle.ic_rbtree.specs.CursorMut as editing
-use Rattle.ic_rbtree.specs.CursorMut.{CursorMut}
+use Rattle.ic_rbtree.specs.CursorMut.{CursorOf}
 use Rattle.ic_rbtree.specs.Insertion.{IsHole}
-use Rattle.ic_rbtree.specs.Tree.{root_of}
+use Rattle.ic_rbtree.specs.Kept.{Kept, ShowsKept}
+use Rattle.ic_rbtree.specs.Tree.{head_of}
 
-module _ {A L V K : Type 0} where
+module _ {A L H V K : Type 0} where
   -- what holds of the cursor, if the entry is occupied, and of the gap, if it is vacant
-  abbrev pub IfOccupied : Entry A L V K → (CursorMut A L V → Type 0) → Type 0
+  abbrev pub IfOccupied : Entry A L H V K → (CursorOf A L V H → Type 0) → Type 0
   IfOccupied (Occupied c) P = P c
   IfOccupied (Vacant v) P = ⊤
 
-  abbrev pub IfVacant : Entry A L V K → (InsertCursor A L → Type 0) → Type 0
+  abbrev pub IfVacant : Entry A L H V K → (InsertCursor A L H → Type 0) → Type 0
   IfVacant (Occupied c) P = ⊤
   IfVacant (Vacant v) P = P v
 
-module _ {A L : Type 0} where
+module _ {A L H : Type 0} where
   -- the tree and the table that it edits
-  abbrev pub tree_of : InsertCursor A L → RBTree A
+  abbrev pub tree_of : InsertCursor A L H → RBTree A H
   tree_of v = v.tree.now
 
-  abbrev pub links_of : InsertCursor A L → L
+  abbrev pub links_of : InsertCursor A L H → L
   links_of v = v.links.now
 
   -- it edits this tree and this table, which are as they were
-  abbrev pub IsBorrowed : MutBor (RBTree A) → MutBor L → InsertCursor A L → Type 0
+  abbrev pub IsBorrowed : MutBor (RBTree A H) → MutBor L → InsertCursor A L H → Type 0
   IsBorrowed tree links v =
       (v.tree.ghost_name ≡ tree.ghost_name) × (v.links.ghost_name ≡ links.ghost_name) × (v.tree.now ≡ tree.now) × (v.links.now ≡ links.now)
 
   module _ {E : Type 0} (node : E → Node) where
     -- THE GAP where it inserts
-    abbrev pub IsVacantAt : Table E → InsertCursor A L → Cut → Type 0
+    abbrev pub IsVacantAt : Table E → InsertCursor A L H → Cut → Type 0
     IsVacantAt t v gap = IsHole node t v.parent v.side gap
 
-    -- there is a gap of what is shown where it inserts
-    abbrev pub CanInsert : (L → Table E) → InsertCursor A L → Type 0
-    CanInsert table v = (gap : Cut) × Shows node (table (links_of v)) (root_of (tree_of v)) (join gap) × IsVacantAt (table (links_of v)) v gap
-
     -- VACANT FOR WHAT IS SEARCHED: it inserts at a gap of s where the member in front is smaller, and the one behind larger
-    pub record IsVacantFor (at : Place → Ordering) (t : Table E) (s : List Place) (v : InsertCursor A L) : Type 0 where
+    pub record IsVacantFor (at : Place → Ordering) (t : Table E) (s : List Place) (v : InsertCursor A L H) : Type 0 where
       pub gap : Cut
       pub same : join gap ≡ s
       pub is_at : IsVacantAt t v gap
       pub smaller : IsBorder (at_most_at at) gap
       pub larger : IsBorder (less_at at) gap
 
+  -- there is a gap of what is shown where it inserts
+  abbrev pub CanInsert : {E : Type 0} → (H → Kept) → (E → Node) → (L → Table E) → InsertCursor A L H → Type 0
+  CanInsert kept node table v =
+      (gap : Cut) × ShowsKept kept node (table (links_of v)) (head_of (tree_of v)) (join gap) × IsVacantAt node (table (links_of v)) v gap
+
   -- the same gap of the same tree and table, and the tree is as it was
-  abbrev pub IsLeft : InsertCursor A L → InsertCursor A L → Type 0
+  abbrev pub IsLeft : InsertCursor A L H → InsertCursor A L H → Type 0
   IsLeft old v = (v.tree.ghost_name ≡ old.tree.ghost_name) × (v.links.ghost_name ≡ old.links.ghost_name) × (tree_of v ≡ tree_of old)
       × (v.parent ≡ old.parent) × (v.side ≡ old.side)
 
 -- THE OBJECT IS INSERTED at the gap, and the cursor is on it; or its link is refused, and it comes back with the gap, of which nothing has changed
-module _ {A L T K E : Type 0} (node : E → Node) (table : L → Table E) (Does : L → L → List LinkStep → Type 0) (Refused : L → L → Place → Type 0) where
-  pub record InsertsInto (v : InsertCursor A L) (object : Place) (result : Result (CursorMut A L T) (RefusedInsert A L T K)) : Type 0 where
-    pub inserted : (gap : Cut) → Shows node (table (links_of v)) (root_of (tree_of v)) (join gap) → IsVacantAt node (table (links_of v)) v gap
-        → IfOk result (λ c. Inserts (Shows node) (table (links_of v)) (table (editing.links_of c)) (root_of (editing.tree_of c)) gap object)
+module _ {A L H T K E : Type 0} (kept : H → Kept) (node : E → Node) (table : L → Table E) (Does : L → L → List LinkStep → Type 0) (Refused : L → L → Place → Type 0) where
+  pub record InsertsInto (v : InsertCursor A L H) (object : Place) (result : Result (CursorOf A L T H) (RefusedInsert A L H T K)) : Type 0 where
+    pub inserted : (gap : Cut) → ShowsKept kept node (table (links_of v)) (head_of (tree_of v)) (join gap) → IsVacantAt node (table (links_of v)) v gap
+        → IfOk result (λ c. Inserts (ShowsKept kept node) (table (links_of v)) (table (editing.links_of c)) (head_of (editing.tree_of c)) gap object)
     pub acquired : IfOk result (λ c. Does (links_of v) (editing.links_of c) (acquires object ∷ []))
     pub position : IfOk result (λ c. editing.position c ≡ Some object)
-    pub stands : IfOk result (λ c. Stands (Shows node) table (editing.site_of c))
+    pub stands : IfOk result (λ c. Stands (ShowsKept kept node) table (editing.site_of c))
     pub borrows : IfOk result (editing.SameNames v.tree v.links)
     pub refused : IfErr result (λ e. Refused (links_of v) (links_of e.gap) object)
     pub unchanged : IfErr result (λ e. (e.object ≡ object) × IsLeft v e.gap)

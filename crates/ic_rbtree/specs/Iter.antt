@@ -5,14 +5,13 @@ use Rattle.ic_unsafe_ref.specs.Objects.{Objects}
 use Rattle.ic_link_ops.specs.Tables.{Table}
 use Rattle.ic_link_ops.specs.RedBlackTree.{Node}
 use Rattle.ic_link_ops.specs.PlacedObjects.{ArePlaced, values_at}
-use Rattle.ic_rbtree.specs.Tree.{root_of}
 use Rattle.ic_rbtree.specs.Members.{members, between, IsWalk}
 use Rattle.ic_rbtree.specs.declared.iter.Iter.{Iter}
 
 module _ {A L O V K E : Type 0} (node : E → Node) (table : L → Table E) where
   -- the members that the walk has not given out yet
   abbrev pub rest_of : Iter A L O V K → List Place
-  rest_of t = between t.head t.tail (members node (table t.links.now) (root_of t.tree.now))
+  rest_of t = between t.head t.tail (members node (table t.links.now) t.root)
 
 -- `values`: the values by place
 module _ {A L O V K E : Type 0} (node : E → Node) (table : L → Table E) (values : O → Objects V) where
@@ -22,4 +21,4 @@ module _ {A L O V K E : Type 0} (node : E → Node) (table : L → Table E) (val
 
   -- it stands between two members of the tree, or has met its end, and all that are left are placed
   abbrev pub CanWalk : Iter A L O V K → Type 0
-  CanWalk t = (w : List Place) × IsWalk node (table t.links.now) (root_of t.tree.now) t.head t.tail w × ArePlaced (values t.objects.now) w
+  CanWalk t = (w : List Place) × IsWalk node (table t.links.now) t.root t.head t.tail w × ArePlaced (values t.objects.now) w

@@ -17,9 +17,10 @@ ghost use Rattle.ic_link_ops.specs.Sequences.{first, at_front, at_back};
 ghost use Rattle.ic_link_ops.specs.Tables.{IsCovered};
 ghost use Rattle.ic_rbtree.specs.Builder.{ends_of, builder_adapter_of};
 ghost use Rattle.ic_rbtree.specs.Height.{IsLowest};
-ghost use Rattle.ic_rbtree.specs.Tree.{root_of, adapter_of};
+ghost use Rattle.ic_rbtree.specs.Tree.{root_in, root_of, adapter_of};
 ghost use Rattle.ic_rbtree.specs.Vines.{ShowsVine, ShowsVineSome, Rearranges};
 
+use crate::head::TreeHead;
 use crate::nodes::Nodes;
 use crate::readings::child;
 use crate::repair::TURNS;
@@ -164,21 +165,21 @@ impl<A: KeyAdapter> RBTreeBuilder<A> {
     }
 }
 
-impl<A: Copy> RBTree<A> {
+impl<A: Copy, E: TreeHead> RBTree<A, E> {
     /// A builder that has all members of this tree in their order, and its adapter: to put more behind them, or to build the tree anew,
     /// as low as can be.
     ///
     /// It requires that the table shows the members. No link is acquired or released, and a collection that shares no member with the tree
     /// stays as it was. It reads no key and takes no memory. O(n).
     pub fn into_builder<N: Nodes>(self, nodes: &mut N) -> RBTreeBuilder<A>
-        requires shown { ShowsSome N.node (N.table nodes.old) (root_of self) }
-        ensures taken_apart { (s : List Place) → Shows N.node (N.table nodes.old) (root_of self) s
+        requires shown { ShowsSome N.node (N.table nodes.old) (root_in E.kept self) }
+        ensures taken_apart { (s : List Place) → Shows N.node (N.table nodes.old) (root_in E.kept self) s
             → Rearranges (ShowsVine N.node) (N.table nodes.old) (N.table nodes.new) (ends_of result) s }
         ensures quiet { N.Quiet nodes.old nodes.new }
         ensures adapter { builder_adapter_of result ≡ adapter_of self }
     {
         let last = self.step(&*nodes, None, Side::Left);
-        let first = tree_to_vine(nodes, self.root.get(), None, TURNS);
+        let first = tree_to_vine(nodes, self.head.root(), None, TURNS);
         RBTreeBuilder::from_ends(self.adapter, first, last)
     }
 }

@@ -11,8 +11,9 @@ ghost use Rattle.ic_link_ops.specs.Tables.{IsCovered};
 ghost use Rattle.ic_link_ops.specs.ThreeWords.{node_of};
 ghost use Rattle.ic_rbtree.specs.PlainTrees.{plain_table, PlainShows, PlainShowsSome};
 ghost use Rattle.ic_rbtree.specs.Members.{HasChild};
-ghost use Rattle.ic_rbtree.specs.Tree.{root_of};
+ghost use Rattle.ic_rbtree.specs.Tree.{root_in};
 
+use crate::head::TreeHead;
 use crate::readings::is_at;
 use crate::{KeyAdapter, LinkOps, RBTree};
 use ic_link_ops::rbtree::RBTreeOps;
@@ -33,15 +34,15 @@ fn has_child<M: Allocator>(links: &LinkOps<M>, parent: Place, place: Place) -> b
     is_at(links.left(parent), place) || is_at(links.right(parent), place)
 }
 
-impl<A: KeyAdapter> RBTree<A> {
+impl<A: KeyAdapter, E: TreeHead> RBTree<A, E> {
     /// Whether the place is that of a member. It requires that the place is covered. O(log n): it reads no more than 66 places.
     ///
     /// It climbs by the parents, and looks at each step whether the parent has the place as a child: so links that an
     /// object keeps from a tree that was emptied by `fast_clear` make no member of it.
     pub fn contains<M: Allocator>(&self, links: &LinkOps<M>, place: Place) -> bool
         requires covered { IsCovered (plain_table links.now) place }
-        requires shown { PlainShowsSome links.now (root_of self.now) }
-        ensures { (s : List Place) → PlainShows links.now (root_of self.now) s → IsTrue result ↔ IsMember place s }
+        requires shown { PlainShowsSome links.now (root_in E.kept self.now) }
+        ensures { (s : List Place) → PlainShows links.now (root_in E.kept self.now) s → IsTrue result ↔ IsMember place s }
     {
         if !links.is_linked(place) {
             return false;
@@ -50,7 +51,7 @@ impl<A: KeyAdapter> RBTree<A> {
         let mut steps = 0;
         while steps < LONGEST_PATH {
             let Some(parent) = links.parent(place) else {
-                return is_at(self.root.get(), place);
+                return is_at(self.head.root(), place);
             };
             if !has_child(links, parent, place) {
                 return false;

@@ -6,41 +6,41 @@
 ghost use Rattle.std.specs.Prelude.{◌≡◌, None, Option, List, [], ◌∷◌, ◌++◌};
 ghost use Rattle.ic_unsafe_ref.specs.declared.place.Place.{Place};
 ghost use Rattle.ic_cursors.specs.Answers as answer;
-ghost use Rattle.ic_link_ops.specs.Sequences.{first, last};
+ghost use Rattle.ic_link_ops.specs.declared.side.Side.TheVariants.{Left, Right};
 ghost use Rattle.ic_link_ops.specs.Tables.{IsCovered, KeepsBeside};
 ghost use Rattle.ic_link_ops.specs.LinkSteps.{releases};
-ghost use Rattle.ic_link_ops.specs.RedBlackTree as red_black;
-ghost use Rattle.ic_link_ops.specs.RedBlackTree.{ShowsSome};
 ghost use Rattle.ic_link_ops.specs.Positions.{site, Stands, HasMember};
 ghost use Rattle.ic_link_ops.specs.EditsAt.{InsertsBeside};
+ghost use Rattle.ic_rbtree.specs.Kept.{ShowsKept, EndIs, HasEnds};
 ghost use Rattle.ic_rbtree.specs.Sides.{IsBeside};
-ghost use Rattle.ic_rbtree.specs.Tree.{root_of, adapter_of};
+ghost use Rattle.ic_rbtree.specs.Tree.{head_of, adapter_of};
 
+use crate::head::TreeHead;
 use crate::linking::{insert, remove, replace};
-use crate::steps::{end_on, hole_beside, step};
+use crate::steps::{hole_beside, step};
 use crate::{KeyAdapter, RBTree};
 use ic_cursors::{Bidirectional, Collection, CursorOps};
 use ic_link_ops::rbtree::RBTreeOps;
 use ic_link_ops::{LinkOps, PlaceWord, Side};
 use ic_unsafe_ref::{Place, UnsafeRef};
 
-impl<A: KeyAdapter> RBTree<A> {
-    /// The first member, `None` in an empty tree. O(log n).
+impl<A: KeyAdapter, E: TreeHead> RBTree<A, E> {
+    /// The first member, `None` in an empty tree. O(log n), and O(1) where it is kept.
     #[inline]
     pub fn first<L: RBTreeOps>(&self, links: &L) -> Option<Place>
-        requires shown { ShowsSome L.node (L.table links.now) (root_of self.now) }
-        ensures { (s : List Place) → red_black.Shows L.node (L.table links.now) (root_of self.now) s → result ≡ first s }
+        requires shown { HasEnds L.node (L.table links.now) (E.kept (head_of self.now)) }
+        ensures { EndIs L.node Left (L.table links.now) (E.kept (head_of self.now)) result }
     {
-        end_on(links, self.root.get(), Side::Left)
+        self.head.end(links, Side::Left)
     }
 
-    /// The last member, `None` in an empty tree. O(log n).
+    /// The last member, `None` in an empty tree. O(log n), and O(1) where it is kept.
     #[inline]
     pub fn last<L: RBTreeOps>(&self, links: &L) -> Option<Place>
-        requires shown { ShowsSome L.node (L.table links.now) (root_of self.now) }
-        ensures { (s : List Place) → red_black.Shows L.node (L.table links.now) (root_of self.now) s → result ≡ last s }
+        requires shown { HasEnds L.node (L.table links.now) (E.kept (head_of self.now)) }
+        ensures { EndIs L.node Right (L.table links.now) (E.kept (head_of self.now)) result }
     {
-        end_on(links, self.root.get(), Side::Right)
+        self.head.end(links, Side::Right)
     }
 
     /// Takes the object, which has to be a member, off the tree. O(log n), and no look.
@@ -48,16 +48,16 @@ impl<A: KeyAdapter> RBTree<A> {
     /// The other members stay in their order, and so does every other collection of the table.
     #[inline]
     pub fn remove<L: RBTreeOps>(&mut self, links: &mut L, object: &UnsafeRef<A::Value>)
-        requires member { HasMember (red_black.Shows L.node (L.table links.old) (root_of self.old)) object.now }
+        requires member { HasMember (ShowsKept E.kept L.node (L.table links.old) (head_of self.old)) object.now }
         ensures removed { (front back : List Place)
-            → red_black.Shows L.node (L.table links.old) (root_of self.old) (front ++ object.now ∷ back)
-            → red_black.Shows L.node (L.table links.new) (root_of self.new) (front ++ back) }
+            → ShowsKept E.kept L.node (L.table links.old) (head_of self.old) (front ++ object.now ∷ back)
+            → ShowsKept E.kept L.node (L.table links.new) (head_of self.new) (front ++ back) }
         ensures released { L.Does links.old links.new (releases object.now ∷ []) }
         ensures adapter { adapter_of self.new ≡ adapter_of self.old }
-        ensures frame { (s : List Place) → red_black.Shows L.node (L.table links.old) (root_of self.old) s
+        ensures frame { (s : List Place) → ShowsKept E.kept L.node (L.table links.old) (head_of self.old) s
             → KeepsBeside (L.table links.old) (L.table links.new) s }
     {
-        remove(links, &mut self.root, object.place());
+        remove(links, &mut self.head, object.place());
     }
 
     // Puts the object into the gap beside the position, and returns whether its link was acquired.
@@ -70,24 +70,24 @@ impl<A: KeyAdapter> RBTree<A> {
         object: Place,
     ) -> bool
         requires covered { IsCovered (L.table links.old) object }
-        requires stands { Stands (red_black.Shows L.node) L.table (site links.old (root_of self.old) at.now) }
-        ensures inserted { InsertsBeside (red_black.Shows L.node) L.table L.Does L.Refused (IsBeside side)
-            (site links.old (root_of self.old) at.now) object (answer.inserted {T = A.Value} object result) (site links.new (root_of self.new) at.now) }
+        requires stands { Stands (ShowsKept E.kept L.node) L.table (site links.old (head_of self.old) at.now) }
+        ensures inserted { InsertsBeside (ShowsKept E.kept L.node) L.table L.Does L.Refused (IsBeside side)
+            (site links.old (head_of self.old) at.now) object (answer.inserted {T = A.Value} object result) (site links.new (head_of self.new) at.now) }
         ensures adapter { adapter_of self.new ≡ adapter_of self.old }
     {
-        let (parent, below) = hole_beside(&*links, self.root.get(), at.get(), side);
-        insert(links, &mut self.root, parent, below, object)
+        let (parent, below) = hole_beside(&*links, self.head.root(), at.get(), side);
+        insert(links, &mut self.head, parent, below, object)
     }
 }
 
-impl<A: KeyAdapter> Collection for RBTree<A> {
+impl<A: KeyAdapter, E: TreeHead> Collection for RBTree<A, E> {
     type Object = A::Value;
 
     type Position = PlaceWord;
 
-    type Head = PlaceWord;
+    type Head = E;
 
-    ghost head_of = { root_of };
+    ghost head_of = { head_of };
 
     ghost Keeps = { λ old new. adapter_of new ≡ adapter_of old };
 
@@ -99,14 +99,14 @@ impl<A: KeyAdapter> Collection for RBTree<A> {
     }
 }
 
-impl<A: KeyAdapter, L: RBTreeOps> CursorOps<L> for RBTree<A> {
-    ghost Shows = { red_black.Shows L.node };
+impl<A: KeyAdapter, E: TreeHead, L: RBTreeOps> CursorOps<L> for RBTree<A, E> {
+    ghost Shows = { ShowsKept E.kept L.node };
 
-    ghost StandsAt = { λ links tree at. Stands (red_black.Shows L.node) L.table (site links (root_of tree) at) };
+    ghost StandsAt = { λ links tree at. Stands (ShowsKept E.kept L.node) L.table (site links (head_of tree) at) };
 
     #[inline]
     fn next_of(&self, links: &L, at: &PlaceWord) -> PlaceWord {
-        PlaceWord::of(step(links, self.root.get(), at.get(), Side::Right))
+        PlaceWord::of(step(links, self.head.root(), at.get(), Side::Right))
     }
 
     #[inline]
@@ -115,10 +115,10 @@ impl<A: KeyAdapter, L: RBTreeOps> CursorOps<L> for RBTree<A> {
     }
 }
 
-impl<A: KeyAdapter, L: RBTreeOps> Bidirectional<L> for RBTree<A> {
+impl<A: KeyAdapter, E: TreeHead, L: RBTreeOps> Bidirectional<L> for RBTree<A, E> {
     #[inline]
     fn prev_of(&self, links: &L, at: &PlaceWord) -> PlaceWord {
-        PlaceWord::of(step(links, self.root.get(), at.get(), Side::Left))
+        PlaceWord::of(step(links, self.head.root(), at.get(), Side::Left))
     }
 
     #[inline]
@@ -130,7 +130,7 @@ impl<A: KeyAdapter, L: RBTreeOps> Bidirectional<L> for RBTree<A> {
     fn remove_at(&mut self, links: &mut L, at: &mut PlaceWord) -> Option<Place> {
         let place = at.get()?;
         *at = self.next_of(&*links, at);
-        remove(links, &mut self.root, place);
+        remove(links, &mut self.head, place);
         Some(place)
     }
 
@@ -139,7 +139,7 @@ impl<A: KeyAdapter, L: RBTreeOps> Bidirectional<L> for RBTree<A> {
         let Some(out) = at.get() else {
             return false;
         };
-        if !replace(links, &mut self.root, out, object) {
+        if !replace(links, &mut self.head, out, object) {
             return false;
         }
         *at = PlaceWord::of(Some(object));

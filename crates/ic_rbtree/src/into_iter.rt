@@ -12,12 +12,13 @@ ghost use Rattle.std.specs.Iterator.{item_count};
 ghost use Rattle.ic_unsafe_ref.specs.declared.place.Place.{Place};
 ghost use Rattle.ic_link_ops.specs.Tables.{KeepsBeside};
 ghost use Rattle.ic_link_ops.specs.LinkSteps.{releases, releases_each};
-ghost use Rattle.ic_link_ops.specs.RedBlackTree.{Shows, ShowsSome};
 ghost use Rattle.ic_rbtree.specs.Closed.{IsNamed};
 ghost use Rattle.ic_rbtree.specs.Ends.{end_on, others_on, ShowsFrom, Hangs, CanDescend, IsOuter};
+ghost use Rattle.ic_rbtree.specs.Kept.{ShowsKept, ShowsKeptSome};
 ghost use Rattle.ic_rbtree.specs.Steps.{TakesNoStep};
-ghost use Rattle.ic_rbtree.specs.Tree.{root_of};
+ghost use Rattle.ic_rbtree.specs.Tree.{head_of};
 
+use crate::head::TreeHead;
 use crate::readings::{child, other};
 use crate::repair::writers::{adopt, set_child};
 use crate::steps::outermost;
@@ -117,13 +118,13 @@ impl<'a, A, L: RBTreeOps> IntoIter<'a, A, L> {
     }
 }
 
-impl<A: KeyAdapter> RBTree<A> {
+impl<A: KeyAdapter, E: TreeHead> RBTree<A, E> {
     ghost use Rattle.ic_rbtree.specs.IntoIter.{Leaves};
 
     /// A walk that takes the members off, from either end. O(log n): nothing is unlinked yet.
     pub fn into_iter<'a, L: RBTreeOps>(self, links: &'a mut L) -> IntoIter<'a, A, L>
-        requires shown { ShowsSome L.node (L.table links.old) (root_of self) }
-        ensures tree { (s : List Place) → Shows L.node (L.table links.entry.now) (root_of self) s
+        requires shown { ShowsKeptSome E.kept L.node (L.table links.old) (head_of self) }
+        ensures tree { (s : List Place) → ShowsKept E.kept L.node (L.table links.entry.now) (head_of self) s
             → Leaves L.node L.table result s }
         ensures links { result.links.now ≡ links.entry.now }
         ensures same_links { result.links.ghost_name ≡ links.entry.ghost_name }

@@ -10,15 +10,17 @@
 ghost use Rattle.std.specs.Prelude.{◌≡◌, List, Option, Some, ⊤};
 ghost use Rattle.std.specs.Iterator.{item_count};
 ghost use Rattle.ic_unsafe_ref.specs.declared.place.Place.{Place};
-ghost use Rattle.ic_link_ops.specs.RedBlackTree.{Shows};
 ghost use Rattle.ic_link_ops.specs.Walk.{GivesFirst, GivesLast};
-ghost use Rattle.ic_rbtree.specs.Tree.{root_of};
+ghost use Rattle.ic_rbtree.specs.Kept.{ShowsKept};
+ghost use Rattle.ic_rbtree.specs.Tree.{head_of};
 
+use crate::head::TreeHead;
 use crate::readings::is_at;
+use crate::steps::step;
 use crate::{KeyAdapter, RBTree};
-use ic_cursors::{Bidirectional, CursorOps, Listing};
+use ic_cursors::Listing;
 use ic_link_ops::rbtree::RBTreeOps;
-use ic_link_ops::{LinkOps, PlaceWord};
+use ic_link_ops::{LinkOps, Side};
 use ic_unsafe_ref::{Objects, Place, Values};
 use std::alloc::AllocError;
 use std::marker::PhantomData;
@@ -31,10 +33,10 @@ pub struct Iter<'a, A: KeyAdapter, L, O = Objects<<A as KeyAdapter>::Value>>
 where
     A::Key: 'a,
 {
-    pub(crate) tree: &'a RBTree<A>,
+    pub(crate) root: Option<Place>,
     pub(crate) links: &'a L,
     pub(crate) objects: &'a O,
-    pub(crate) of: PhantomData<&'a A::Value>,
+    pub(crate) of: PhantomData<(&'a A, &'a A::Value)>,
     pub(crate) head: Option<Place>,
     pub(crate) tail: Option<Place>,
 }
@@ -42,7 +44,7 @@ where
 impl<A: KeyAdapter, L, O> Drop for Iter<'_, A, L, O> {
     fn drop(self) {
         let Iter {
-            tree: _,
+            root: _,
             links: _,
             objects: _,
             of: _,
@@ -73,10 +75,7 @@ impl<'a, A: KeyAdapter, L: RBTreeOps, O: Values<A::Value>> Iterator for Iter<'a,
             self.head = None;
             self.tail = None;
         } else {
-            self.head = self
-                .tree
-                .next_of(self.links, &PlaceWord::of(Some(place)))
-                .get();
+            self.head = step(self.links, self.root, Some(place), Side::Right);
         }
         Some(value)
     }
@@ -99,10 +98,7 @@ impl<'a, A: KeyAdapter, L: RBTreeOps, O: Values<A::Value>> DoubleEndedIterator
             self.head = None;
             self.tail = None;
         } else {
-            self.tail = self
-                .tree
-                .prev_of(self.links, &PlaceWord::of(Some(place)))
-                .get();
+            self.tail = step(self.links, self.root, Some(place), Side::Left);
         }
         Some(value)
     }
@@ -116,7 +112,7 @@ impl<A: KeyAdapter, L, O> Clone for Iter<'_, A, L, O> {
     /// A walk over the same objects, from the same two ends. It never fails.
     fn clone(&self) -> Result<Self, AllocError> {
         Ok(Iter {
-            tree: self.tree,
+            root: self.root,
             links: self.links,
             objects: self.objects,
             of: PhantomData,
@@ -140,7 +136,7 @@ impl<A: KeyAdapter, L: RBTreeOps, O: Values<A::Value>> Iter<'_, A, L, O> {
     }
 }
 
-impl<A: KeyAdapter> RBTree<A> {
+impl<A: KeyAdapter, E: TreeHead> RBTree<A, E> {
     ghost use Rattle.ic_link_ops.specs.PlacedObjects.{ShowsPlaced, values_at};
     ghost use Rattle.ic_rbtree.specs.Iter.{objects_left, CanWalk};
 
@@ -150,13 +146,13 @@ impl<A: KeyAdapter> RBTree<A> {
         links: &'a L,
         objects: &'a O,
     ) -> Iter<'a, A, L, O>
-        requires placed { ShowsPlaced (Shows L.node (L.table links.now) (root_of self.now)) (O.values objects.now) }
-        ensures walks { (s : List Place) → Shows L.node (L.table links.now) (root_of self.now) s
+        requires placed { ShowsPlaced (ShowsKept E.kept L.node (L.table links.now) (head_of self.now)) (O.values objects.now) }
+        ensures walks { (s : List Place) → ShowsKept E.kept L.node (L.table links.now) (head_of self.now) s
             → objects_left L.node L.table O.values result ≡ values_at (O.values objects.now) s }
         ensures can_walk { CanWalk L.node L.table O.values result }
     {
         Iter {
-            tree: self,
+            root: self.head.root(),
             links,
             objects,
             of: PhantomData,
@@ -172,8 +168,8 @@ impl<A: KeyAdapter> RBTree<A> {
         links: &'a L,
         objects: &'a O,
     ) -> Listing<Iter<'a, A, L, O>>
-        requires placed { ShowsPlaced (Shows L.node (L.table links.now) (root_of self.now)) (O.values objects.now) }
-        ensures lists { (s : List Place) → Shows L.node (L.table links.now) (root_of self.now) s
+        requires placed { ShowsPlaced (ShowsKept E.kept L.node (L.table links.now) (head_of self.now)) (O.values objects.now) }
+        ensures lists { (s : List Place) → ShowsKept E.kept L.node (L.table links.now) (head_of self.now) s
             → objects_left L.node L.table O.values result ≡ values_at (O.values objects.now) s }
     {
         Listing::new(self.iter(links, objects))

@@ -6,39 +6,40 @@
 //! let later = early.split_off(&mut links, &object); // the object, and all behind it
 //! ```
 
-ghost use Rattle.std.specs.Prelude.{◌≡◌, None, OnOk, OnErr, IfErr, List, [], ◌∷◌, ◌++◌};
+ghost use Rattle.std.specs.Prelude.{◌≡◌, OnOk, OnErr, IfErr, List, [], ◌∷◌, ◌++◌};
 ghost use Rattle.ic_unsafe_ref.specs.declared.place.Place.{Place};
 ghost use Rattle.ic_link_ops.specs.Edits.{Inserts, Splits};
 ghost use Rattle.ic_link_ops.specs.LinkSteps.{acquires};
 ghost use Rattle.ic_link_ops.specs.Positions.{HasMember};
-ghost use Rattle.ic_link_ops.specs.RedBlackTree.{Shows};
 ghost use Rattle.ic_link_ops.specs.Sequences.{Cut};
 ghost use Rattle.ic_link_ops.specs.Tables.{IsCovered};
 ghost use Rattle.ic_rbtree.specs.Join.{ShowsParts, ShowsPartsSome, Appends};
-ghost use Rattle.ic_rbtree.specs.Tree.{root_of, adapter_of};
+ghost use Rattle.ic_rbtree.specs.Kept.{ShowsKept, IsEmptied};
+ghost use Rattle.ic_rbtree.specs.Tree.{head_of, adapter_of};
 
 pub(crate) mod cut;
 pub(crate) mod roots;
 
+use crate::head::TreeHead;
 use crate::join::cut::cut_at;
 use crate::join::roots::join;
 use crate::nodes::Nodes;
 use crate::steps::hole_beside;
 use crate::{KeyAdapter, RBTree};
 use ic_link_ops::rbtree::RBTreeOps;
-use ic_link_ops::{AlreadyLinked, LinkOps, PlaceWord, Side};
+use ic_link_ops::{AlreadyLinked, LinkOps, Side};
 use ic_unsafe_ref::UnsafeRef;
 
-impl<A> RBTree<A> {
+impl<A, E: TreeHead> RBTree<A, E> {
     /// Moves all members of `other` behind those of this tree, in their order, and leaves `other` empty. It looks at no key.
     ///
     /// It requires that the two trees share no member. Trees that share none with either stay, and no link is acquired or released. It
     /// appends as `LinkedList::append` of std does; `BTreeMap::append` puts each entry where its key belongs. O(log n).
-    pub fn append<N: Nodes>(&mut self, nodes: &mut N, other: &mut RBTree<A>)
-        requires shown { ShowsPartsSome (Shows N.node) (N.table nodes.old) (root_of self.old) (root_of other.old) }
-        ensures appended { (gap : Cut) → ShowsParts (Shows N.node) (N.table nodes.old) (root_of self.old) (root_of other.old) gap
-            → Appends (Shows N.node) (N.table nodes.old) (N.table nodes.new) (root_of self.new) gap }
-        ensures emptied { root_of other.new ≡ None }
+    pub fn append<N: Nodes>(&mut self, nodes: &mut N, other: &mut RBTree<A, E>)
+        requires shown { ShowsPartsSome (ShowsKept E.kept N.node) (N.table nodes.old) (head_of self.old) (head_of other.old) }
+        ensures appended { (gap : Cut) → ShowsParts (ShowsKept E.kept N.node) (N.table nodes.old) (head_of self.old) (head_of other.old) gap
+            → Appends (ShowsKept E.kept N.node) (N.table nodes.old) (N.table nodes.new) (head_of self.new) gap }
+        ensures emptied { IsEmptied (E.kept (head_of other.new)) }
         ensures quiet { N.Quiet nodes.old nodes.new }
         ensures adapter { adapter_of self.new ≡ adapter_of self.old }
         ensures other_adapter { adapter_of other.new ≡ adapter_of other.old }
@@ -47,13 +48,12 @@ impl<A> RBTree<A> {
             return;
         };
         other.unlink(nodes, place);
-        let root = join(nodes, self.root.get(), place, other.root.get());
-        self.root = PlaceWord::of(root);
-        other.root = PlaceWord::of(None);
+        let root = join(nodes, self.head.root(), place, other.head.root());
+        self.head.join(root, place, &mut other.head);
     }
 }
 
-impl<A: KeyAdapter> RBTree<A> {
+impl<A: KeyAdapter, E: TreeHead> RBTree<A, E> {
     /// Puts the object behind all members of this tree and moves all of `other` behind it, unless the object's link is refused. `other`
     /// is empty then. It looks at no key.
     ///
@@ -63,13 +63,13 @@ impl<A: KeyAdapter> RBTree<A> {
         &mut self,
         links: &mut L,
         object: UnsafeRef<A::Value>,
-        other: &mut RBTree<A>,
+        other: &mut RBTree<A, E>,
     ) -> Result<(), AlreadyLinked<A::Value>>
         requires covered { IsCovered (L.table links.old) object }
-        requires shown { ShowsPartsSome (Shows L.node) (L.table links.old) (root_of self.old) (root_of other.old) }
-        ensures joined { (gap : Cut) → ShowsParts (Shows L.node) (L.table links.old) (root_of self.old) (root_of other.old) gap → OnOk result
-            (Inserts (Shows L.node) (L.table links.old) (L.table links.new) (root_of self.new) gap object) }
-        ensures emptied { OnOk result (root_of other.new ≡ None) }
+        requires shown { ShowsPartsSome (ShowsKept E.kept L.node) (L.table links.old) (head_of self.old) (head_of other.old) }
+        ensures joined { (gap : Cut) → ShowsParts (ShowsKept E.kept L.node) (L.table links.old) (head_of self.old) (head_of other.old) gap → OnOk result
+            (Inserts (ShowsKept E.kept L.node) (L.table links.old) (L.table links.new) (head_of self.new) gap object) }
+        ensures emptied { OnOk result (IsEmptied (E.kept (head_of other.new))) }
         ensures acquired { OnOk result (L.Does links.old links.new (acquires object ∷ [])) }
         ensures adapter { adapter_of self.new ≡ adapter_of self.old }
         ensures other_adapter { adapter_of other.new ≡ adapter_of other.old }
@@ -80,9 +80,8 @@ impl<A: KeyAdapter> RBTree<A> {
         if !links.acquire_link(place) {
             return Err(AlreadyLinked(object));
         }
-        let root = join(links, self.root.get(), place, other.root.get());
-        self.root = PlaceWord::of(root);
-        other.fast_clear();
+        let root = join(links, self.head.root(), place, other.head.root());
+        self.head.join(root, place, &mut other.head);
         Ok(())
     }
 
@@ -96,18 +95,21 @@ impl<A: KeyAdapter> RBTree<A> {
         &mut self,
         links: &mut L,
         object: &UnsafeRef<A::Value>,
-    ) -> RBTree<A>
-        requires member { HasMember (Shows L.node (L.table links.old) (root_of self.old)) object.now }
-        ensures split { (front back : List Place) → Shows L.node (L.table links.old) (root_of self.old) (front ++ object.now ∷ back)
-            → Splits (Shows L.node) (L.table links.old) (L.table links.new) (root_of self.new) (root_of result) front (object.now ∷ back) }
+    ) -> RBTree<A, E>
+        requires member { HasMember (ShowsKept E.kept L.node (L.table links.old) (head_of self.old)) object.now }
+        ensures split { (front back : List Place) → ShowsKept E.kept L.node (L.table links.old) (head_of self.old) (front ++ object.now ∷ back)
+            → Splits (ShowsKept E.kept L.node) (L.table links.old) (L.table links.new) (head_of self.new) (head_of result) front (object.now ∷ back) }
         ensures no_step { L.Does links.old links.new [] }
         ensures adapter { adapter_of self.new ≡ adapter_of self.old }
         ensures rest_adapter { adapter_of result ≡ adapter_of self.old }
     {
-        let at = Some(object.place());
-        let (parent, side) = hole_beside(&*links, self.root.get(), at, Side::Left);
+        let place = object.place();
+        let (parent, side) = hole_beside(&*links, self.head.root(), Some(place), Side::Left);
         let (front, back) = cut_at(links, parent, side);
-        self.root = PlaceWord::of(front);
-        RBTree::from_root(self.adapter, back)
+        let rest = self.head.split(&*links, front, place, back);
+        RBTree {
+            head: rest,
+            adapter: self.adapter,
+        }
     }
 }

@@ -9,6 +9,8 @@ pub(crate) mod bounds;
 pub(crate) mod descent;
 pub(crate) mod entry;
 pub(crate) mod find;
+pub(crate) mod hinted;
+pub(crate) mod hole;
 pub mod key_adapter;
 pub(crate) mod keyed;
 pub(crate) mod ordered;

@@ -11,108 +11,105 @@ ghost use Rattle.ic_link_ops.specs.Tables.{IsCovered};
 ghost use Rattle.ic_link_ops.specs.LinkSteps.{acquires, releases};
 ghost use Rattle.ic_link_ops.specs.Sequences.{Cut, join, IsBefore};
 ghost use Rattle.ic_link_ops.specs.Edits.{Removes, Inserts, Replaces};
-ghost use Rattle.ic_link_ops.specs.RedBlackTree.{Shows};
 ghost use Rattle.ic_link_ops.specs.PlacedObjects.{ShowsPlaced};
-ghost use Rattle.ic_rbtree.specs.Comparing.{compared, HasRoom, Looks};
+ghost use Rattle.ic_rbtree.specs.Comparing.{compared};
 ghost use Rattle.ic_rbtree.specs.Insertion.{IsHole};
+ghost use Rattle.ic_rbtree.specs.Kept.{ShowsKept, HasRoomFor, InsertLooks};
 ghost use Rattle.ic_rbtree.specs.Ordered.{InsertsInOrder};
 
 use crate::Probe;
-use crate::keys::descent::descend;
-use crate::repair::insertion::attach;
-use crate::repair::removal::unlink;
-use crate::repair::writers::take_place;
+use crate::head::TreeHead;
+use crate::keys::hole::hole_for;
 use ic_link_ops::rbtree::RBTreeOps;
-use ic_link_ops::{LinkOps, PlaceWord, Side};
+use ic_link_ops::{LinkOps, Side};
 use ic_unsafe_ref::{Place, Values};
 
 // Links the place as a new member on this side of `parent`, which has no child there, and says whether the link could be
 // had. With no parent the tree is empty.
-pub(crate) fn insert<L: RBTreeOps>(
+pub(crate) fn insert<L: RBTreeOps, E: TreeHead>(
     links: &mut L,
-    root: &mut PlaceWord,
+    head: &mut E,
     parent: Option<Place>,
     side: Side,
     place: Place,
 ) -> bool
     requires covered { IsCovered (L.table links.old) place }
-    requires hole { (gap : Cut) × Shows L.node (L.table links.old) root.old (join gap)
+    requires hole { (gap : Cut) × ShowsKept E.kept L.node (L.table links.old) head.old (join gap)
         × IsHole L.node (L.table links.old) parent side gap }
-    ensures inserted { (gap : Cut) → Shows L.node (L.table links.old) root.old (join gap)
+    ensures inserted { (gap : Cut) → ShowsKept E.kept L.node (L.table links.old) head.old (join gap)
         → IsHole L.node (L.table links.old) parent side gap → OnTrue result
-        (Inserts (Shows L.node) (L.table links.old) (L.table links.new) root.new gap place) }
+        (Inserts (ShowsKept E.kept L.node) (L.table links.old) (L.table links.new) head.new gap place) }
     ensures acquired { OnTrue result (L.Does links.old links.new (acquires place ∷ [])) }
     ensures refused { OnFalse result (L.Refused links.old links.new place) }
-    ensures unchanged { OnFalse result (root.new ≡ root.old) }
+    ensures unchanged { OnFalse result (head.new ≡ head.old) }
 {
     if !links.acquire_link(place) {
         return false;
     }
-    attach(links, root, parent, side, place);
+    head.attach(links, parent, side, place);
     true
 }
 
 // Links the place as a new member where the probe's order wants it: behind the members that compare equal. It says whether
 // the link could be had. Where it could not, nothing is looked at.
 #[inline]
-pub(crate) fn insert_in_order<L: RBTreeOps, V, P: Probe<V>, O: Values<V>>(
+pub(crate) fn insert_in_order<L: RBTreeOps, E: TreeHead, V, P: Probe<V>, O: Values<V>>(
     links: &mut L,
-    root: &mut PlaceWord,
+    head: &mut E,
     objects: &O,
     probe: &mut P,
     object: Place,
 ) -> bool
     requires covered { IsCovered (L.table links.old) object }
-    requires placed { ShowsPlaced (Shows L.node (L.table links.old) root.old) (O.values objects.now) }
-    requires room { HasRoom (P.count probe.old) }
-    ensures inserted { (s : List Place) → Shows L.node (L.table links.old) root.old s → OnTrue result
-        (InsertsInOrder (Shows L.node) (compared (P.order probe.old) (O.values objects.now)) (L.table links.old) (L.table links.new)
-        root.new s object) }
+    requires placed { ShowsPlaced (ShowsKept E.kept L.node (L.table links.old) head.old) (O.values objects.now) }
+    requires room { HasRoomFor (E.kept head.old) (P.count probe.old) }
+    ensures inserted { (s : List Place) → ShowsKept E.kept L.node (L.table links.old) head.old s → OnTrue result
+        (InsertsInOrder (ShowsKept E.kept L.node) (compared (P.order probe.old) (O.values objects.now)) (L.table links.old) (L.table links.new)
+        head.new s object) }
     ensures acquired { OnTrue result (L.Does links.old links.new (acquires object ∷ [])) }
-    ensures looks { (s : List Place) → Shows L.node (L.table links.old) root.old s
-        → OnTrue result (Looks P.order P.count probe.old probe.new s) }
+    ensures looks { (s : List Place) → ShowsKept E.kept L.node (L.table links.old) head.old s
+        → OnTrue result (InsertLooks P.order P.count (E.kept head.old) probe.old probe.new s) }
     ensures refused { OnFalse result (L.Refused links.old links.new object) }
-    ensures unchanged { OnFalse result ((root.new ≡ root.old) × (probe.new ≡ probe.old)) }
+    ensures unchanged { OnFalse result ((head.new ≡ head.old) × (probe.new ≡ probe.old)) }
 {
     if !links.acquire_link(object) {
         return false;
     }
-    let from = root.get();
-    let hole = descend(&*links, from, objects, probe, Side::Right);
-    attach(links, root, hole.parent.get(), hole.side, object);
+    let (parent, side) = hole_for(&*links, &*head, objects, probe);
+    head.attach(links, parent, side, object);
     true
 }
 
 // Takes the member off the tree, and unlinks it.
-pub(crate) fn remove<L: RBTreeOps>(links: &mut L, root: &mut PlaceWord, place: Place)
-    requires member { (gap : Cut) × Shows L.node (L.table links.old) root.old (join gap) × IsBefore gap (Some place) }
-    ensures removed { (gap : Cut) → Shows L.node (L.table links.old) root.old (join gap) → IsBefore gap (Some place)
-        → Removes (Shows L.node) (L.table links.old) (L.table links.new) root.new gap }
+pub(crate) fn remove<L: RBTreeOps, E: TreeHead>(links: &mut L, head: &mut E, place: Place)
+    requires member { (gap : Cut) × ShowsKept E.kept L.node (L.table links.old) head.old (join gap) × IsBefore gap (Some place) }
+    ensures removed { (gap : Cut) → ShowsKept E.kept L.node (L.table links.old) head.old (join gap) → IsBefore gap (Some place)
+        → Removes (ShowsKept E.kept L.node) (L.table links.old) (L.table links.new) head.new gap }
     ensures released { L.Does links.old links.new (releases place ∷ []) }
 {
-    unlink(links, root, place);
+    head.unlink(links, place);
     links.release_link(place);
 }
 
 // In place of a member stands another place, and the member is unlinked. It says whether the link could be had.
-pub(crate) fn replace<L: RBTreeOps>(
+pub(crate) fn replace<L: RBTreeOps, E: TreeHead>(
     links: &mut L,
-    root: &mut PlaceWord,
+    head: &mut E,
     place: Place,
     new: Place,
 ) -> bool
     requires covered { IsCovered (L.table links.old) new }
-    requires member { (gap : Cut) × Shows L.node (L.table links.old) root.old (join gap) × IsBefore gap (Some place) }
-    ensures replaced { (gap : Cut) → Shows L.node (L.table links.old) root.old (join gap) → IsBefore gap (Some place)
-        → OnTrue result (Replaces (Shows L.node) (L.table links.old) (L.table links.new) root.new gap new) }
+    requires member { (gap : Cut) × ShowsKept E.kept L.node (L.table links.old) head.old (join gap) × IsBefore gap (Some place) }
+    ensures replaced { (gap : Cut) → ShowsKept E.kept L.node (L.table links.old) head.old (join gap) → IsBefore gap (Some place)
+        → OnTrue result (Replaces (ShowsKept E.kept L.node) (L.table links.old) (L.table links.new) head.new gap new) }
     ensures exchanged { OnTrue result (L.Does links.old links.new (acquires new ∷ releases place ∷ [])) }
     ensures refused { OnFalse result (L.Refused links.old links.new new) }
-    ensures unchanged { OnFalse result (root.new ≡ root.old) }
+    ensures unchanged { OnFalse result (head.new ≡ head.old) }
 {
     if !links.acquire_link(new) {
         return false;
     }
-    take_place(links, root, place, new);
+    head.take_place(links, place, new);
     links.release_link(place);
     true
 }

@@ -5,54 +5,57 @@
 //! tree.cursor_mut(&mut links).insert_before(object)?; // the last member
 //! ```
 
-ghost use Rattle.std.specs.Prelude.{◌≡◌, ◌≢◌, ◌↔◌, Bool, Some, None, List, [], ◌∷◌, IsTrue};
+ghost use Rattle.std.specs.Prelude.{◌≡◌, ◌≢◌, ◌↔◌, Bool, Some, None, List, [], ◌∷◌, ◌++◌, IsTrue};
 ghost use Rattle.ic_unsafe_ref.specs.declared.place.Place.{Place};
 ghost use Rattle.ic_link_ops.specs.Frames.{across};
 ghost use Rattle.ic_link_ops.specs.PlacedObjects.{ShowsPlaced};
-ghost use Rattle.ic_link_ops.specs.RedBlackTree.{Shows};
-ghost use Rattle.ic_link_ops.specs.Sequences.{Cut, join};
+ghost use Rattle.ic_link_ops.specs.RedBlackTree.{Shows, ShowsSome};
+ghost use Rattle.ic_link_ops.specs.Sequences.{Cut, join, insert, IsDistinct};
 ghost use Rattle.ic_rbtree.specs.Closed.{IsIn, IsClosed, IsSafe, IsSafeBut, IsSafeWith, StaysClosed, ClosesAt, KeepsNodes};
 ghost use Rattle.ic_rbtree.specs.Comparing.{compared, HasRoom, Looks};
 ghost use Rattle.ic_rbtree.specs.Descents.{EndsAt};
 ghost use Rattle.ic_rbtree.specs.Insertion.{Attaches};
+ghost use Rattle.ic_rbtree.specs.Kept.{no_ends, TellsEnds, IsEmptied, IsBelow, ShowsWithEnds};
 ghost use Rattle.ic_rbtree.specs.Sides.{IsBeside};
 ghost use Rattle.ic_rbtree.specs.Transplants.{TakesAway, TakesPlace};
-ghost use Rattle.ic_rbtree.specs.Tree.{root_of, adapter_of};
+ghost use Rattle.ic_rbtree.specs.Tree.{head_of, root_in, root_of, ends_of, adapter_of};
 
 use crate::Probe;
+use crate::head::{Root, TreeHead, WithEnds};
 use crate::keys::descent::{Descent, descend};
 use crate::nodes::Nodes;
-use crate::repair::insertion::attach;
-use crate::repair::removal::unlink;
-use crate::repair::writers::take_place;
 use crate::within::{descend_within, step_within};
+use ic_link_ops::Side;
 use ic_link_ops::rbtree::RBTreeOps;
-use ic_link_ops::{PlaceWord, Side};
 use ic_unsafe_ref::{Place, Values};
 
 /// A red-black tree of objects in an order, of which it keeps the root, and the adapter that finds their keys.
 ///
-/// Good for objects in order that come and leave anywhere. Which sequence it has is what the table shows for its root.
-pub struct RBTree<A> {
-    pub(crate) root: PlaceWord,
+/// Good for objects in order that come and leave anywhere. Which sequence it has is what the table shows for its root. What it keeps beside
+/// the root is a parameter: nothing, or with [`WithEnds`](crate::WithEnds) its first and its last member.
+pub struct RBTree<A, E = Root> {
+    pub(crate) head: E,
     pub(crate) adapter: A,
 }
 
-impl<A: Drop> Drop for RBTree<A> {
+/// A tree that keeps its first and its last member beside its root.
+pub type RBTreeCached<A> = RBTree<A, WithEnds>;
+
+impl<A: Drop, E: Drop> Drop for RBTree<A, E> {
     fn drop(self) {
         let RBTree {
-            root: _,
+            head: _,
             adapter: _,
         } = self;
     }
 }
 
-impl<A: Default> Default for RBTree<A> {
-    ghost is_default = { λ t. (root_of t ≡ None) × A.is_default (adapter_of t) };
+impl<A: Default, E: TreeHead> Default for RBTree<A, E> {
+    ghost is_default = { λ t. IsEmptied (E.kept (head_of t)) × A.is_default (adapter_of t) };
 
     /// An empty tree with the adapter's default.
-    fn default() -> RBTree<A> {
-        RBTree::new(A::default())
+    fn default() -> RBTree<A, E> {
+        RBTree::empty(A::default())
     }
 }
 
@@ -62,7 +65,7 @@ impl<A> RBTree<A> {
         ensures empty { root_of result ≡ None }
         ensures adapter { adapter_of result ≡ adapter }
     {
-        RBTree::from_root(adapter, None)
+        RBTree::empty(adapter)
     }
 
     /// The tree with this root, as [`RBTree::root`] returns it, and this adapter. It reads no links. O(1).
@@ -74,7 +77,57 @@ impl<A> RBTree<A> {
         ensures adapter { adapter_of result ≡ adapter }
     {
         RBTree {
-            root: PlaceWord::of(root),
+            head: Root::of(root),
+            adapter,
+        }
+    }
+
+    /// The tree with its ends, which are read from the table. It requires that the tree is shown. O(log n).
+    pub fn keep_ends<L: RBTreeOps>(self, links: &L) -> RBTree<A, WithEnds>
+        requires shown { ShowsSome L.node (L.table links.now) (root_of self) }
+        ensures root { (ends_of result).root ≡ root_of self }
+        ensures ends { (s : List Place) → Shows L.node (L.table links.now) (root_of self) s → ShowsWithEnds L.node (L.table links.now) (ends_of result) s }
+        ensures adapter { adapter_of result ≡ adapter_of self }
+    {
+        let first = self.head.end(links, Side::Left);
+        let last = self.head.end(links, Side::Right);
+        let RBTree { head, adapter } = self;
+        RBTree {
+            head: WithEnds::of(head.root(), first, last),
+            adapter,
+        }
+    }
+}
+
+impl<A> RBTree<A, WithEnds> {
+    /// An empty tree with this adapter that keeps its ends: every table shows the empty sequence for it.
+    pub fn with_ends(adapter: A) -> RBTree<A, WithEnds>
+        ensures empty { ends_of result ≡ no_ends }
+        ensures adapter { adapter_of result ≡ adapter }
+    {
+        RBTree::empty(adapter)
+    }
+
+    /// The tree without its ends. O(1).
+    #[inline]
+    pub fn forget_ends(self) -> RBTree<A>
+        ensures root { root_of result ≡ (ends_of self).root }
+        ensures adapter { adapter_of result ≡ adapter_of self }
+    {
+        let RBTree { head, adapter } = self;
+        RBTree::from_root(adapter, head.root())
+    }
+}
+
+impl<A, E: TreeHead> RBTree<A, E> {
+    // An empty tree of either kind.
+    #[inline]
+    pub(crate) fn empty(adapter: A) -> RBTree<A, E>
+        ensures empty { IsEmptied (E.kept (head_of result)) }
+        ensures adapter { adapter_of result ≡ adapter }
+    {
+        RBTree {
+            head: E::empty(),
             adapter,
         }
     }
@@ -82,21 +135,21 @@ impl<A> RBTree<A> {
     /// The root, `None` where the tree has no members. It reads no links. O(1).
     #[inline]
     pub fn root(&self) -> Option<Place>
-        ensures { result ≡ root_of self.now }
+        ensures { result ≡ root_in E.kept self.now }
     {
-        self.root.get()
+        self.head.root()
     }
 
     /// Whether the tree has no members. It reads no links.
     #[inline]
     pub fn is_empty(&self) -> bool
-        ensures { IsTrue result ↔ (root_of self.now ≡ None) }
+        ensures { IsTrue result ↔ (root_in E.kept self.now ≡ None) }
     {
-        self.root.get().is_none()
+        self.head.root().is_none()
     }
 }
 
-impl<A: Copy> RBTree<A> {
+impl<A: Copy, E> RBTree<A, E> {
     /// The adapter that the tree was made with.
     #[inline]
     pub fn adapter(&self) -> A
@@ -108,7 +161,7 @@ impl<A: Copy> RBTree<A> {
 
 // The layer under the calls of a tree, over whatever has nodes. A set of places is closed if each of it is linked, and the
 // children and the parents of all of them and the root are none or in it.
-impl<A> RBTree<A> {
+impl<A, E: TreeHead> RBTree<A, E> {
     /// Puts `place` in on this side of `parent`, which has no child there, and repairs the colors. With no parent the tree is
     /// empty.
     ///
@@ -121,14 +174,16 @@ impl<A> RBTree<A> {
         side: Side,
         place: Place,
     )
-        requires { IsSafeBut N.node (N.table nodes.old) (root_of self.old) place (Some place ∷ parent ∷ []) }
-        ensures attached { Attaches N.node (N.table nodes.old) (N.table nodes.new) (root_of self.old) (root_of self.new) parent side place }
-        ensures safe { ClosesAt N.node (N.table nodes.old) (N.table nodes.new) (root_of self.old) (root_of self.new) place (Some place ∷ parent ∷ []) }
+        requires { IsSafeBut N.node (N.table nodes.old) (root_in E.kept self.old) place (Some place ∷ parent ∷ []) }
+        ensures attached { Attaches N.node (N.table nodes.old) (N.table nodes.new) (root_in E.kept self.old) (root_in E.kept self.new) parent side place }
+        ensures safe { ClosesAt N.node (N.table nodes.old) (N.table nodes.new) (root_in E.kept self.old) (root_in E.kept self.new) place (Some place ∷ parent ∷ []) }
         ensures linked { KeepsNodes N.node (N.table nodes.old) (N.table nodes.new) }
+        ensures ends { (gap : Cut) → IsBelow parent side gap → IsDistinct (join gap) → TellsEnds (E.kept (head_of self.old)) (join gap)
+            → TellsEnds (E.kept (head_of self.new)) (insert gap place) }
         ensures quiet { N.Quiet nodes.old nodes.new }
         ensures adapter { adapter_of self.new ≡ adapter_of self.old }
     {
-        attach(nodes, &mut self.root, parent, side, place);
+        self.head.attach(nodes, parent, side, place);
     }
 
     /// Takes the member at `place` out, and repairs the colors. The place stays linked.
@@ -136,14 +191,16 @@ impl<A> RBTree<A> {
     /// It requires a closed set that has `place`. It ends and leaves that set closed whatever the words say, and of a tree it makes
     /// one without `place`. O(log n).
     pub fn unlink<N: Nodes>(&mut self, nodes: &mut N, place: Place)
-        requires { IsSafe N.node (N.table nodes.old) (root_of self.old) (Some place ∷ []) }
-        ensures taken { TakesAway N.node (N.table nodes.old) (N.table nodes.new) (root_of self.old) (root_of self.new) place }
-        ensures safe { StaysClosed N.node (N.table nodes.old) (N.table nodes.new) (root_of self.old) (root_of self.new) (Some place ∷ []) [] }
+        requires { IsSafe N.node (N.table nodes.old) (root_in E.kept self.old) (Some place ∷ []) }
+        ensures taken { TakesAway N.node (N.table nodes.old) (N.table nodes.new) (root_in E.kept self.old) (root_in E.kept self.new) place }
+        ensures safe { StaysClosed N.node (N.table nodes.old) (N.table nodes.new) (root_in E.kept self.old) (root_in E.kept self.new) (Some place ∷ []) [] }
         ensures linked { KeepsNodes N.node (N.table nodes.old) (N.table nodes.new) }
+        ensures ends { (front back : List Place) → Shows N.node (N.table nodes.old) (root_in E.kept self.old) (front ++ place ∷ back)
+            → TellsEnds (E.kept (head_of self.old)) (front ++ place ∷ back) → TellsEnds (E.kept (head_of self.new)) (front ++ back) }
         ensures quiet { N.Quiet nodes.old nodes.new }
         ensures adapter { adapter_of self.new ≡ adapter_of self.old }
     {
-        unlink(nodes, &mut self.root, place);
+        self.head.unlink(nodes, place);
     }
 
     /// Puts `new` in place of the member at `place`, in its color. Both stay linked.
@@ -151,15 +208,17 @@ impl<A> RBTree<A> {
     /// It requires two places, and for a set that has both and is closed, but that `new` may lead anywhere. It leaves that set closed
     /// whatever the words say, and of a tree it makes one with `new` where `place` was. O(1).
     pub fn take_place<N: Nodes>(&mut self, nodes: &mut N, place: Place, new: Place)
-        requires safe { IsSafeBut N.node (N.table nodes.old) (root_of self.old) new (Some place ∷ Some new ∷ []) }
+        requires safe { IsSafeBut N.node (N.table nodes.old) (root_in E.kept self.old) new (Some place ∷ Some new ∷ []) }
         requires apart { place ≢ new }
-        ensures taken { TakesPlace N.node (N.table nodes.old) (N.table nodes.new) (root_of self.old) (root_of self.new) place new }
-        ensures safe { ClosesAt N.node (N.table nodes.old) (N.table nodes.new) (root_of self.old) (root_of self.new) new (Some place ∷ Some new ∷ []) }
+        ensures taken { TakesPlace N.node (N.table nodes.old) (N.table nodes.new) (root_in E.kept self.old) (root_in E.kept self.new) place new }
+        ensures safe { ClosesAt N.node (N.table nodes.old) (N.table nodes.new) (root_in E.kept self.old) (root_in E.kept self.new) new (Some place ∷ Some new ∷ []) }
         ensures linked { KeepsNodes N.node (N.table nodes.old) (N.table nodes.new) }
+        ensures ends { (front back : List Place) → IsDistinct (front ++ place ∷ back) → TellsEnds (E.kept (head_of self.old)) (front ++ place ∷ back)
+            → TellsEnds (E.kept (head_of self.new)) (front ++ new ∷ back) }
         ensures quiet { N.Quiet nodes.old nodes.new }
         ensures adapter { adapter_of self.new ≡ adapter_of self.old }
     {
-        take_place(nodes, &mut self.root, place, new);
+        self.head.take_place(nodes, place, new);
     }
 
     /// Where a step to a side leads from a position: to the member beside it, from null to the end on the other side, from that end
@@ -168,11 +227,11 @@ impl<A> RBTree<A> {
     /// It requires a closed set that has the position. It ends whatever the words say. O(log n), and O(1) on average over a walk.
     #[inline]
     pub fn step<N: Nodes>(&self, nodes: &N, current: Option<Place>, side: Side) -> Option<Place>
-        requires { IsSafe N.node (N.table nodes.now) (root_of self.now) (current ∷ []) }
-        ensures { (gap : Cut) → Shows N.node (N.table nodes.now) (root_of self.now) (join gap) → IsBeside side gap current
+        requires { IsSafe N.node (N.table nodes.now) (root_in E.kept self.now) (current ∷ []) }
+        ensures { (gap : Cut) → Shows N.node (N.table nodes.now) (root_in E.kept self.now) (join gap) → IsBeside side gap current
             → IsBeside (across side) gap result }
     {
-        step_within(nodes, self.root.get(), current, side)
+        step_within(nodes, self.head.root(), current, side)
     }
 
     /// Goes down from the root to the gap to which a probe sends: behind the members that are less than what is searched, in front of
@@ -188,15 +247,15 @@ impl<A> RBTree<A> {
         probe: &mut P,
         equals: Side,
     ) -> Descent
-        requires safe { IsSafeWith N.node (N.table nodes.now) (root_of self.now) (O.values values.now) }
+        requires safe { IsSafeWith N.node (N.table nodes.now) (root_in E.kept self.now) (O.values values.now) }
         requires room { HasRoom (P.count probe.old) }
-        ensures ends { (s : List Place) (h : Shows N.node (N.table nodes.now) (root_of self.now) s)
+        ensures ends { (s : List Place) (h : Shows N.node (N.table nodes.now) (root_in E.kept self.now) s)
             → EndsAt N.node (N.table nodes.now) (compared (P.order probe.old) (O.values values.now)) equals h.tree result }
-        ensures looks { (s : List Place) → Shows N.node (N.table nodes.now) (root_of self.now) s
+        ensures looks { (s : List Place) → Shows N.node (N.table nodes.now) (root_in E.kept self.now) s
             → Looks P.order P.count probe.old probe.new s }
-        ensures safe { (S : Place → Bool) → IsClosed N.node (N.table nodes.now) (root_of self.now) S → IsIn S result.parent }
+        ensures safe { (S : Place → Bool) → IsClosed N.node (N.table nodes.now) (root_in E.kept self.now) S → IsIn S result.parent }
     {
-        descend_within(nodes, self.root.get(), values, probe, equals)
+        descend_within(nodes, self.head.root(), values, probe, equals)
     }
 
     /// As [`search`](Self::search), in a table that shows a sequence for the tree: it counts no turns, and so is faster.
@@ -211,13 +270,13 @@ impl<A> RBTree<A> {
         probe: &mut P,
         equals: Side,
     ) -> Descent
-        requires placed { ShowsPlaced (Shows L.node (L.table links.now) (root_of self.now)) (O.values values.now) }
+        requires placed { ShowsPlaced (Shows L.node (L.table links.now) (root_in E.kept self.now)) (O.values values.now) }
         requires room { HasRoom (P.count probe.old) }
-        ensures ends { (s : List Place) (h : Shows L.node (L.table links.now) (root_of self.now) s)
+        ensures ends { (s : List Place) (h : Shows L.node (L.table links.now) (root_in E.kept self.now) s)
             → EndsAt L.node (L.table links.now) (compared (P.order probe.old) (O.values values.now)) equals h.tree result }
-        ensures looks { (s : List Place) → Shows L.node (L.table links.now) (root_of self.now) s
+        ensures looks { (s : List Place) → Shows L.node (L.table links.now) (root_in E.kept self.now) s
             → Looks P.order P.count probe.old probe.new s }
     {
-        descend(links, self.root.get(), values, probe, equals)
+        descend(links, self.head.root(), values, probe, equals)
     }
 }

@@ -5,30 +5,31 @@
 //! rest.dispose(&mut links);    // and its members are unlinked
 //! ```
 
-ghost use Rattle.std.specs.Prelude.{◌≡◌, None, List};
+ghost use Rattle.std.specs.Prelude.{◌≡◌, List};
 ghost use Rattle.ic_unsafe_ref.specs.declared.place.Place.{Place};
 ghost use Rattle.ic_link_ops.specs.Tables.{KeepsBeside};
 ghost use Rattle.ic_link_ops.specs.LinkSteps.{releases_each};
-ghost use Rattle.ic_link_ops.specs.RedBlackTree.{Shows, ShowsSome};
-ghost use Rattle.ic_rbtree.specs.Tree.{root_of, adapter_of};
+ghost use Rattle.ic_rbtree.specs.Kept.{ShowsKept, ShowsKeptSome, IsEmptied};
+ghost use Rattle.ic_rbtree.specs.Tree.{head_of, adapter_of};
 
+use crate::head::TreeHead;
 use crate::{KeyAdapter, RBTree};
 use ic_link_ops::LinkOps;
 use ic_link_ops::rbtree::RBTreeOps;
 use std::mem;
 
-impl<A: KeyAdapter> RBTree<A> {
+impl<A: KeyAdapter, E: TreeHead> RBTree<A, E> {
     /// Takes all objects off the tree: each member is unlinked, in order, and the tree is empty.
     ///
     /// One step for each member, and no memory. Trees that share no member with this one stay.
     pub fn clear<L: RBTreeOps>(&mut self, links: &mut L)
-        requires shown { ShowsSome L.node (L.table links.old) (root_of self.old) }
+        requires shown { ShowsKeptSome E.kept L.node (L.table links.old) (head_of self.old) }
 
-        ensures empty { root_of self.new ≡ None }
+        ensures empty { IsEmptied (E.kept (head_of self.new)) }
         ensures adapter { adapter_of self.new ≡ adapter_of self.old }
-        ensures released { (s : List Place) → Shows L.node (L.table links.old) (root_of self.old) s
+        ensures released { (s : List Place) → ShowsKept E.kept L.node (L.table links.old) (head_of self.old) s
             → L.Does links.old links.new (releases_each s) }
-        ensures frame { (s : List Place) → Shows L.node (L.table links.old) (root_of self.old) s
+        ensures frame { (s : List Place) → ShowsKept E.kept L.node (L.table links.old) (head_of self.old) s
             → KeepsBeside (L.table links.old) (L.table links.new) s }
     {
         self.take().dispose(links);
@@ -36,25 +37,25 @@ impl<A: KeyAdapter> RBTree<A> {
 
     /// Takes all objects off a tree that is given up. What [`clear`](Self::clear) says of the table holds here as well.
     pub fn dispose<L: RBTreeOps>(self, links: &mut L)
-        requires shown { ShowsSome L.node (L.table links.old) (root_of self) }
+        requires shown { ShowsKeptSome E.kept L.node (L.table links.old) (head_of self) }
 
-        ensures released { (s : List Place) → Shows L.node (L.table links.old) (root_of self) s
+        ensures released { (s : List Place) → ShowsKept E.kept L.node (L.table links.old) (head_of self) s
             → L.Does links.old links.new (releases_each s) }
-        ensures frame { (s : List Place) → Shows L.node (L.table links.old) (root_of self) s
+        ensures frame { (s : List Place) → ShowsKept E.kept L.node (L.table links.old) (head_of self) s
             → KeepsBeside (L.table links.old) (L.table links.new) s }
     {
         self.into_iter(links).finish();
     }
 }
 
-impl<A: Copy> RBTree<A> {
+impl<A: Copy, E: TreeHead> RBTree<A, E> {
     /// Empties the tree, and leaves the objects that were in it linked. O(1): it reads no table.
     ///
     /// A linked object goes into no tree, until the table is made to forget its link, by the call `force_unlink` of a
     /// plain one.
     #[inline]
     pub fn fast_clear(&mut self)
-        ensures empty { root_of self.new ≡ None }
+        ensures empty { IsEmptied (E.kept (head_of self.new)) }
         ensures adapter { adapter_of self.new ≡ adapter_of self.old }
     {
         let _ = self.take();
@@ -62,12 +63,12 @@ impl<A: Copy> RBTree<A> {
 
     /// Hands out all of the tree, and leaves it empty. O(1): it reads no table, and no link changes.
     #[inline]
-    pub fn take(&mut self) -> RBTree<A>
+    pub fn take(&mut self) -> RBTree<A, E>
         ensures whole { result ≡ self.old }
-        ensures empty { root_of self.new ≡ None }
+        ensures empty { IsEmptied (E.kept (head_of self.new)) }
         ensures adapter { adapter_of self.new ≡ adapter_of self.old }
     {
         let adapter = self.adapter;
-        mem::replace(self, RBTree::new(adapter))
+        mem::replace(self, RBTree::empty(adapter))
     }
 }

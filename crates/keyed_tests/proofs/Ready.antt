@@ -1,14 +1,28 @@
 -- That a tree without members is ready, and that the room for summaries stays.
-use Rattle.std.proofs.Common.{◌≡◌, ◌<◌, Option, None, [], refl, subst, true, sym, ◌∙◌, Bool, false, Result, Ok, Err, OnOk, OnErr, IfErr, arith}
+use Rattle.std.proofs.Common.{◌≡◌, ◌<◌, Option, None, List, [], ◌∷◌, refl, subst, true, sym, ap, ◌∙◌, Bool, false, Result, Ok, Err, OnOk, OnErr, IfErr, arith}
+use Rattle.std.specs.declared.cmp.Ordering.{Ordering}
 use Rattle.std.specs.Result.{is_ok}
 use Rattle.ic_unsafe_ref.specs.declared.place.Place.{Place}
+use Rattle.ic_unsafe_ref.specs.Objects.{Objects, is_placed}
 use Rattle.ic_unsafe_ref.specs.Places.{index_of}
-use Rattle.ic_link_ops.specs.RedBlackTree.{Node}
+use Rattle.ic_link_ops.specs.LinkSteps.{LinkStep, acquires}
+use Rattle.ic_link_ops.specs.PlacedObjects.{ShowsPlaced}
+use Rattle.ic_link_ops.specs.RedBlackTree.{Node, Shows}
+use Rattle.ic_link_ops.specs.Sequences.{insert}
 use Rattle.ic_link_ops.specs.Tables.{Table, Extent, IsCovered, IsLinked}
 use Rattle.ic_link_ops.specs.Trees.{leaf}
+use Rattle.ic_link_ops.proofs.Each.{all_members}
+use Rattle.ic_link_ops.proofs.ShownTrees.{holds_linked}
 use Rattle.ic_rbtree.specs.Closed.{IsNode}
+use Rattle.ic_rbtree.specs.Ordered.{InsertsInOrder}
+use Rattle.ic_rbtree.specs.Tree.{root_of}
+use Rattle.ic_rbtree.specs.declared.tree.RBTree.{RBTree}
 use Rattle.ic_augmented.specs.Consistent.{ShowsConsistent, ShowsSummed}
+use Rattle.ic_augmented.specs.Summed.{links_of, sums_of}
+use Rattle.ic_augmented.specs.SummedSteps.{DoesSummed}
 use Rattle.ic_augmented.specs.Sums.{Sums}
+use Rattle.ic_augmented.specs.declared.summed.Summed.{Summed}
+use Rattle.ic_augmented.proofs.StepLemmas.{inserted_right}
 
 -- nothing is shown, summed, of a tree with no root
 pub nothing_summed : {E S : Type 0} {n : E → Node} (z : Sums S) (t : Table E) {root : Option Place} → root ≡ None → ShowsSummed n z t root []
@@ -44,6 +58,35 @@ if_err_map follows (Err y) holds = follows y holds
 pub either_answer : {X Y P Q Goal : Type 0} (F : Y → Type 0) (r : Result X Y) → OnOk r P → OnErr r Q → IfErr r F → (P → Goal) → (Q → (y : Y) → F y → Goal) → Goal
 either_answer F (Ok x) holds refused unchanged accepts refuses = accepts holds
 either_answer F (Err y) holds refused unchanged accepts refuses = refuses refused y unchanged
+
+-- a value stands at each member of a tree, if one stands wherever a place is linked
+pub members_placed : {E T : Type 0} (n : E → Node) {v : Table E} {root : Option Place} {s : List Place} (objects : Objects T) → Shows n v root s
+    → ((p : Place) → (n (v.entry p)).linked ≡ true → is_placed objects p ≡ true) → ShowsPlaced (Shows n v root) objects
+members_placed n {s = s} objects shown linked = record { members = s; shown = shown; placed = all_members s (λ p member. linked p (holds_linked shown.held member)) }
+
+-- AFTER AN INSERT, whatever it answered, each fresh summary is right, and there is as much room
+module _ {N M E S A : Type 0} (Does : N → N → List LinkStep → Type 0) (n : E → Node) (table : N → Table E) (sums : M → Sums S) (Covers : M → Place → Type 0) (Refused : N → N → Place → Type 0)
+    (keeps : (a b : N) (p : Place) → Refused a b p → table b ≡ table a) (old new : Summed N M) (tree after : RBTree A (Option Place)) (p : Place) where
+  pub record AfterInsert : Type 0 where
+    pub members : List Place
+    pub right : ShowsConsistent n (sums (sums_of new)) (table (links_of new)) (root_of after) members
+    pub covers : (q : Place) → Covers (sums_of old) q → Covers (sums_of new) q
+    pub extent : (table (links_of new)).extent ≡ (table (links_of old)).extent
+
+  pub after_insert : {X Y : Type 0} (F : Y → Type 0) (at : Place → Ordering) (r : Result X Y) (s : List Place) → ShowsConsistent n (sums (sums_of old)) (table (links_of old)) (root_of tree) s
+      → OnOk r (InsertsInOrder (Shows n) at (table (links_of old)) (table (links_of new)) (root_of after) s p) → OnOk r (DoesSummed Does n table sums Covers old new (acquires p ∷ []))
+      → OnErr r (Refused (links_of old) (links_of new) p × (sums_of new ≡ sums_of old)) → IfErr r (λ y. F y × (after ≡ tree)) → AfterInsert
+  after_insert F at (Ok x) s h inserted does refused unchanged =
+      let i = inserted_right does h.1 inserted in
+      record { members = insert i.gap p; right = i.inserted.shows; covers = does.covers; extent = i.inserted.frame.extent }
+  after_insert F at (Err y) s h inserted does refused unchanged =
+      let same = keeps (links_of old) (links_of new) p refused.0 in
+      record {
+        members = s;
+        right = rw (same, refused.1, unchanged.1) h;
+        covers = λ q k. subst (λ (m : M). Covers m q) (sym refused.1) k;
+        extent = ap (λ (t : Table E). t.extent) same;
+      }
 
 -- there is room at each place that is covered now, and at each linked one, where the table covers as many places as before
 module _ {L E : Type 0} (node : E → Node) (table : L → Table E) (linked : E → Bool) (alike : (e : E) → (node e).linked ≡ linked e)

@@ -1,5 +1,5 @@
 -- A tree whose summaries are fresh, with room for one at each place.
-use Rattle.std.specs.Prelude.{ℕ, ◌<◌, List}
+use Rattle.std.specs.Prelude.{Option, ℕ, ◌<◌, List}
 use Rattle.ic_unsafe_ref.specs.declared.place.Place.{Place}
 use Rattle.ic_unsafe_ref.specs.Objects.{Objects}
 use Rattle.ic_unsafe_ref.specs.Places.{index_of}
@@ -18,7 +18,7 @@ use Rattle.ic_augmented.specs.declared.summed.Summed.{Summed}
 
 module _ {N M E S A : Type 0} (n : E → Node) (table : N → Table E) (sums : M → Sums S) (Covers : M → Place → Type 0) where
   -- THE TREE IS READY for questions and for edits
-  pub record IsReady (tree : RBTree A) (summed : Summed N M) : Type 0 where
+  pub record IsReady (tree : RBTree A (Option Place)) (summed : Summed N M) : Type 0 where
     pub members : List Place
     pub shown : ShowsSummed n (sums (sums_of summed)) (table (links_of summed)) (root_of tree) members
     pub consistent : ShowsConsistent n (sums (sums_of summed)) (table (links_of summed)) (root_of tree) members
@@ -26,6 +26,6 @@ module _ {N M E S A : Type 0} (n : E → Node) (table : N → Table E) (sums : M
 
 -- INTERVALS, ready for questions and for edits: each starts at its key, by which the tree is in order, and ends at its number
 module _ {N E A B : Type 0} (n : E → Node) (table : N → Table E) (starts : N → Objects ℕ) where
-  pub record AreIntervals (tree : RBTree A) (summed : Summed N (SumTable ℕ ℕ B)) : Type 0 where
+  pub record AreIntervals (tree : RBTree A (Option Place)) (summed : Summed N (SumTable ℕ ℕ B)) : Type 0 where
     pub ready : IsReady n table greatest (λ sums q. index_of q < room_of sums) tree summed
     pub sorted : ShowsSorted (λ (start : ℕ). start) (Shows n (table (links_of summed)) (root_of tree)) (starts (links_of summed))

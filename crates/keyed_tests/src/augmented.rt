@@ -24,7 +24,7 @@ use crate::asserts::assert_same;
 use crate::keyed::{OwnKey, keyed_links};
 use ic_augmented::{
     Counts, Greatest, Joins, RenewSums, SumTable, Summed, first_greater, first_overlap, index_of,
-    insert_keyed, len, nth, propagate, refresh, remove, set_value,
+    len, nth, propagate, refresh, set_value,
 };
 use ic_link_ops::LinkValues;
 use ic_link_ops::rbtree::{LinkOpsWith, RBTreeOps};
@@ -63,7 +63,7 @@ fn put<A: KeyAdapter, L: RBTreeOps + LinkValues<A::Value>, M: RenewSums>(
     ensures ready { IsReady L.node L.table M.sums M.Covers tree.new summed.new }
     ensures extent { (L.table (links_of summed.new)).extent ≡ (L.table (links_of summed.old)).extent }
 {
-    let _ = insert_keyed(tree, summed, object);
+    let _ = tree.insert_keyed(summed, object);
     refresh(tree, summed);
 }
 
@@ -80,7 +80,7 @@ fn put_and_propagate<A: KeyAdapter, L: RBTreeOps + LinkValues<A::Value>, M: Rene
     ensures extent { (L.table (links_of summed.new)).extent ≡ (L.table (links_of summed.old)).extent }
 {
     let place = object.place();
-    let inserted = insert_keyed(tree, summed, object);
+    let inserted = tree.insert_keyed(summed, object);
     assert!(rt; inserted.is_ok());
     propagate(summed, place);
 }
@@ -102,7 +102,7 @@ fn position_of_nth<T, N: Nodes, A: Allocator>(
 }
 
 // Takes the member at a position out, if there is one, and renews the counts.
-fn take_nth<T, L: RBTreeOps, A: Allocator>(
+fn take_nth<T: KeyAdapter, L: RBTreeOps, A: Allocator>(
     tree: &mut RBTree<T>,
     summed: &mut Summed<L, Counts<A>>,
     position: u64,
@@ -113,7 +113,7 @@ fn take_nth<T, L: RBTreeOps, A: Allocator>(
     let Some(place) = nth(tree, summed, position) else {
         return None;
     };
-    remove(tree, summed, place);
+    tree.remove(summed, &UnsafeRef::new(place));
     refresh(tree, summed);
     Some(place)
 }

@@ -15,7 +15,7 @@ ghost use Rattle.region_allocator.specs.Neighbors.{IsFound, FitsFirst, AreNeighb
 use crate::FreeError;
 use crate::neighbors::{Found, ending_at, look_up, starting_at};
 use crate::region::{ByStart, Region};
-use ic_augmented::{Greatest, Summed, first_greater, insert, refresh, remove, set_value};
+use ic_augmented::{Greatest, Summed, first_greater, refresh, set_value};
 use ic_link_ops::rbtree::LinkOps;
 use ic_pool::{PlaceError, Pool};
 use ic_rbtree::{Bound, RBTree};
@@ -113,7 +113,7 @@ impl<A: Allocator> FreeRegions<A> {
         };
         let Pool { objects, links } = &mut self.pool;
         set_value(links, object.place(), region.length);
-        let _ = insert(&mut self.by_start, links, objects, object); // proved: it is not linked
+        let _ = self.by_start.insert(links, objects, object); // proved: it is not linked
         Ok(())
     }
 
@@ -126,7 +126,7 @@ impl<A: Allocator> FreeRegions<A> {
             → Adds out (regions_of self.new) (regions_of self.old) }
         ensures others { (p : Place) → p ≢ object → object_at self.new.pool.objects p ≡ object_at self.old.pool.objects p }
     {
-        remove(&mut self.by_start, &mut self.pool.links, object.place());
+        self.by_start.remove(&mut self.pool.links, &object);
         self.pool.remove(object);
     }
 

@@ -4,14 +4,14 @@ ghost use Rattle.std.specs.Prelude.{◌≡◌, true};
 ghost use Rattle.ic_unsafe_ref.specs.Objects.{is_placed};
 ghost use Rattle.ic_link_ops.specs.PlacedObjects.{ShowsPlaced};
 ghost use Rattle.ic_link_ops.specs.Tables.{IsCovered};
-ghost use Rattle.ic_rbtree_cached.specs.Ends.{ShowsCached, ShowsCachedSome};
-ghost use Rattle.ic_rbtree_cached.specs.Tree.{ends_of};
+ghost use Rattle.ic_rbtree.specs.Kept.{ended, ShowsWithEnds, ShowsKeptSome};
+ghost use Rattle.ic_rbtree.specs.Tree.{ends_of};
 
 use crate::notes::{assert_words, write_object};
 use crate::tree::trees::OwnKey;
 use ic_link_ops::LinkOps;
 use ic_link_ops::rbtree::RBTreeOps;
-use ic_rbtree_cached::RBTreeCached;
+use ic_rbtree::{RBTree, WithEnds};
 use ic_test_support::answers::write_places;
 use ic_test_support::notes::{Answer, Text};
 use ic_test_support::objects::{TENS, eight_objects, reference};
@@ -20,24 +20,24 @@ use ic_unsafe_ref::{Objects, UnsafeRef};
 // Puts the object in where its key belongs, and notes the first member and the last one.
 fn write_inserted<L: RBTreeOps>(
     notes: &mut Text,
-    tree: &mut RBTreeCached<OwnKey>,
+    tree: &mut RBTree<OwnKey, WithEnds>,
     links: &mut L,
     objects: &Objects<u64>,
     object: UnsafeRef<u64>,
 )
     requires covered { IsCovered (L.table links.old) object }
     requires object { is_placed objects.now object ≡ true }
-    requires placed { ShowsPlaced (ShowsCached L.node (L.table links.old) (ends_of tree.old)) objects.now }
-    ensures placed { ShowsPlaced (ShowsCached L.node (L.table links.new) (ends_of tree.new)) objects.now }
+    requires placed { ShowsPlaced (ShowsWithEnds L.node (L.table links.old) (ends_of tree.old)) objects.now }
+    ensures placed { ShowsPlaced (ShowsWithEnds L.node (L.table links.new) (ends_of tree.new)) objects.now }
     ensures extent { (L.table links.new).extent ≡ (L.table links.old).extent }
 {
     let _ = tree.insert(links, objects, object);
-    write_places(notes, &[tree.first(), tree.last()]);
+    write_places(notes, &[tree.first(links), tree.last(links)]);
 }
 
-// Takes the first object off and the last one, and notes them and the ends that are left, and whether the tree without its ends is empty.
-fn write_taken<L: RBTreeOps>(notes: &mut Text, tree: &mut RBTreeCached<OwnKey>, links: &mut L)
-    requires shown { ShowsCachedSome L.node (L.table links.old) (ends_of tree.old) }
+// Takes the first object off and the last one, and notes them and the ends that are left, and whether the tree is empty.
+fn write_taken<L: RBTreeOps>(notes: &mut Text, tree: &mut RBTree<OwnKey, WithEnds>, links: &mut L)
+    requires shown { ShowsKeptSome ended L.node (L.table links.old) (ends_of tree.old) }
 {
     let first = tree.pop_front(links);
     let last = tree.pop_back(links);
@@ -47,24 +47,32 @@ fn write_taken<L: RBTreeOps>(notes: &mut Text, tree: &mut RBTreeCached<OwnKey>, 
         notes,
         &[tree.front(links).get_ptr(), tree.back(links).get_ptr()],
     );
-    notes.add(Answer::Truth(tree.tree().is_empty()), " ");
+    notes.add(Answer::Truth(tree.is_empty()), " ");
 }
 
 // Splits the tree in front of its last member, and appends the rest again, and notes the ends of both parts and of the whole.
-fn write_split<L: RBTreeOps>(notes: &mut Text, tree: &mut RBTreeCached<OwnKey>, links: &mut L)
-    requires shown { ShowsCachedSome L.node (L.table links.old) (ends_of tree.old) }
-    ensures shown { ShowsCachedSome L.node (L.table links.new) (ends_of tree.new) }
+fn write_split<L: RBTreeOps>(notes: &mut Text, tree: &mut RBTree<OwnKey, WithEnds>, links: &mut L)
+    requires shown { ShowsKeptSome ended L.node (L.table links.old) (ends_of tree.old) }
+    ensures shown { ShowsKeptSome ended L.node (L.table links.new) (ends_of tree.new) }
 {
-    let Some(last) = tree.last() else {
+    let Some(last) = tree.last(links) else {
         return;
     };
     let mut rest = tree.split_off(links, &UnsafeRef::new(last));
     write_places(
         notes,
-        &[tree.first(), tree.last(), rest.first(), rest.last()],
+        &[
+            tree.first(links),
+            tree.last(links),
+            rest.first(links),
+            rest.last(links),
+        ],
     );
     tree.append(links, &mut rest);
-    write_places(notes, &[tree.first(), tree.last(), rest.first()]);
+    write_places(
+        notes,
+        &[tree.first(links), tree.last(links), rest.first(links)],
+    );
 }
 
 #[test]
@@ -72,7 +80,7 @@ fn ends(rt: HostRuntime) {
     let alloc = rt.alloc();
     let mut notes = Text::new(alloc);
     let (objects, mut links) = eight_objects(alloc, TENS).expect(&rt, "memory");
-    let mut tree = RBTreeCached::new(OwnKey);
+    let mut tree = RBTree::with_ends(OwnKey);
     write_inserted(&mut notes, &mut tree, &mut links, &objects, reference(2));
     write_inserted(&mut notes, &mut tree, &mut links, &objects, reference(4));
     write_inserted(&mut notes, &mut tree, &mut links, &objects, reference(1));

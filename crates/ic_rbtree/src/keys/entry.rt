@@ -8,14 +8,15 @@ ghost use Rattle.std.specs.Prelude.{◌≡◌, Ok, Some, IsSome, List, codes};
 ghost use Rattle.ic_unsafe_ref.specs.declared.place.Place.{Place};
 ghost use Rattle.ic_link_ops.specs.PlacedObjects.{ShowsPlaced};
 ghost use Rattle.ic_link_ops.specs.Positions.{Stands};
-ghost use Rattle.ic_link_ops.specs.RedBlackTree.{Shows};
 ghost use Rattle.ic_link_ops.specs.Tables.{IsCovered};
 ghost use Rattle.ic_rbtree.specs.Borders.{Finds};
 ghost use Rattle.ic_rbtree.specs.Comparing.{compared, order_of, HasRoom, Looks};
 ghost use Rattle.ic_rbtree.specs.CursorMut as editing;
 ghost use Rattle.ic_rbtree.specs.Entry.{IfOccupied, IfVacant, IsVacantFor, CanInsert, InsertsInto, links_of, IsBorrowed};
-ghost use Rattle.ic_rbtree.specs.Tree.{root_of, adapter_of};
+ghost use Rattle.ic_rbtree.specs.Kept.{ShowsKept};
+ghost use Rattle.ic_rbtree.specs.Tree.{head_of, adapter_of};
 
+use crate::head::{Root, TreeHead};
 use crate::keys::descent::descend;
 use crate::linking::insert;
 use crate::{CursorMut, KeyAdapter, KeyProbe, Probe, RBTree};
@@ -26,14 +27,14 @@ use std::error::Error;
 use std::fmt;
 
 /// The gap of a tree where a key would stand that no member has, with the tree and the table of its links.
-pub struct InsertCursor<'a, A, L> {
-    tree: &'a mut RBTree<A>,
+pub struct InsertCursor<'a, A, L, E = Root> {
+    tree: &'a mut RBTree<A, E>,
     links: &'a mut L,
     parent: PlaceWord,
     side: Side,
 }
 
-impl<A, L> Drop for InsertCursor<'_, A, L> {
+impl<A, L, E> Drop for InsertCursor<'_, A, L, E> {
     fn drop(self)
         ensures tree { self.exit.0.now ≡ self.entry.tree.now }
         ensures links { self.exit.1.0.now ≡ self.entry.links.now }
@@ -49,21 +50,21 @@ impl<A, L> Drop for InsertCursor<'_, A, L> {
 
 /// An insert that was refused, since the object is linked: the gap, as it was, and the object.
 #[derive(Drop)]
-pub struct RefusedInsert<'a, A: KeyAdapter, L> {
+pub struct RefusedInsert<'a, A: KeyAdapter, L, E = Root> {
     /// The gap, in a tree and a table as they were.
-    pub gap: InsertCursor<'a, A, L>,
+    pub gap: InsertCursor<'a, A, L, E>,
     /// The object that came back.
     pub object: UnsafeRef<A::Value>,
 }
 
 /// It prints the place of the object.
-impl<A: KeyAdapter, L> fmt::Debug for RefusedInsert<'_, A, L> {
+impl<A: KeyAdapter, L, E> fmt::Debug for RefusedInsert<'_, A, L, E> {
     fn fmt<W: fmt::Write>(&self, f: &mut fmt::Formatter<W>) -> fmt::Result {
         f.debug_tuple("RefusedInsert").field(&self.object).finish()
     }
 }
 
-impl<A: KeyAdapter, L> fmt::Display for RefusedInsert<'_, A, L> {
+impl<A: KeyAdapter, L, E> fmt::Display for RefusedInsert<'_, A, L, E> {
     ghost output = { λ _. Some (codes "the object is linked already") };
 
     fn fmt<W: fmt::Write>(&self, f: &mut fmt::Formatter<W>) -> fmt::Result {
@@ -71,18 +72,18 @@ impl<A: KeyAdapter, L> fmt::Display for RefusedInsert<'_, A, L> {
     }
 }
 
-impl<A: KeyAdapter, L> Error for RefusedInsert<'_, A, L> {}
+impl<A: KeyAdapter, L, E> Error for RefusedInsert<'_, A, L, E> {}
 
 /// What `entry` finds: a cursor on the first member with the key, or the gap where it would stand.
 #[derive(Drop)]
-pub enum Entry<'a, A: KeyAdapter, L> {
+pub enum Entry<'a, A: KeyAdapter, L, E: TreeHead = Root> {
     /// A member has the key.
-    Occupied(CursorMut<'a, A, L>),
+    Occupied(CursorMut<'a, A, L, E>),
     /// No member that was looked at has it.
-    Vacant(InsertCursor<'a, A, L>),
+    Vacant(InsertCursor<'a, A, L, E>),
 }
 
-impl<A: KeyAdapter> RBTree<A> {
+impl<A: KeyAdapter, E: TreeHead> RBTree<A, E> {
     /// The first member that compares equal, or the gap where the search ended.
     ///
     /// It requires that all members are placed, and that the probe's count is at most `u64::MAX - 66`. It descends as `find_by`.
@@ -92,20 +93,20 @@ impl<A: KeyAdapter> RBTree<A> {
         links: &'a mut L,
         objects: &O,
         probe: &mut P,
-    ) -> Entry<'a, A, L>
-        requires placed { ShowsPlaced (Shows L.node (L.table links.old) (root_of self.old)) (O.values objects.now) }
+    ) -> Entry<'a, A, L, E>
+        requires placed { ShowsPlaced (ShowsKept E.kept L.node (L.table links.old) (head_of self.old)) (O.values objects.now) }
         requires room { HasRoom (P.count probe.old) }
-        ensures occupied { (s : List Place) → Shows L.node (L.table links.old) (root_of self.old) s → IfOccupied result (λ c.
+        ensures occupied { (s : List Place) → ShowsKept E.kept L.node (L.table links.old) (head_of self.old) s → IfOccupied result (λ c.
             Finds (compared (P.order probe.old) (O.values objects.now)) s (editing.position c) × IsSome (editing.position c)) }
-        ensures stands { IfOccupied result (λ c. Stands (Shows L.node) L.table (editing.site_of c)) }
-        ensures vacant { (s : List Place) → Shows L.node (L.table links.old) (root_of self.old) s → IfVacant result (λ v.
+        ensures stands { IfOccupied result (λ c. Stands (ShowsKept E.kept L.node) L.table (editing.site_of c)) }
+        ensures vacant { (s : List Place) → ShowsKept E.kept L.node (L.table links.old) (head_of self.old) s → IfVacant result (λ v.
             IsVacantFor L.node (compared (P.order probe.old) (O.values objects.now)) (L.table links.old) s v) }
         ensures occupied_borrows { IfOccupied result (editing.IsBorrowed self.entry links.entry) }
         ensures vacant_borrows { IfVacant result (IsBorrowed self.entry links.entry) }
-        ensures looks { (s : List Place) → Shows L.node (L.table links.old) (root_of self.old) s
+        ensures looks { (s : List Place) → ShowsKept E.kept L.node (L.table links.old) (head_of self.old) s
             → Looks P.order P.count probe.old probe.new s }
     {
-        let root = self.root.get();
+        let root = self.head.root();
         let descent = descend(&*links, root, objects, probe, Side::Left);
         if descent.is_equal() {
             let current = PlaceWord::of(descent.back.get());
@@ -126,13 +127,13 @@ impl<A: KeyAdapter> RBTree<A> {
         links: &'a mut L,
         objects: &O,
         key: &A::Key,
-    ) -> Entry<'a, A, L>
-        requires placed { ShowsPlaced (Shows L.node (L.table links.old) (root_of self.old)) (O.values objects.now) }
-        ensures occupied { (s : List Place) → Shows L.node (L.table links.old) (root_of self.old) s → IfOccupied result (λ c.
+    ) -> Entry<'a, A, L, E>
+        requires placed { ShowsPlaced (ShowsKept E.kept L.node (L.table links.old) (head_of self.old)) (O.values objects.now) }
+        ensures occupied { (s : List Place) → ShowsKept E.kept L.node (L.table links.old) (head_of self.old) s → IfOccupied result (λ c.
             Finds (compared (order_of A.Key.cmp (A.key_of (adapter_of self.old)) key.now) (O.values objects.now)) s (editing.position c)
             × IsSome (editing.position c)) }
-        ensures stands { IfOccupied result (λ c. Stands (Shows L.node) L.table (editing.site_of c)) }
-        ensures vacant { (s : List Place) → Shows L.node (L.table links.old) (root_of self.old) s → IfVacant result (λ v.
+        ensures stands { IfOccupied result (λ c. Stands (ShowsKept E.kept L.node) L.table (editing.site_of c)) }
+        ensures vacant { (s : List Place) → ShowsKept E.kept L.node (L.table links.old) (head_of self.old) s → IfVacant result (λ v.
             IsVacantFor L.node (compared (order_of A.Key.cmp (A.key_of (adapter_of self.old)) key.now) (O.values objects.now))
             (L.table links.old) s v) }
         ensures occupied_borrows { IfOccupied result (editing.IsBorrowed self.entry links.entry) }
@@ -143,7 +144,7 @@ impl<A: KeyAdapter> RBTree<A> {
     }
 }
 
-impl<'a, A: KeyAdapter, L: RBTreeOps> InsertCursor<'a, A, L> {
+impl<'a, A: KeyAdapter, L: RBTreeOps, E: TreeHead> InsertCursor<'a, A, L, E> {
     /// Inserts the object at the gap, whatever its key is, unless its link is refused. The cursor that it answers is on the object.
     ///
     /// It requires that the object's place is covered. A refused object comes back with the gap, and tree and table are as they were.
@@ -151,10 +152,10 @@ impl<'a, A: KeyAdapter, L: RBTreeOps> InsertCursor<'a, A, L> {
     pub fn insert(
         self,
         object: UnsafeRef<A::Value>,
-    ) -> Result<CursorMut<'a, A, L>, RefusedInsert<'a, A, L>>
+    ) -> Result<CursorMut<'a, A, L, E>, RefusedInsert<'a, A, L, E>>
         requires covered { IsCovered (L.table (links_of self)) object }
-        requires vacant { CanInsert L.node L.table self }
-        ensures { InsertsInto L.node L.table L.Does L.Refused self.entry object result }
+        requires vacant { CanInsert E.kept L.node L.table self }
+        ensures { InsertsInto E.kept L.node L.table L.Does L.Refused self.entry object result }
     {
         let InsertCursor {
             tree,
@@ -162,7 +163,7 @@ impl<'a, A: KeyAdapter, L: RBTreeOps> InsertCursor<'a, A, L> {
             parent,
             side,
         } = self;
-        if !insert(links, &mut tree.root, parent.get(), side, object.place()) {
+        if !insert(links, &mut tree.head, parent.get(), side, object.place()) {
             let gap = InsertCursor {
                 tree,
                 links,
@@ -176,7 +177,7 @@ impl<'a, A: KeyAdapter, L: RBTreeOps> InsertCursor<'a, A, L> {
     }
 }
 
-impl<'a, A: KeyAdapter, L: RBTreeOps> Entry<'a, A, L> {
+impl<'a, A: KeyAdapter, L: RBTreeOps, E: TreeHead> Entry<'a, A, L, E> {
     /// The cursor on the member that has the key, or on the object, which is inserted where the key would stand.
     ///
     /// Where the entry is vacant, it requires that the object's place is covered; a refused object comes back with the gap, and tree
@@ -184,11 +185,11 @@ impl<'a, A: KeyAdapter, L: RBTreeOps> Entry<'a, A, L> {
     pub fn or_insert(
         self,
         object: UnsafeRef<A::Value>,
-    ) -> Result<CursorMut<'a, A, L>, RefusedInsert<'a, A, L>>
+    ) -> Result<CursorMut<'a, A, L, E>, RefusedInsert<'a, A, L, E>>
         requires covered { IfVacant self (λ v. IsCovered (L.table (links_of v)) object) }
-        requires vacant { IfVacant self (CanInsert L.node L.table) }
+        requires vacant { IfVacant self (CanInsert E.kept L.node L.table) }
         ensures occupied { IfOccupied self.entry (λ c. result ≡ Ok c) }
-        ensures vacant { IfVacant self.entry (λ v. InsertsInto L.node L.table L.Does L.Refused v object result) }
+        ensures vacant { IfVacant self.entry (λ v. InsertsInto E.kept L.node L.table L.Does L.Refused v object result) }
     {
         match self {
             Entry::Occupied(cursor) => Ok(cursor),
@@ -200,13 +201,13 @@ impl<'a, A: KeyAdapter, L: RBTreeOps> Entry<'a, A, L> {
     pub fn or_insert_with<F: FnOnce() -> UnsafeRef<A::Value>>(
         self,
         make: F,
-    ) -> Result<CursorMut<'a, A, L>, RefusedInsert<'a, A, L>>
+    ) -> Result<CursorMut<'a, A, L, E>, RefusedInsert<'a, A, L, E>>
         requires callable { IfVacant self (λ v. F.pre make) }
         requires covered { IfVacant self (λ v. (object : Place) → F.post make object → IsCovered (L.table (links_of v)) object) }
-        requires vacant { IfVacant self (CanInsert L.node L.table) }
+        requires vacant { IfVacant self (CanInsert E.kept L.node L.table) }
         ensures occupied { IfOccupied self.entry (λ c. result ≡ Ok c) }
         ensures vacant { IfVacant self.entry (λ v. (object : Place) × F.post make object
-            × InsertsInto L.node L.table L.Does L.Refused v object result) }
+            × InsertsInto E.kept L.node L.table L.Does L.Refused v object result) }
     {
         match self {
             Entry::Occupied(cursor) => Ok(cursor),

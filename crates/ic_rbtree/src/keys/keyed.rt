@@ -10,39 +10,39 @@ ghost use Rattle.ic_unsafe_ref.specs.declared.place.Place.{Place};
 ghost use Rattle.ic_unsafe_ref.specs.Objects.{is_placed};
 ghost use Rattle.ic_link_ops.specs.LinkSteps.{acquires};
 ghost use Rattle.ic_link_ops.specs.PlacedObjects.{ShowsPlaced};
-ghost use Rattle.ic_link_ops.specs.RedBlackTree.{Shows};
 ghost use Rattle.ic_link_ops.specs.Tables.{IsCovered};
 ghost use Rattle.ic_rbtree.specs.Comparing.{compared, own_order};
+ghost use Rattle.ic_rbtree.specs.Kept.{ShowsKept};
 ghost use Rattle.ic_rbtree.specs.Ordered.{InsertsInOrder};
-ghost use Rattle.ic_rbtree.specs.Tree.{root_of, adapter_of};
+ghost use Rattle.ic_rbtree.specs.Tree.{head_of, adapter_of};
 
-use crate::keys::descent::descend;
+use crate::head::TreeHead;
+use crate::keys::hole::hole_for;
 use crate::keys::probe::KeyFirst;
-use crate::repair::insertion::attach;
 use crate::{KeyAdapter, RBTree};
 use ic_link_ops::rbtree::RBTreeOps;
-use ic_link_ops::{AlreadyLinked, LinkOps, LinkValues, Side};
+use ic_link_ops::{AlreadyLinked, LinkOps, LinkValues};
 use ic_unsafe_ref::{UnsafeRef, Values};
 
-impl<A: KeyAdapter> RBTree<A> {
+impl<A: KeyAdapter, E: TreeHead> RBTree<A, E> {
     /// Inserts the object where the key that the table keeps beside its link belongs: [`insert`](RBTree::insert) where the table keeps
     /// the values. A look reads one entry, which has the key and the children.
     ///
     /// It requires that the object's place is covered, and that the members and the object are placed. A refused object comes back, nothing
     /// is looked at, and the tree and its links are as they were. O(log n).
-    #[inline]
+    #[inline(always)]
     pub fn insert_keyed<L: RBTreeOps + LinkValues<A::Value>>(
         &mut self,
         links: &mut L,
         object: UnsafeRef<A::Value>,
     ) -> Result<(), AlreadyLinked<A::Value>>
         requires covered { IsCovered (L.table links.old) object }
-        requires placed { ShowsPlaced (Shows L.node (L.table links.old) (root_of self.old)) (L.values links.old) }
+        requires placed { ShowsPlaced (ShowsKept E.kept L.node (L.table links.old) (head_of self.old)) (L.values links.old) }
         requires object { is_placed (L.values links.old) object ≡ true }
-        ensures inserted { (s : List Place) → Shows L.node (L.table links.old) (root_of self.old) s → OnOk result
-            (InsertsInOrder (Shows L.node)
+        ensures inserted { (s : List Place) → ShowsKept E.kept L.node (L.table links.old) (head_of self.old) s → OnOk result
+            (InsertsInOrder (ShowsKept E.kept L.node)
             (compared (own_order A.Key.cmp (A.key_of (adapter_of self.old)) (L.values links.old) object) (L.values links.old))
-            (L.table links.old) (L.table links.new) (root_of self.new) s object) }
+            (L.table links.old) (L.table links.new) (head_of self.new) s object) }
         ensures values { L.values links.new ≡ L.values links.old }
         ensures acquired { OnOk result (L.Does links.old links.new (acquires object ∷ [])) }
         ensures adapter { adapter_of self.new ≡ adapter_of self.old }
@@ -55,9 +55,8 @@ impl<A: KeyAdapter> RBTree<A> {
         }
         let own = &*links;
         let mut probe = KeyFirst::new(self.adapter, self.adapter.get_key(own.value(place)));
-        let from = self.root.get();
-        let hole = descend(own, from, own, &mut probe, Side::Right);
-        attach(links, &mut self.root, hole.parent.get(), hole.side, place);
+        let (parent, side) = hole_for(own, &self.head, own, &mut probe);
+        self.head.attach(links, parent, side, place);
         Ok(())
     }
 }

@@ -10,11 +10,12 @@ ghost use Rattle.ic_unsafe_ref.specs.Objects.{is_placed};
 ghost use Rattle.ic_link_ops.specs.Tables.{IsCovered};
 ghost use Rattle.ic_link_ops.specs.LinkSteps.{acquires};
 ghost use Rattle.ic_link_ops.specs.PlacedObjects.{ShowsPlaced};
-ghost use Rattle.ic_link_ops.specs.RedBlackTree.{Shows};
-ghost use Rattle.ic_rbtree.specs.Comparing.{compared, own_order, HasRoom, Looks};
+ghost use Rattle.ic_rbtree.specs.Comparing.{compared, own_order};
+ghost use Rattle.ic_rbtree.specs.Kept.{ShowsKept, HasRoomFor, InsertLooks};
 ghost use Rattle.ic_rbtree.specs.Ordered.{InsertsInOrder};
-ghost use Rattle.ic_rbtree.specs.Tree.{root_of, adapter_of};
+ghost use Rattle.ic_rbtree.specs.Tree.{head_of, adapter_of};
 
+use crate::head::TreeHead;
 use crate::keys::probe::KeyFirst;
 use crate::linking::insert_in_order;
 use crate::{KeyAdapter, Probe, RBTree};
@@ -23,7 +24,7 @@ use ic_link_ops::rbtree::RBTreeOps;
 use ic_link_ops::{AlreadyLinked, LinkOps, PlaceWord};
 use ic_unsafe_ref::{Place, UnsafeRef, Values};
 
-impl<A: KeyAdapter, L: RBTreeOps> Ordered<L> for RBTree<A> {
+impl<A: KeyAdapter, E: TreeHead, L: RBTreeOps> Ordered<L> for RBTree<A, E> {
     ghost order_of = { λ tree objects object. compared (own_order A.Key.cmp (A.key_of (adapter_of tree)) objects object) objects };
 
     // O(log n): at most 66 looks, none where the link is refused.
@@ -38,15 +39,16 @@ impl<A: KeyAdapter, L: RBTreeOps> Ordered<L> for RBTree<A> {
         let _ = at;
         let value = objects.value(object);
         let mut probe = KeyFirst::new(self.adapter, self.adapter.get_key(value));
-        insert_in_order(links, &mut self.root, objects, &mut probe, object)
+        insert_in_order(links, &mut self.head, objects, &mut probe, object)
     }
 }
 
-impl<A: KeyAdapter> RBTree<A> {
-    /// Inserts the object where the probe's order wants it: behind members that compare equal, unless its link is refused.
+impl<A: KeyAdapter, E: TreeHead> RBTree<A, E> {
+    /// Inserts the object where the probe's order wants it: behind members that compare equal, unless its link is refused. A tree that keeps
+    /// its ends looks at the last member first, and makes no descent where the object goes behind that.
     ///
     /// It requires that the object's place is covered, that all members are placed, and that the probe's count is at most
-    /// `u64::MAX - 66`. A refused object comes back, nothing is looked at, and the tree and its links are as they were. The crate
+    /// `u64::MAX - 66`, or one less where the ends are kept. A refused object comes back, nothing is looked at, and the tree and its links are as they were. The crate
     /// returns a cursor on the object; here that is one more call, `cursor_mut_from_ptr`. O(log n): v looks in a tree of n
     /// members, where `2^v <= (n + 1)^2`.
     #[inline]
@@ -58,20 +60,20 @@ impl<A: KeyAdapter> RBTree<A> {
         object: UnsafeRef<A::Value>,
     ) -> Result<(), AlreadyLinked<A::Value>>
         requires covered { IsCovered (L.table links.old) object }
-        requires placed { ShowsPlaced (Shows L.node (L.table links.old) (root_of self.old)) (O.values objects.now) }
-        requires room { HasRoom (P.count probe.old) }
-        ensures inserted { (s : List Place) → Shows L.node (L.table links.old) (root_of self.old) s → OnOk result
-            (InsertsInOrder (Shows L.node) (compared (P.order probe.old) (O.values objects.now)) (L.table links.old)
-            (L.table links.new) (root_of self.new) s object) }
+        requires placed { ShowsPlaced (ShowsKept E.kept L.node (L.table links.old) (head_of self.old)) (O.values objects.now) }
+        requires room { HasRoomFor (E.kept (head_of self.old)) (P.count probe.old) }
+        ensures inserted { (s : List Place) → ShowsKept E.kept L.node (L.table links.old) (head_of self.old) s → OnOk result
+            (InsertsInOrder (ShowsKept E.kept L.node) (compared (P.order probe.old) (O.values objects.now)) (L.table links.old)
+            (L.table links.new) (head_of self.new) s object) }
         ensures acquired { OnOk result (L.Does links.old links.new (acquires object ∷ [])) }
         ensures adapter { adapter_of self.new ≡ adapter_of self.old }
         ensures refused { OnErr result (L.Refused links.old links.new object) }
         ensures unchanged { IfErr result (λ refused. (refused.0 ≡ object) × (self.new ≡ self.old)) }
-        ensures looks { (s : List Place) → Shows L.node (L.table links.old) (root_of self.old) s
-            → OnOk result (Looks P.order P.count probe.old probe.new s) }
+        ensures looks { (s : List Place) → ShowsKept E.kept L.node (L.table links.old) (head_of self.old) s
+            → OnOk result (InsertLooks P.order P.count (E.kept (head_of self.old)) probe.old probe.new s) }
         ensures no_look { OnErr result (probe.new ≡ probe.old) }
     {
-        if !insert_in_order(links, &mut self.root, objects, probe, object.place()) {
+        if !insert_in_order(links, &mut self.head, objects, probe, object.place()) {
             return Err(AlreadyLinked(object));
         }
         Ok(())
@@ -87,12 +89,12 @@ impl<A: KeyAdapter> RBTree<A> {
         object: UnsafeRef<A::Value>,
     ) -> Result<(), AlreadyLinked<A::Value>>
         requires covered { IsCovered (L.table links.old) object }
-        requires placed { ShowsPlaced (Shows L.node (L.table links.old) (root_of self.old)) (O.values objects.now) }
+        requires placed { ShowsPlaced (ShowsKept E.kept L.node (L.table links.old) (head_of self.old)) (O.values objects.now) }
         requires object { is_placed (O.values objects.now) object ≡ true }
-        ensures inserted { (s : List Place) → Shows L.node (L.table links.old) (root_of self.old) s → OnOk result
-            (InsertsInOrder (Shows L.node)
+        ensures inserted { (s : List Place) → ShowsKept E.kept L.node (L.table links.old) (head_of self.old) s → OnOk result
+            (InsertsInOrder (ShowsKept E.kept L.node)
             (compared (own_order A.Key.cmp (A.key_of (adapter_of self.old)) (O.values objects.now) object) (O.values objects.now))
-            (L.table links.old) (L.table links.new) (root_of self.new) s object) }
+            (L.table links.old) (L.table links.new) (head_of self.new) s object) }
         ensures acquired { OnOk result (L.Does links.old links.new (acquires object ∷ [])) }
         ensures adapter { adapter_of self.new ≡ adapter_of self.old }
         ensures refused { OnErr result (L.Refused links.old links.new object) }

@@ -8,15 +8,17 @@ ghost use Rattle.ic_link_ops.specs.PlacedObjects.{ShowsPlaced};
 ghost use Rattle.ic_rbtree.specs.Comparing.{compared, compared_within, meets_lower, is_beyond, HasRoom, HasRoomWithin, Looks, LooksWithin};
 ghost use Rattle.ic_rbtree.specs.Borders.{Finds, IsLowerBorder, IsUpperBorder};
 ghost use Rattle.ic_rbtree.specs.Descents.{gap_in};
-ghost use Rattle.ic_rbtree.specs.Tree.{root_of};
+ghost use Rattle.ic_rbtree.specs.Kept.{ShowsKept};
+ghost use Rattle.ic_rbtree.specs.Tree.{head_of, root_in};
 
+use crate::head::TreeHead;
 use crate::keys::descent::descend;
 use crate::{Bound, KeyAdapter, Probe, RBTree};
 use ic_link_ops::rbtree::RBTreeOps;
 use ic_link_ops::{LinkOps, PlaceWord, Side};
 use ic_unsafe_ref::Values;
 
-impl<A: KeyAdapter> RBTree<A> {
+impl<A: KeyAdapter, E: TreeHead> RBTree<A, E> {
     // The first member that compares equal.
     #[inline]
     pub(crate) fn first_equal<L: RBTreeOps, P: Probe<A::Value>, O: Values<A::Value>>(
@@ -25,14 +27,14 @@ impl<A: KeyAdapter> RBTree<A> {
         objects: &O,
         probe: &mut P,
     ) -> PlaceWord
-        requires placed { ShowsPlaced (Shows L.node (L.table links.now) (root_of self.now)) (O.values objects.now) }
+        requires placed { ShowsPlaced (ShowsKept E.kept L.node (L.table links.now) (head_of self.now)) (O.values objects.now) }
         requires room { HasRoom (P.count probe.old) }
-        ensures found { (s : List Place) → Shows L.node (L.table links.now) (root_of self.now) s
+        ensures found { (s : List Place) → ShowsKept E.kept L.node (L.table links.now) (head_of self.now) s
             → Finds (compared (P.order probe.old) (O.values objects.now)) s result }
-        ensures looks { (s : List Place) → Shows L.node (L.table links.now) (root_of self.now) s
+        ensures looks { (s : List Place) → ShowsKept E.kept L.node (L.table links.now) (head_of self.now) s
             → Looks P.order P.count probe.old probe.new s }
     {
-        let root = self.root.get();
+        let root = self.head.root();
         let descent = descend(links, root, objects, probe, Side::Left);
         if !descent.is_equal() {
             return PlaceWord::of(None);
@@ -48,16 +50,16 @@ impl<A: KeyAdapter> RBTree<A> {
         objects: &O,
         bound: &mut Bound<P>,
     ) -> PlaceWord
-        requires placed { ShowsPlaced (Shows L.node (L.table links.now) (root_of self.now)) (O.values objects.now) }
+        requires placed { ShowsPlaced (ShowsKept E.kept L.node (L.table links.now) (head_of self.now)) (O.values objects.now) }
         requires room { HasRoomWithin P.count bound.old }
-        ensures border { (s : List Place) → Shows L.node (L.table links.now) (root_of self.now) s
+        ensures border { (s : List Place) → ShowsKept E.kept L.node (L.table links.now) (head_of self.now) s
             → IsLowerBorder (compared_within P.order (O.values objects.now) bound.old) s result }
-        ensures lower { (s : List Place) (h : Shows L.node (L.table links.now) (root_of self.now) s)
+        ensures lower { (s : List Place) (h : Shows L.node (L.table links.now) (root_in E.kept self.now) s)
             → result ≡ first (gap_in (meets_lower (compared_within P.order (O.values objects.now) bound.old)) h.tree).back }
-        ensures looks { (s : List Place) → Shows L.node (L.table links.now) (root_of self.now) s
+        ensures looks { (s : List Place) → ShowsKept E.kept L.node (L.table links.now) (head_of self.now) s
             → LooksWithin P.order P.count bound.old bound.new s }
     {
-        let root = self.root.get();
+        let root = self.head.root();
         match bound {
             Bound::Included(probe) => descend(links, root, objects, probe, Side::Left).back,
             Bound::Excluded(probe) => descend(links, root, objects, probe, Side::Right).back,
@@ -73,16 +75,16 @@ impl<A: KeyAdapter> RBTree<A> {
         objects: &O,
         bound: &mut Bound<P>,
     ) -> PlaceWord
-        requires placed { ShowsPlaced (Shows L.node (L.table links.now) (root_of self.now)) (O.values objects.now) }
+        requires placed { ShowsPlaced (ShowsKept E.kept L.node (L.table links.now) (head_of self.now)) (O.values objects.now) }
         requires room { HasRoomWithin P.count bound.old }
-        ensures border { (s : List Place) → Shows L.node (L.table links.now) (root_of self.now) s
+        ensures border { (s : List Place) → ShowsKept E.kept L.node (L.table links.now) (head_of self.now) s
             → IsUpperBorder (compared_within P.order (O.values objects.now) bound.old) s result }
-        ensures upper { (s : List Place) (h : Shows L.node (L.table links.now) (root_of self.now) s)
+        ensures upper { (s : List Place) (h : Shows L.node (L.table links.now) (root_in E.kept self.now) s)
             → result ≡ last (gap_in (is_beyond (compared_within P.order (O.values objects.now) bound.old)) h.tree).front }
-        ensures looks { (s : List Place) → Shows L.node (L.table links.now) (root_of self.now) s
+        ensures looks { (s : List Place) → ShowsKept E.kept L.node (L.table links.now) (head_of self.now) s
             → LooksWithin P.order P.count bound.old bound.new s }
     {
-        let root = self.root.get();
+        let root = self.head.root();
         match bound {
             Bound::Included(probe) => descend(links, root, objects, probe, Side::Right).front,
             Bound::Excluded(probe) => descend(links, root, objects, probe, Side::Left).front,

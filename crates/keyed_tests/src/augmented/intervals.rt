@@ -15,7 +15,7 @@ use super::empty_tree;
 use crate::asserts::assert_same;
 use crate::keyed::OwnKey;
 use ic_augmented::{
-    Greatest, Summed, first_overlap, insert_fresh, next_overlap, refresh, remove, set_value,
+    Greatest, Summed, first_overlap, insert_fresh, next_overlap, refresh, set_value,
 };
 use ic_link_ops::LinkValues;
 use ic_link_ops::rbtree::RBTreeOps;
@@ -125,7 +125,7 @@ fn take_first<L: RBTreeOps + LinkValues<u64>>(
     ensures extent { (L.table (links_of summed.new)).extent ≡ (L.table (links_of summed.old)).extent }
 {
     let place = first_overlap(tree, summed, &summed.links, from, to)?;
-    remove(tree, summed, place);
+    tree.remove(summed, &UnsafeRef::new(place));
     refresh(tree, summed);
     Some(place)
 }

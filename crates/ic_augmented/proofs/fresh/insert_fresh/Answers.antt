@@ -9,7 +9,8 @@ use Rattle.ic_link_ops.proofs.ShownTrees.{free_absent}
 use Rattle.ic_rbtree.specs.Comparing.{compared, own_order}
 use Rattle.ic_rbtree.specs.Ordered.{InsertsInOrder}
 use Rattle.ic_rbtree.proofs.ShownClosed.{with_place, shown_closed_but, with_itself, hole_in}
-use Rattle.ic_rbtree.proofs.InOrder.{still_shown, fits, fitted, own_is}
+use Rattle.ic_rbtree.specs.Kept.{alone}
+use Rattle.ic_rbtree.proofs.InOrder.{ended_in_order, still_shown, fits, fitted, own_is}
 use Rattle.ic_augmented.specs.Consistent.{ShowsConsistent, ShowsSummed}
 use Rattle.ic_augmented.proofs.EditLemmas.{members_placed, free_member, acquired_consistent, beside_shows, inserts_summed, inserts_still}
 use Rattle.ic_augmented.proofs.fresh.insert_fresh.Goals as goal
@@ -19,16 +20,19 @@ descend-hole-requires-clause-placed g c =
     let n = g.L.RBTreeOps.node in
     let alike = g.met.L.RBTreeOps.linked_alike in
     let l = g.met.L.LinkOps.does_replay _ _ _ c.if-not-acquire_link.ensures.acquired in
-    members_placed n (g.L.Values.values c.acquire_link.new.self) (still_shown n g.L.LinkOps.linked alike l.was l.is c.acquire_link.ensures.frame refl c.requires.shown.1)
+    members_placed n (g.L.Values.values c.acquire_link.new.self) (still_shown n g.L.LinkOps.linked alike l.was l.is c.acquire_link.ensures.frame c.requires.shown.1)
     (λ p is. g.met.L.LinkValues.covered_has_value _ p (g.met.L.LinkOps.linked_is_covered _ p (sym (alike _) ∙ is)))
 
 pub attach_fresh-requires-clause-safe : goal.attach_fresh-requires-clause-safe
 attach_fresh-requires-clause-safe g c =
     let n = g.L.RBTreeOps.node in
+    let alike = g.met.L.RBTreeOps.linked_alike in
     let r = c.requires.shown in
     let l = g.met.L.LinkOps.does_replay _ _ _ c.if-not-acquire_link.ensures.acquired in
-    let f = fits n g.L.LinkOps.linked g.met.L.RBTreeOps.linked_alike l.was l.is c.acquire_link.ensures.frame r.1 refl c.descend-hole.ensures.ends c.get.ensures in
-    (with_place c.place-place.result (join f.gap), shown_closed_but n f.shown, (with_itself n f.shown, (hole_in n (g.L.LinkOps.table c.acquire_link.new.self) c.place-place.result _ _ f.gap f.hole, tt)))
+    let there = still_shown n g.L.LinkOps.linked alike l.was l.is c.acquire_link.ensures.frame r.1 in
+    let x = ended_in_order n there (c.descend-hole.ensures.ends r.0 there) c.get.ensures in
+    let f = fits n g.L.LinkOps.linked alike l.was l.is c.acquire_link.ensures.frame r.1 x in
+    (with_place c.place-place.result (join x.gap), shown_closed_but n f, (with_itself n f, (hole_in n (g.L.LinkOps.table c.acquire_link.new.self) c.place-place.result _ _ x.gap x.hole, tt)))
 
 pub attach_fresh-requires-clause-hole : goal.attach_fresh-requires-clause-hole
 attach_fresh-requires-clause-hole g c =
@@ -36,9 +40,9 @@ attach_fresh-requires-clause-hole g c =
     let alike = g.met.L.RBTreeOps.linked_alike in
     let r = c.requires.shown in
     let l = g.met.L.LinkOps.does_replay _ _ _ c.if-not-acquire_link.ensures.acquired in
-    let f = fits n g.L.LinkOps.linked alike l.was l.is c.acquire_link.ensures.frame r.1 refl c.descend-hole.ensures.ends c.get.ensures in
-    let there = still_shown n g.L.LinkOps.linked alike l.was l.is c.acquire_link.ensures.frame refl r.1 in
-    (f.gap, alike _ ∙ l.is, free_member n _ _ r.0 (join f.gap) c.place-place.result f.same r.1 (alike _ ∙ l.was), subst (λ (s : List Place). Shows n (g.L.LinkOps.table c.acquire_link.new.self) c.args.tree.now.root s) (sym f.same) there, f.hole)
+    let there = still_shown n g.L.LinkOps.linked alike l.was l.is c.acquire_link.ensures.frame r.1 in
+    let x = ended_in_order n there (c.descend-hole.ensures.ends r.0 there) c.get.ensures in
+    (x.gap, alike _ ∙ l.is, free_member n _ _ r.0 (join x.gap) c.place-place.result x.same r.1 (alike _ ∙ l.was), subst (λ (s : List Place). Shows n (g.L.LinkOps.table c.acquire_link.new.self) c.args.tree.now.head s) (sym x.same) there, x.hole)
 
 pub attach_fresh-requires-clause-covered : goal.attach_fresh-requires-clause-covered
 attach_fresh-requires-clause-covered g c q is =
@@ -55,18 +59,19 @@ returns-clause-inserted g c s shown =
     let after = g.L.LinkOps.table c.attach_fresh.new.summed.links in
     let new_sums = g.M.Sums.sums c.attach_fresh.new.summed.sums in
     let values = g.L.Values.values c.acquire_link.new.self in
-    let f = fits n g.L.LinkOps.linked alike l.was l.is c.acquire_link.ensures.frame shown.0 refl c.descend-hole.ensures.ends c.get.ensures in
+    let there = still_shown n g.L.LinkOps.linked alike l.was l.is c.acquire_link.ensures.frame shown.0 in
+    let x = ended_in_order n there (c.descend-hole.ensures.ends s there) c.get.ensures in
     let free = alike _ ∙ l.was in
-    let kept = c.attach_fresh.ensures.summed f.gap (alike _ ∙ l.is) (free_member n _ _ s (join f.gap) c.place-place.result f.same shown.0 free)
-    (acquired_consistent n _ _ _ _ s (join f.gap) c.place-place.result f.same free c.acquire_link.ensures.frame shown) f.hole in
-    subst (λ (p : Place). InsertsInOrder (ShowsSummed n new_sums) (compared (own (g.L.Values.values c.args.summed.now.links) p) (g.L.Values.values c.args.summed.now.links)) before after c.attach_fresh.new.tree.root s p) c.place-place.ensures
-    (subst (λ (o : Objects g.row.A-Value.Denot). InsertsInOrder (ShowsSummed n new_sums) (compared (own o c.place-place.result) o) before after c.attach_fresh.new.tree.root s c.place-place.result)
+    let kept = c.attach_fresh.ensures.summed x.gap (alike _ ∙ l.is) (free_member n _ _ s (join x.gap) c.place-place.result x.same shown.0 free)
+    (acquired_consistent n _ _ _ _ s (join x.gap) c.place-place.result x.same free c.acquire_link.ensures.frame shown) x.hole in
+    subst (λ (p : Place). InsertsInOrder (ShowsSummed n new_sums) (compared (own (g.L.Values.values c.args.summed.now.links) p) (g.L.Values.values c.args.summed.now.links)) before after c.attach_fresh.new.tree.head s p) c.place-place.ensures
+    (subst (λ (o : Objects g.row.A-Value.Denot). InsertsInOrder (ShowsSummed n new_sums) (compared (own o c.place-place.result) o) before after c.attach_fresh.new.tree.head s c.place-place.result)
     (g.met.L.LinkValues.values_stay _ _ c.acquire_link.ensures.frame.extent)
-    (subst (λ order. InsertsInOrder (ShowsSummed n new_sums) (compared order values) before after c.attach_fresh.new.tree.root s c.place-place.result)
+    (subst (λ order. InsertsInOrder (ShowsSummed n new_sums) (compared order values) before after c.attach_fresh.new.tree.head s c.place-place.result)
     (own_is g.A.Key.Ord.cmp g.A.KeyAdapter.key_of values (c.new-probe.ensures.adapter ∙ c.adapter-adapter.ensures)
     (c.new-probe.ensures.key ∙ (c.get_key.ensures ∙ ap (λ z. g.A.KeyAdapter.key_of z c.value.result.now) c.adapter-adapter.ensures)) refl c.value.ensures)
-    (inserts_summed n before after new_sums c.attach_fresh.new.tree.root s c.place-place.result f.gap kept
-    (fitted n g.L.LinkOps.linked alike l.was l.is c.acquire_link.ensures.frame f c.attach_fresh.ensures.attached))))
+    (inserts_summed n before after new_sums c.attach_fresh.new.tree.head s c.place-place.result x.gap kept
+    (fitted n g.L.LinkOps.linked alike l.was l.is c.acquire_link.ensures.frame alone c.args.tree.now.head c.attach_fresh.new.tree.head shown.0 x c.attach_fresh.ensures.attached (λ gap below distinct told. tt)))))
 
 pub returns-clause-consistent : goal.returns-clause-consistent
 returns-clause-consistent g c s shown = inserts_still g.L.RBTreeOps.node _ _ _ _ s _ (returns-clause-inserted g c s shown)
@@ -77,8 +82,9 @@ returns-clause-extent g c =
     let alike = g.met.L.RBTreeOps.linked_alike in
     let r = c.requires.shown in
     let l = g.met.L.LinkOps.does_replay _ _ _ c.if-not-acquire_link.ensures.acquired in
-    let f = fits n g.L.LinkOps.linked alike l.was l.is c.acquire_link.ensures.frame r.1 refl c.descend-hole.ensures.ends c.get.ensures in
-    (fitted n g.L.LinkOps.linked alike l.was l.is c.acquire_link.ensures.frame f c.attach_fresh.ensures.attached).inserted.frame.extent
+    let there = still_shown n g.L.LinkOps.linked alike l.was l.is c.acquire_link.ensures.frame r.1 in
+    let x = ended_in_order n there (c.descend-hole.ensures.ends r.0 there) c.get.ensures in
+    (fitted n g.L.LinkOps.linked alike l.was l.is c.acquire_link.ensures.frame alone c.args.tree.now.head c.attach_fresh.new.tree.head r.1 x c.attach_fresh.ensures.attached (λ gap below distinct told. tt)).inserted.frame.extent
 
 pub returns-clause-others : goal.returns-clause-others
 returns-clause-others g c s t other shown apart h =
@@ -87,7 +93,7 @@ returns-clause-others g c s t other shown apart h =
     let l = g.met.L.LinkOps.does_replay _ _ _ c.if-not-acquire_link.ensures.acquired in
     let only = c.acquire_link.ensures.frame in
     let absent = free_absent h.0 (alike _ ∙ l.was) in
-    c.attach_fresh.ensures.others s t other (still_shown n g.L.LinkOps.linked alike l.was l.is only refl shown) apart absent (beside_shows n _ _ _ other t c.place-place.result absent only h)
+    c.attach_fresh.ensures.others s t other (still_shown n g.L.LinkOps.linked alike l.was l.is only shown) apart absent (beside_shows n _ _ _ other t c.place-place.result absent only h)
 
 pub returns-then-not-acquire_link-clause-others : goal.returns-then-not-acquire_link-clause-others
 returns-then-not-acquire_link-clause-others g c s t other shown apart h =

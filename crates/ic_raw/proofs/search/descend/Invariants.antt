@@ -13,7 +13,7 @@ abbrev pub invariant-loop : goal.invariant-loop
 invariant-loop l =
     let t = lent_table l.fn.links in
     record {
-      each : (s : List Place) (h : Shows seen_node (seen t) l.fn.tree.root s) → Comes t l.fn.tree.root (against l.key l.fn.keys) l.equals h.tree (Some l.place) l.way l.counter;
+      each : (s : List Place) (h : Shows seen_node (seen t) l.fn.tree.head s) → Comes t l.fn.tree.head (against l.key l.fn.keys) l.equals h.tree (Some l.place) l.way l.counter;
       here : has_place t l.place ≡ true;
       ends : AreIn (has_place t) (l.way.parent ∷ l.way.front ∷ l.way.back ∷ []);
     }

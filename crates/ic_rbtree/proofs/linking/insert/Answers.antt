@@ -1,6 +1,8 @@
 use Rattle.std.proofs.Common.{[]}
 use Rattle.ic_link_ops.specs.Sequences.{join}
+use Rattle.ic_rbtree.specs.Kept.{root_kept}
 use Rattle.ic_rbtree.proofs.Attaching.{acquired_shown, hole_kept, inserts}
+use Rattle.ic_rbtree.proofs.KeptHeads.{shown, told, inserts_kept, hole_below}
 use Rattle.ic_rbtree.proofs.ShownClosed.{with_place, shown_closed_but, with_itself, hole_in}
 use Rattle.ic_rbtree.proofs.linking.insert.Goals as goal
 
@@ -12,20 +14,26 @@ attach-requires g c =
     let l = g.met.L.LinkOps.does_replay _ _ _ c.if-not-acquire_link.ensures.acquired in
     let old = g.L.LinkOps.table c.args.links.now in
     let now = g.L.LinkOps.table c.acquire_link.new.self in
-    let s = acquired_shown n g.L.LinkOps.linked alike old now c.args.root.now (join r.0) c.args.place r.1 l.was l.is c.acquire_link.ensures.frame in
-    let at = hole_kept n g.L.LinkOps.linked alike old now c.args.root.now c.args.parent c.args.side r.0 c.args.place r.1 l.was c.acquire_link.ensures.frame r.2 in
+    let kept = g.E.TreeHead.kept c.args.head.now in
+    let s = acquired_shown n g.L.LinkOps.linked alike old now (root_kept kept) (join r.0) c.args.place (shown kept r.1) l.was l.is c.acquire_link.ensures.frame in
+    let at = hole_kept n g.L.LinkOps.linked alike old now (root_kept kept) c.args.parent c.args.side r.0 c.args.place (shown kept r.1) l.was c.acquire_link.ensures.frame r.2 in
     (with_place c.args.place (join r.0), shown_closed_but n s, (with_itself n s, (hole_in n now c.args.place c.args.parent c.args.side r.0 at, tt)))
 
 pub returns-clause-inserted : goal.returns-clause-inserted
-returns-clause-inserted g c gap shown at =
+returns-clause-inserted g c gap h at =
     let n = g.L.RBTreeOps.node in
     let alike = g.met.L.RBTreeOps.linked_alike in
     let l = g.met.L.LinkOps.does_replay _ _ _ c.if-not-acquire_link.ensures.acquired in
     let old = g.L.LinkOps.table c.args.links.now in
     let now = g.L.LinkOps.table c.acquire_link.new.self in
-    inserts n old now _ c.args.root.now c.attach.new.root c.args.place gap c.acquire_link.ensures.frame
-    (c.attach.ensures.attached now gap [] (acquired_shown n g.L.LinkOps.linked alike old now c.args.root.now (join gap) c.args.place shown l.was l.is c.acquire_link.ensures.frame)
-    (hole_kept n g.L.LinkOps.linked alike old now c.args.root.now c.args.parent c.args.side gap c.args.place shown l.was c.acquire_link.ensures.frame at))
+    let kept = g.E.TreeHead.kept c.args.head.now in
+    let new = root_kept (g.E.TreeHead.kept c.attach.new.self) in
+    let was = shown kept h in
+    inserts_kept g.E.TreeHead.kept c.attach.new.self
+    (inserts n old now _ (root_kept kept) new c.args.place gap c.acquire_link.ensures.frame
+    (c.attach.ensures.attached now gap [] (acquired_shown n g.L.LinkOps.linked alike old now (root_kept kept) (join gap) c.args.place was l.was l.is c.acquire_link.ensures.frame)
+    (hole_kept n g.L.LinkOps.linked alike old now (root_kept kept) c.args.parent c.args.side gap c.args.place was l.was c.acquire_link.ensures.frame at)))
+    (c.attach.ensures.ends gap (hole_below n old c.args.parent c.args.side gap at) was.held.distinct (told n old kept (join gap) h))
 
 pub returns-clause-acquired : goal.returns-clause-acquired
 returns-clause-acquired g c = c.attach.ensures.quiet _ _ c.if-not-acquire_link.ensures.acquired

@@ -1,32 +1,40 @@
 use Rattle.ic_link_ops.specs.Sequences.{join}
+use Rattle.ic_rbtree.proofs.InOrder.{still_kept, fits, fitted}
+use Rattle.ic_rbtree.proofs.KeptHeads.{shown}
 use Rattle.ic_rbtree.proofs.ShownClosed.{with_place, shown_closed_but, with_itself, hole_in}
-use Rattle.ic_rbtree.proofs.InOrder.{still_shown, fits, fitted}
 use Rattle.ic_rbtree.proofs.linking.insert_in_order.Goals as goal
 
-pub descend-hole-requires-clause-placed : goal.descend-hole-requires-clause-placed
-descend-hole-requires-clause-placed g c =
-    let n = g.L.RBTreeOps.node in
+pub hole_for-parent-requires-clause-placed : goal.hole_for-parent-requires-clause-placed
+hole_for-parent-requires-clause-placed g c =
     let r = c.requires.placed in
     let l = g.met.L.LinkOps.does_replay _ _ _ c.if-not-acquire_link.ensures.acquired in
-    record { members = r.members; shown = still_shown n g.L.LinkOps.linked g.met.L.RBTreeOps.linked_alike l.was l.is c.acquire_link.ensures.frame c.get-from.ensures r.shown; placed = r.placed }
+    record {
+      members = r.members;
+      shown = still_kept g.L.RBTreeOps.node g.L.LinkOps.linked g.met.L.RBTreeOps.linked_alike l.was l.is c.acquire_link.ensures.frame (g.E.TreeHead.kept c.args.head.now) r.members r.shown;
+      placed = r.placed;
+    }
 
 pub attach-requires : goal.attach-requires
 attach-requires g c =
-    let r = c.requires.placed in
-    let l = g.met.L.LinkOps.does_replay _ _ _ c.if-not-acquire_link.ensures.acquired in
-    let f = fits g.L.RBTreeOps.node g.L.LinkOps.linked g.met.L.RBTreeOps.linked_alike l.was l.is c.acquire_link.ensures.frame r.shown c.get-from.ensures c.descend-hole.ensures.ends c.get.ensures in
-    (with_place c.args.object (join f.gap), shown_closed_but g.L.RBTreeOps.node f.shown, (with_itself g.L.RBTreeOps.node f.shown, (hole_in g.L.RBTreeOps.node (g.L.LinkOps.table c.acquire_link.new.self) c.args.object _ _ f.gap f.hole, tt)))
-
-pub returns-clause-inserted : goal.returns-clause-inserted
-returns-clause-inserted g c s shown =
     let n = g.L.RBTreeOps.node in
     let alike = g.met.L.RBTreeOps.linked_alike in
+    let kept = g.E.TreeHead.kept c.args.head.now in
+    let r = c.requires.placed in
     let l = g.met.L.LinkOps.does_replay _ _ _ c.if-not-acquire_link.ensures.acquired in
-    fitted n g.L.LinkOps.linked alike l.was l.is c.acquire_link.ensures.frame
-    (fits n g.L.LinkOps.linked alike l.was l.is c.acquire_link.ensures.frame shown c.get-from.ensures c.descend-hole.ensures.ends c.get.ensures)
-    c.attach.ensures.attached
+    let x = c.hole_for-parent.ensures.hole r.members (still_kept n g.L.LinkOps.linked alike l.was l.is c.acquire_link.ensures.frame kept r.members r.shown) in
+    let f = fits n g.L.LinkOps.linked alike l.was l.is c.acquire_link.ensures.frame (shown kept r.shown) x in
+    (with_place c.args.object (join x.gap), shown_closed_but n f, (with_itself n f, (hole_in n (g.L.LinkOps.table c.acquire_link.new.self) c.args.object _ _ x.gap x.hole, tt)))
+
+pub returns-clause-inserted : goal.returns-clause-inserted
+returns-clause-inserted g c s h =
+    let n = g.L.RBTreeOps.node in
+    let alike = g.met.L.RBTreeOps.linked_alike in
+    let kept = g.E.TreeHead.kept c.args.head.now in
+    let l = g.met.L.LinkOps.does_replay _ _ _ c.if-not-acquire_link.ensures.acquired in
+    let x = c.hole_for-parent.ensures.hole s (still_kept n g.L.LinkOps.linked alike l.was l.is c.acquire_link.ensures.frame kept s h) in
+    fitted n g.L.LinkOps.linked alike l.was l.is c.acquire_link.ensures.frame g.E.TreeHead.kept c.args.head.now c.attach.new.self h x c.attach.ensures.attached c.attach.ensures.ends
 
 pub returns-clause-looks : goal.returns-clause-looks
-returns-clause-looks g c s shown =
+returns-clause-looks g c s h =
     let l = g.met.L.LinkOps.does_replay _ _ _ c.if-not-acquire_link.ensures.acquired in
-    c.descend-hole.ensures.looks s (still_shown g.L.RBTreeOps.node g.L.LinkOps.linked g.met.L.RBTreeOps.linked_alike l.was l.is c.acquire_link.ensures.frame c.get-from.ensures shown)
+    c.hole_for-parent.ensures.looks s (still_kept g.L.RBTreeOps.node g.L.LinkOps.linked g.met.L.RBTreeOps.linked_alike l.was l.is c.acquire_link.ensures.frame (g.E.TreeHead.kept c.args.head.now) s h)

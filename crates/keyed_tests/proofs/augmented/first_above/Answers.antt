@@ -31,7 +31,7 @@ returns-clause-ready g c =
     let q = c.requires.ready in
     let e = c.set_value.ensures in
     let old = q.consistent in
-    let shown : ShowsConsistent n (greatest c.set_value.new.summed.sums) (g.L.LinkOps.table c.set_value.new.summed.links) c.args.tree.now.root q.members
+    let shown : ShowsConsistent n (greatest c.set_value.new.summed.sums) (g.L.LinkOps.table c.set_value.new.summed.links) c.args.tree.now.head q.members
     = (rw e.links old.0, e.consistent q.members old.1) in
     record {
       members = q.members;

@@ -1,40 +1,42 @@
-use Rattle.std.proofs.Common.{List}
-use Rattle.ic_unsafe_ref.specs.declared.place.Place.{Place}
-use Rattle.ic_augmented.specs.Consistent.{ShowsConsistent}
-use Rattle.keyed_tests.proofs.Ready.{either_answer, room_covered, room_linked}
+use Rattle.std.proofs.Common.{sym, ◌∙◌}
+use Rattle.keyed_tests.proofs.Ready.{members_placed, after_insert, room_covered, room_linked}
 use Rattle.keyed_tests.proofs.augmented.put.Goals as goal
 
-pub insert_keyed-requires : goal.insert_keyed-requires
-insert_keyed-requires g c = record { covered = c.requires.covered; shown = (c.requires.ready.members, c.requires.ready.shown.shows) }
+pub insert_keyed-requires-clause-placed : goal.insert_keyed-requires-clause-placed
+insert_keyed-requires-clause-placed g c =
+    members_placed g.L.RBTreeOps.node (g.L.Values.values c.args.summed.now.links) c.requires.ready.shown.shows
+    (λ p is. g.met.L.LinkValues.covered_has_value _ p (g.met.L.LinkOps.linked_is_covered _ p (sym (g.met.L.RBTreeOps.linked_alike _) ∙ is)))
+
+pub insert_keyed-requires-clause-object : goal.insert_keyed-requires-clause-object
+insert_keyed-requires-clause-object g c = g.met.L.LinkValues.covered_has_value _ _ c.requires.covered
 
 pub refresh-requires : goal.refresh-requires
 refresh-requires g c =
     let n = g.L.RBTreeOps.node in
     let e = c.insert_keyed.ensures in
     let q = c.requires.ready in
-    let old = q.consistent in
-    let shown : (s : List Place) × ShowsConsistent n (g.M.Sums.sums c.insert_keyed.new.summed.sums) (g.L.LinkOps.table c.insert_keyed.new.summed.links) c.insert_keyed.new.tree.root s
-    = either_answer _ c.insert_keyed.result (e.inserted q.members old) e.refused e.unchanged (λ also. (_, also.inserted.shows))
-    (λ refused y same. (q.members, rw (g.met.L.LinkOps.refused_keeps _ _ _ refused, same.1, same.2) old)) in
+    let x = after_insert g.L.LinkOps.Does g.L.RBTreeOps.node g.L.LinkOps.table g.M.Sums.sums g.M.Sums.Covers g.L.LinkOps.Refused g.met.L.LinkOps.refused_keeps c.args.summed.now c.insert_keyed.new.links
+    c.args.tree.now c.insert_keyed.new.self c.args.object _ _ c.insert_keyed.result q.members q.consistent (e.inserted q.members q.consistent.0) e.acquired e.refused e.unchanged in
     record {
-      shown = (shown.0, shown.1.0);
-      covered = λ p is. e.covers p (room_linked n g.L.LinkOps.table g.L.LinkOps.linked g.met.L.RBTreeOps.linked_alike g.met.L.LinkOps.linked_is_covered (g.M.Sums.Covers c.args.summed.now.sums) c.args.summed.now.links q.room
-          c.insert_keyed.new.summed.links e.extent p is);
+      shown = (x.members, x.right.0);
+      covered = λ p is. x.covers p (room_linked n g.L.LinkOps.table g.L.LinkOps.linked g.met.L.RBTreeOps.linked_alike g.met.L.LinkOps.linked_is_covered (g.M.Sums.Covers c.args.summed.now.sums) c.args.summed.now.links q.room
+          c.insert_keyed.new.links.links x.extent p is);
     }
 
-pub returns-clause-ready : goal.returns-clause-ready
-returns-clause-ready g c =
+pub returns : goal.returns
+returns g c =
     let n = g.L.RBTreeOps.node in
     let e = c.insert_keyed.ensures in
     let q = c.requires.ready in
-    let old = q.consistent in
-    let shown : (s : List Place) × ShowsConsistent n (g.M.Sums.sums c.insert_keyed.new.summed.sums) (g.L.LinkOps.table c.insert_keyed.new.summed.links) c.insert_keyed.new.tree.root s
-    = either_answer _ c.insert_keyed.result (e.inserted q.members old) e.refused e.unchanged (λ also. (_, also.inserted.shows))
-    (λ refused y same. (q.members, rw (g.met.L.LinkOps.refused_keeps _ _ _ refused, same.1, same.2) old)) in
+    let x = after_insert g.L.LinkOps.Does g.L.RBTreeOps.node g.L.LinkOps.table g.M.Sums.sums g.M.Sums.Covers g.L.LinkOps.Refused g.met.L.LinkOps.refused_keeps c.args.summed.now c.insert_keyed.new.links
+    c.args.tree.now c.insert_keyed.new.self c.args.object _ _ c.insert_keyed.result q.members q.consistent (e.inserted q.members q.consistent.0) e.acquired e.refused e.unchanged in
     record {
-      members = shown.0;
-      shown = c.refresh.ensures.summed shown.0 shown.1;
-      consistent = c.refresh.ensures.consistent shown.0 shown.1;
-      room = λ p covered. c.refresh.ensures.covers p (e.covers p (room_covered n g.L.LinkOps.table g.L.LinkOps.linked g.met.L.RBTreeOps.linked_alike g.met.L.LinkOps.linked_is_covered
-          (g.M.Sums.Covers c.args.summed.now.sums) c.args.summed.now.links q.room c.insert_keyed.new.summed.links e.extent p (rw c.refresh.ensures.links at covered)));
+      ready = record {
+        members = x.members;
+        shown = c.refresh.ensures.summed x.members x.right;
+        consistent = c.refresh.ensures.consistent x.members x.right;
+        room = λ p covered. c.refresh.ensures.covers p (x.covers p (room_covered n g.L.LinkOps.table g.L.LinkOps.linked g.met.L.RBTreeOps.linked_alike g.met.L.LinkOps.linked_is_covered
+            (g.M.Sums.Covers c.args.summed.now.sums) c.args.summed.now.links q.room c.insert_keyed.new.links.links x.extent p (rw c.refresh.ensures.links at covered)));
+      };
+      extent = rw c.refresh.ensures.links x.extent;
     }

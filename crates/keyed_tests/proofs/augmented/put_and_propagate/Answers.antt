@@ -1,10 +1,16 @@
 use Rattle.std.proofs.Common.{◌≡◌, ◌∙◌, ◌++◌, ◌∷◌, true, sym, rules}
 use Rattle.ic_augmented.specs.Consistent.{ShowsConsistent}
-use Rattle.keyed_tests.proofs.Ready.{on_ok, room_covered, room_linked}
+use Rattle.ic_augmented.proofs.StepLemmas.{inserted_right}
+use Rattle.keyed_tests.proofs.Ready.{members_placed, on_ok, room_covered, room_linked}
 use Rattle.keyed_tests.proofs.augmented.put_and_propagate.Goals as goal
 
-pub insert_keyed-inserted-requires : goal.insert_keyed-inserted-requires
-insert_keyed-inserted-requires g c = record { covered = c.requires.covered; shown = (c.requires.ready.members, c.requires.ready.shown.shows) }
+pub insert_keyed-inserted-requires-clause-placed : goal.insert_keyed-inserted-requires-clause-placed
+insert_keyed-inserted-requires-clause-placed g c =
+    members_placed g.L.RBTreeOps.node (g.L.Values.values c.args.summed.now.links) c.requires.ready.shown.shows
+    (λ p is. g.met.L.LinkValues.covered_has_value _ p (g.met.L.LinkOps.linked_is_covered _ p (sym (g.met.L.RBTreeOps.linked_alike _) ∙ is)))
+
+pub insert_keyed-inserted-requires-clause-object : goal.insert_keyed-inserted-requires-clause-object
+insert_keyed-inserted-requires-clause-object g c = g.met.L.LinkValues.covered_has_value _ _ c.requires.covered
 
 pub propagate-requires : goal.propagate-requires
 propagate-requires g c =
@@ -12,27 +18,36 @@ propagate-requires g c =
     let e = c.insert_keyed-inserted.ensures in
     let q = c.requires.ready in
     let is : c.is_ok.result ≡ true = search rules in
-    let x = on_ok c.insert_keyed-inserted.result (sym c.is_ok.ensures.value ∙ is) (e.inserted q.members q.consistent) in
+    let ok = sym c.is_ok.ensures.value ∙ is in
+    let d = on_ok c.insert_keyed-inserted.result ok e.acquired in
+    let x = inserted_right d q.consistent.1 (on_ok c.insert_keyed-inserted.result ok (e.inserted q.members q.consistent.0)) in
+    let extent = x.inserted.frame.extent in
     record {
-      member = (c.insert_keyed-inserted.new.tree.root, record { front = x.gap.front; back = x.gap.back; shown = rw c.place-place.ensures x.inserted.shows.0 });
-      covered = λ p is. e.covers p (room_linked n g.L.LinkOps.table g.L.LinkOps.linked g.met.L.RBTreeOps.linked_alike g.met.L.LinkOps.linked_is_covered (g.M.Sums.Covers c.args.summed.now.sums) c.args.summed.now.links q.room
-          c.insert_keyed-inserted.new.summed.links e.extent p is);
+      member = (c.insert_keyed-inserted.new.self.head, record { front = x.gap.front; back = x.gap.back; shown = rw c.place-place.ensures x.inserted.shows.0 });
+      covered = λ p is. d.covers p (room_linked n g.L.LinkOps.table g.L.LinkOps.linked g.met.L.RBTreeOps.linked_alike g.met.L.LinkOps.linked_is_covered (g.M.Sums.Covers c.args.summed.now.sums) c.args.summed.now.links q.room
+          c.insert_keyed-inserted.new.links.links extent p is);
     }
 
-pub returns-clause-ready : goal.returns-clause-ready
-returns-clause-ready g c =
+pub returns : goal.returns
+returns g c =
     let n = g.L.RBTreeOps.node in
     let e = c.insert_keyed-inserted.ensures in
     let q = c.requires.ready in
     let is : c.is_ok.result ≡ true = search rules in
-    let x = on_ok c.insert_keyed-inserted.result (sym c.is_ok.ensures.value ∙ is) (e.inserted q.members q.consistent) in
+    let ok = sym c.is_ok.ensures.value ∙ is in
+    let d = on_ok c.insert_keyed-inserted.result ok e.acquired in
+    let x = inserted_right d q.consistent.1 (on_ok c.insert_keyed-inserted.result ok (e.inserted q.members q.consistent.0)) in
+    let extent = x.inserted.frame.extent in
     let place = c.place-place.result in
-    let right : ShowsConsistent n (g.M.Sums.sums c.insert_keyed-inserted.new.summed.sums) (g.L.LinkOps.table c.insert_keyed-inserted.new.summed.links) c.insert_keyed-inserted.new.tree.root (x.gap.front ++ place ∷ x.gap.back)
+    let right : ShowsConsistent n (g.M.Sums.sums c.insert_keyed-inserted.new.links.sums) (g.L.LinkOps.table c.insert_keyed-inserted.new.links.links) c.insert_keyed-inserted.new.self.head (x.gap.front ++ place ∷ x.gap.back)
     = rw c.place-place.ensures x.inserted.shows in
     record {
-      members = x.gap.front ++ place ∷ x.gap.back;
-      shown = c.propagate.ensures.summed _ x.gap.front x.gap.back right;
-      consistent = c.propagate.ensures.consistent _ x.gap.front x.gap.back right;
-      room = λ p covered. c.propagate.ensures.covers p (e.covers p (room_covered n g.L.LinkOps.table g.L.LinkOps.linked g.met.L.RBTreeOps.linked_alike g.met.L.LinkOps.linked_is_covered
-          (g.M.Sums.Covers c.args.summed.now.sums) c.args.summed.now.links q.room c.insert_keyed-inserted.new.summed.links e.extent p (rw c.propagate.ensures.links at covered)));
+      ready = record {
+        members = x.gap.front ++ place ∷ x.gap.back;
+        shown = c.propagate.ensures.summed _ x.gap.front x.gap.back right;
+        consistent = c.propagate.ensures.consistent _ x.gap.front x.gap.back right;
+        room = λ p covered. c.propagate.ensures.covers p (d.covers p (room_covered n g.L.LinkOps.table g.L.LinkOps.linked g.met.L.RBTreeOps.linked_alike g.met.L.LinkOps.linked_is_covered
+            (g.M.Sums.Covers c.args.summed.now.sums) c.args.summed.now.links q.room c.insert_keyed-inserted.new.links.links extent p (rw c.propagate.ensures.links at covered)));
+      };
+      extent = rw c.propagate.ensures.links extent;
     }

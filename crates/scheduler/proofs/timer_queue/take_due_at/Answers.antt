@@ -1,3 +1,4 @@
+use Rattle.ic_link_ops.specs.Sequences.{at_front}
 use Rattle.ic_link_ops.proofs.Positions.{stands_first}
 use Rattle.ic_link_ops.proofs.ShownTrees.{one_sequence}
 use Rattle.ic_rbtree.proofs.SortedKeys.{sorted_taken}
@@ -26,3 +27,6 @@ returns-clause-front g c =
       queue = sorted_taken g.T.HasDeadline.deadline c.args.objects.now (λ s u shown other. one_sequence shown other) (stands_first s.members s.shown is) c.remove.result c.remove.ensures.removed f.queue;
       first_is = first_again s.shown is c.remove.result c.remove.ensures.removed;
     }
+
+pub returns-clause-taken : goal.returns-clause-taken
+returns-clause-taken g c s shown = c.remove.ensures.removed.removed (at_front s) shown (c.requires.front.first_is s shown)

@@ -3,7 +3,7 @@ use Rattle.collections_tests.proofs.Trees.{none_shown}
 use Rattle.collections_tests.proofs.tree.trees.filled.Goals as goal
 
 pub loop-index-init : goal.loop-index-init
-loop-index-init c = record { shown = none_shown c.args.links.now c.default-tree.result.root c.default-tree.ensures.0 }
+loop-index-init c = record { shown = none_shown c.args.links.now c.default-tree.result.head c.default-tree.ensures.0 }
 
 pub insert_after-requires-clause-stands : goal.insert_after-requires-clause-stands
 insert_after-requires-clause-stands c =

@@ -4,4 +4,4 @@ use Rattle.collections_tests.proofs.tree.trees.tree_of.Goals as goal
 
 pub returns-clause-shown : goal.returns-clause-shown
 returns-clause-shown g c =
-    shows_placed c.filled-tree.new.links c.expect-objects.result.0 (c.are_placed.ensures.placed (search rules)) (c.filled-tree.result.root) c.filled-tree.ensures.shown
+    shows_placed c.filled-tree.new.links c.expect-objects.result.0 (c.are_placed.ensures.placed (search rules)) (c.filled-tree.result.head) c.filled-tree.ensures.shown

@@ -1,13 +1,14 @@
 use Rattle.std.proofs.Common.{Some, [], ◌∷◌, ◌++◌, refl, sym, ◌∙◌}
 use Rattle.ic_link_ops.proofs.PlacedEnds.{last_placed}
+use Rattle.ic_link_ops.proofs.Positions.{moves_back}
 use Rattle.ic_link_ops.proofs.Walks.{is_end_yes}
 use Rattle.ic_rbtree.proofs.Walking.{Steps, steps_last, steps_less, last_stands, none_left_back, gives_back, goes_back}
 use Rattle.ic_rbtree.proofs.iter.IterDoubleEndedIterator.next_back.Goals as goal
 use Rattle.ic_rbtree.proofs.iter.IterDoubleEndedIterator.next_back.Goals.{then-is_at, else-is_at}
 use Rattle.ic_rbtree.proofs.iter.IterDoubleEndedIterator.next_back.Given.{Over}
 
-pub prev_of-requires : goal.prev_of-requires
-prev_of-requires g c = record { stands = rw c.of.ensures (last_stands g.L.RBTreeOps.node g.L.LinkOps.table g.O.Values.values c.args.self.now c.in_ok-place.place c.requires c.in_ok-place.was) }
+pub step-self-requires : goal.step-self-requires
+step-self-requires g c = record { stands = (last_stands g.L.RBTreeOps.node g.L.LinkOps.table g.O.Values.values c.args.self.now c.in_ok-place.place c.requires c.in_ok-place.was) }
 
 pub value-value-requires : goal.value-value-requires
 value-value-requires g c = let k = c.requires in record { placed = last_placed (g.O.Values.values c.args.self.now.objects.now) k.0 k.2 (sym c.in_ok-place.was ∙ k.1.ends) }
@@ -21,7 +22,8 @@ step g c =
           (steps_last _ _ _ c.args.self.now c.in_ok-place.place (λ w. w ++ c.in_ok-place.place ∷ []) refl c.requires (is_end_yes _ _ (sym w.if-is_at.ensures)) c.in_ok-place.was)
       | else-is_at w ↦
           rw w.self-is
-          (steps_less _ _ _ c.args.self.now c.in_ok-place.place w.get-self.result c.requires c.in_ok-place.was (sym w.if-is_at.ensures) (rw (w.get-self.ensures, ← w.of.ensures) w.prev_of.ensures.moved))
+          (steps_less _ _ _ c.args.self.now c.in_ok-place.place w.step-self.result c.requires c.in_ok-place.was (sym w.if-is_at.ensures)
+          (moves_back (last_stands g.L.RBTreeOps.node g.L.LinkOps.table g.O.Values.values c.args.self.now c.in_ok-place.place c.requires c.in_ok-place.was) w.step-self.ensures.leads))
     ]
 
 pub returns-in_err-place-clause-steps : goal.returns-in_err-place-clause-steps

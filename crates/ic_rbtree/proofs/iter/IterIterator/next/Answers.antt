@@ -1,13 +1,14 @@
 use Rattle.std.proofs.Common.{Some, ◌∷◌, refl, sym, ◌∙◌}
 use Rattle.ic_link_ops.proofs.PlacedEnds.{first_placed}
+use Rattle.ic_link_ops.proofs.Positions.{moves_on}
 use Rattle.ic_link_ops.proofs.Walks.{is_end_yes}
 use Rattle.ic_rbtree.proofs.Walking.{Steps, steps_last, steps_more, first_stands, none_left, gives, goes}
 use Rattle.ic_rbtree.proofs.iter.IterIterator.next.Goals as goal
 use Rattle.ic_rbtree.proofs.iter.IterIterator.next.Goals.{then-is_at, else-is_at}
 use Rattle.ic_rbtree.proofs.iter.IterIterator.next.Given.{Over}
 
-pub next_of-requires : goal.next_of-requires
-next_of-requires g c = record { stands = rw c.of.ensures (first_stands g.L.RBTreeOps.node g.L.LinkOps.table g.O.Values.values c.args.self.now c.in_ok-place.place c.requires c.in_ok-place.was) }
+pub step-self-requires : goal.step-self-requires
+step-self-requires g c = record { stands = (first_stands g.L.RBTreeOps.node g.L.LinkOps.table g.O.Values.values c.args.self.now c.in_ok-place.place c.requires c.in_ok-place.was) }
 
 pub value-value-requires : goal.value-value-requires
 value-value-requires g c = let k = c.requires in record { placed = first_placed (g.O.Values.values c.args.self.now.objects.now) k.0 k.2 (sym c.in_ok-place.was ∙ k.1.starts) }
@@ -21,7 +22,8 @@ step g c =
           (steps_last _ _ _ c.args.self.now c.in_ok-place.place (λ w. c.in_ok-place.place ∷ w) refl c.requires c.in_ok-place.was (is_end_yes _ _ (sym w.if-is_at.ensures)))
       | else-is_at w ↦
           rw w.self-is
-          (steps_more _ _ _ c.args.self.now c.in_ok-place.place w.get-self.result c.requires c.in_ok-place.was (sym w.if-is_at.ensures) (rw (w.get-self.ensures, ← w.of.ensures) w.next_of.ensures.moved))
+          (steps_more _ _ _ c.args.self.now c.in_ok-place.place w.step-self.result c.requires c.in_ok-place.was (sym w.if-is_at.ensures)
+          (moves_on (first_stands g.L.RBTreeOps.node g.L.LinkOps.table g.O.Values.values c.args.self.now c.in_ok-place.place c.requires c.in_ok-place.was) w.step-self.ensures.leads))
     ]
 
 pub returns-in_err-place-clause-steps : goal.returns-in_err-place-clause-steps

@@ -26,8 +26,8 @@ loop-steps-init g c = record {
 pub returns-in_default : goal.returns-in_default
 returns-in_default g c s shown =
     let i = c.loop-steps.invariant in (
-      λ yes. i.back s shown (root_member shown (sym c.get.ensures ∙ is_end_yes c.get.result c.loop-steps.place (sym c.is_at.ensures ∙ yes))),
-      λ member. c.is_at.ensures ∙ is_end_there (c.get.ensures ∙ at_root node_of shown (i.climbs s shown member) (sym c.parent.ensures ∙ c.in_default.is)),
+      λ yes. i.back s shown (root_member shown (sym c.root.ensures ∙ is_end_yes c.root.result c.loop-steps.place (sym c.is_at.ensures ∙ yes))),
+      λ member. c.is_at.ensures ∙ is_end_there (c.root.ensures ∙ at_root node_of shown (i.climbs s shown member) (sym c.parent.ensures ∙ c.in_default.is)),
     )
 
 pub returns-then-not-has_child : goal.returns-then-not-has_child

@@ -5,13 +5,13 @@ use Rattle.ic_link_ops.specs.PlainTables.{linked_by}
 use Rattle.ic_link_ops.specs.Tables.{IsLinked}
 use Rattle.ic_link_ops.specs.ThreeWords.{has_link, node_of}
 use Rattle.ic_rbtree.specs.PlainTrees.{plain_table, PlainShows}
-use Rattle.ic_rbtree.specs.Tree.{root_of}
+use Rattle.ic_rbtree.specs.Tree.{root_in}
 use Rattle.ic_rbtree.proofs.Climbed.{Climbs}
 use Rattle.ic_rbtree.proofs.tree.RBTree.contains.Given as goal
 
 abbrev pub invariant-loop-steps : goal.invariant-loop-steps
 invariant-loop-steps g l =
-    let root = root_of l.fn.self in
+    let root = root_in g.E.TreeHead.kept l.fn.self in
     record {
       linked : IsLinked (linked_by has_link) (plain_table l.links) l.place;
       climbs : (s : List Place) → PlainShows l.fn.links root s → IsMember l.fn.place s → Climbs node_of (plain_table l.fn.links) root l.place l.steps;

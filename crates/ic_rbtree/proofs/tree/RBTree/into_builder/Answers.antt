@@ -12,10 +12,10 @@ pub tree_to_vine-first-requires-clause-tree : goal.tree_to_vine-first-requires-c
 tree_to_vine-first-requires-clause-tree g c =
     let n = g.N.Nodes.node in
     let x = c.requires.shown.1 in
-    rw c.get.ensures (None, x.tree, whole_tree n x, whole_low n x)
+    rw c.root.ensures (None, x.tree, whole_tree n x, whole_low n x)
 
 pub returns-clause-taken_apart : goal.returns-clause-taken_apart
 returns-clause-taken_apart g c s x =
     let n = g.N.Nodes.node in
     rw c.from_ends.ensures.ends
-    (taken_apart n x c.step-last.ensures (c.tree_to_vine-first.ensures.laid None x.tree (rw c.get.ensures (whole_tree n x)) (whole_low n x)))
+    (taken_apart n x c.step-last.ensures (c.tree_to_vine-first.ensures.laid None x.tree (rw c.root.ensures (whole_tree n x)) (whole_low n x)))

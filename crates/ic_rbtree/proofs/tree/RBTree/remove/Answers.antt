@@ -1,5 +1,6 @@
 use Rattle.std.proofs.Common.{refl, ◌∷◌}
 use Rattle.ic_link_ops.proofs.ShownTrees.{one_sequence}
+use Rattle.ic_rbtree.proofs.KeptHeads as kept
 use Rattle.ic_rbtree.proofs.tree.RBTree.remove.Goals as goal
 
 pub remove-requires : goal.remove-requires
@@ -17,5 +18,6 @@ returns-clause-released g c = rw (← c.place.ensures) c.remove.ensures.released
 pub returns-clause-frame : goal.returns-clause-frame
 returns-clause-frame g c s shown =
     let m = c.requires.member in
-    rw (← one_sequence m.shown shown)
+    let k = g.E.TreeHead.kept c.args.self.now.head in
+    rw (← one_sequence (kept.shown k m.shown) (kept.shown k shown))
     (c.remove.ensures.removed (record { front = m.front; back = c.args.object.now ∷ m.back }) m.shown (rw c.place.ensures refl)).frame

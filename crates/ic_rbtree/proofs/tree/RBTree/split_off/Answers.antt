@@ -1,22 +1,39 @@
-use Rattle.std.proofs.Common.{Some, [], ◌∷◌, ap}
+use Rattle.std.proofs.Common.{◌≡◌, Some, [], ◌∷◌, ◌++◌, sym, ap, subst}
+use Rattle.ic_unsafe_ref.specs.declared.place.Place.{Place}
 use Rattle.ic_link_ops.proofs.Positions.{stands_on}
 use Rattle.ic_link_ops.specs.Sequences.{Cut}
+use Rattle.ic_rbtree.specs.Kept.{TellsEnds}
 use Rattle.ic_rbtree.proofs.Cuts.{splits}
+use Rattle.ic_rbtree.proofs.KeptHeads.{shown, told, member_root, splits_kept}
 use Rattle.ic_rbtree.proofs.Removing.{shown_of}
 use Rattle.ic_rbtree.proofs.tree.RBTree.split_off.Goals as goal
 
 pub hole_beside-parent-requires : goal.hole_beside-parent-requires
-hole_beside-parent-requires g c = record { stands = rw c.get.ensures (stands_on c.requires.member (ap (λ p. Some p) c.place.ensures)) }
+hole_beside-parent-requires g c =
+    record { stands = rw c.root.ensures (stands_on (member_root (g.E.TreeHead.kept c.args.self.now.head) c.requires.member) (ap (λ p. Some p) c.place-place.ensures)) }
 
 pub cut_at-front-requires : goal.cut_at-front-requires
 cut_at-front-requires g c =
-    let m = c.requires.member in
+    let m = member_root (g.E.TreeHead.kept c.args.self.now.head) c.requires.member in
     let gap : Cut = record { front = m.front; back = c.args.object.now ∷ m.back } in
-    (_, _, gap, [], shown_of g.L.RBTreeOps.node m.shown, c.hole_beside-parent.ensures gap (rw c.get.ensures m.shown) (ap (λ p. Some p) c.place.ensures))
+    (_, _, gap, [], shown_of g.L.RBTreeOps.node m.shown, c.hole_beside-parent.ensures gap (rw c.root.ensures m.shown) (ap (λ p. Some p) c.place-place.ensures))
+
+pub split-rest-requires : goal.split-rest-requires
+split-rest-requires g c =
+    let n = g.L.RBTreeOps.node in
+    let m = member_root (g.E.TreeHead.kept c.args.self.now.head) c.requires.member in
+    let gap : Cut = record { front = m.front; back = c.args.object.now ∷ m.back } in
+    record { shown = (m.front, (splits n m.shown (c.cut_at-front.ensures.cut _ _ gap [] (shown_of n m.shown) (c.hole_beside-parent.ensures gap (rw c.root.ensures m.shown) (ap (λ p. Some p) c.place-place.ensures)))).keeps) }
 
 pub returns-clause-split : goal.returns-clause-split
 returns-clause-split g c front back h =
     let n = g.L.RBTreeOps.node in
+    let kept = g.E.TreeHead.kept in
+    let k = kept c.args.self.now.head in
+    let x = shown k h in
     let gap : Cut = record { front = front; back = c.args.object.now ∷ back } in
-    rw (c.of-self.ensures, c.from_root.ensures.root)
-    (splits n h (c.cut_at-front.ensures.cut _ _ gap [] (shown_of n h) (c.hole_beside-parent.ensures gap (rw c.get.ensures h) (ap (λ p. Some p) c.place.ensures))))
+    let s = splits n x (c.cut_at-front.ensures.cut _ _ gap [] (shown_of n x) (c.hole_beside-parent.ensures gap (rw c.root.ensures x) (ap (λ p. Some p) c.place-place.ensures))) in
+    let place : c.args.object.now ≡ c.place-place.result = sym c.place-place.ensures in
+    let t = c.split-rest.ensures.ends front back s.keeps (subst (λ (z : Place). TellsEnds k (front ++ z ∷ back)) place (told n (g.L.LinkOps.table c.args.links.now) k (front ++ c.args.object.now ∷ back) h)) in
+    splits_kept kept c.split-rest.new.self c.split-rest.result
+    (rw (c.split-rest.ensures.root, c.split-rest.ensures.rest_root) s) t.0 (subst (λ (z : Place). TellsEnds (kept c.split-rest.result) (z ∷ back)) (sym place) t.1)

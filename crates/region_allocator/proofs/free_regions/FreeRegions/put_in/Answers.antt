@@ -3,6 +3,7 @@ use Rattle.std.proofs.lemmas.Bool.{leb-true}
 use Rattle.ic_unsafe_ref.proofs.Placing.{placed_there}
 use Rattle.ic_link_ops.proofs.Calling.{accepted}
 use Rattle.ic_pool.proofs.Pooling.{lacks_exactly}
+use Rattle.ic_augmented.proofs.StepLemmas.{inserted_right, links_refused}
 use Rattle.region_allocator.specs.declared.region.Region.{Region}
 use Rattle.region_allocator.specs.Regions.{space_of}
 use Rattle.region_allocator.proofs.Keeping.{kept_grown, kept_set, same_regions, same_entries, put_in}
@@ -50,7 +51,10 @@ returns g c =
     let free = vacant_free k.by_start c.in-Ok.object places.vacant in
     let same = same_regions c.requires.kept set.links (λ q. same_entries grown set.links e.links q ∙ keeps.links.entries q) in
     let i = c.insert.ensures in
-    let put = put_in k c.insert.new.summed.links c.insert.new.tree.root c.insert.new.summed.sums places (rw c.place-2.ensures at e.set) i.join
-    (λ s shown. accepted _ c.insert.result free i.refused (i.inserted s shown)) (accepted _ c.insert.result free i.refused i.acquired)
+    let after = c.insert.new.links in
+    let refused = links_refused _ _ c.insert.result i.refused in
+    let d = accepted _ c.insert.result free refused i.acquired in
+    let put = put_in k after.links c.insert.new.self.head after.sums places (rw c.place-2.ensures at e.set) d.join
+    (λ s shown. inserted_right d shown.1 (accepted _ c.insert.result free refused (i.inserted s shown.0))) d.links
     c.requires.region same c.requires.apart in
-    record { kept = put.0; put = put.1; full = λ full. let never = c.in-Ok.ensures.full.1 (leb-true (2 ^ 32) _ full) in absurd (cc); refused = tt }
+    record { kept = put.0; put = put.1; full = λ full. let never = c.in-Ok.ensures.full.1 (leb-true (2 ^ 32) _ full) in absurd (cc (never)); refused = tt }

@@ -1,5 +1,6 @@
 use Rattle.std.proofs.Common.{◌∙◌, refl}
 use Rattle.ic_rbtree.proofs.InOrder.{own_is, among_by, put_among}
+use Rattle.ic_rbtree.proofs.KeptHeads.{room_new}
 use Rattle.ic_rbtree.proofs.keys.ordered.RBTreeOrdered.insert_in_order.Goals as goal
 
 pub returns-clause-inserted : goal.returns-clause-inserted
@@ -11,3 +12,6 @@ returns-clause-inserted g c =
 
 pub returns-clause-kept : goal.returns-clause-kept
 returns-clause-kept g c = record { stands = (returns-clause-inserted g c).stands; keeps = refl }
+
+pub insert_in_order-requires-clause-room : goal.insert_in_order-requires-clause-room
+insert_in_order-requires-clause-room g c = rw c.new-probe.ensures.none (room_new (g.E.TreeHead.kept c.args.self.now.head))

@@ -1,0 +1,107 @@
+-- How many looks tell where an object goes.
+use Rattle.std.proofs.Common.{◌≡◌, ℕ, ◌+◌, ◌*◌, ◌^◌, ◌≤◌, ◌<◌, Bool, true, false, suc, Option, Some, None, List, [], ◌∷◌, ◌++◌, length, refl, sym, ◌∙◌, subst, arith}
+use Rattle.std.proofs.Math.Nat.{pow-le-pow_left, pow-suc}
+use Rattle.std.proofs.Math.Pow.{pow_mono}
+use Rattle.std.specs.declared.cmp.Ordering.{Ordering}
+use Rattle.std.specs.Prelude.{IfSome, not}
+use Rattle.ic_unsafe_ref.specs.declared.place.Place.{Place}
+use Rattle.ic_unsafe_ref.specs.Objects.{Objects, is_placed}
+use Rattle.ic_link_ops.specs.PlacedObjects.{ArePlaced}
+use Rattle.ic_link_ops.specs.Sequences.{last}
+use Rattle.ic_link_ops.proofs.PlacedEnds.{last_placed}
+use Rattle.ic_link_ops.proofs.SequenceLemmas.{none_not, nothing_last}
+use Rattle.ic_rbtree.specs.Borders.{less_at}
+use Rattle.ic_rbtree.specs.Comparing.{HasRoom, FewLooks, Looks}
+use Rattle.ic_rbtree.specs.Holes.{behind_there, looks_there}
+use Rattle.ic_rbtree.specs.Kept.{Kept, alone, ended, HasRoomFor, InsertLooks}
+
+-- there is a member, if there is a last one
+has_some : (s : List Place) {p : Place} → Some p ≡ last s → 1 ≤ length s
+has_some [] {p} e = absurd (none_not p (sym e))
+has_some (x ∷ s) e = omega arith
+
+-- an object stands at the last member, if there is one
+pub last_is_placed : {T : Type 0} (objects : Objects T) (s : List Place) → ArePlaced objects s → (o : Option Place) → o ≡ last s → IfSome o (λ p. is_placed objects p ≡ true)
+last_is_placed objects s placed None is = tt
+last_is_placed objects s placed (Some p) is = last_placed objects s placed is
+
+pub end_placed : {T : Type 0} (objects : Objects T) (s : List Place) → ArePlaced objects s → (o : Option Place) → IfSome o (λ p. last s ≡ Some p) → IfSome o (λ p. is_placed objects p ≡ true)
+end_placed objects s placed None is = tt
+end_placed objects s placed (Some p) is = last_placed objects s placed (sym is)
+
+-- and it is the last
+pub last_there : (s : List Place) (o : Option Place) {p : Place} → IfSome o (λ p. last s ≡ Some p) → o ≡ Some p → o ≡ last s
+last_there s None {p} tells is = absurd (none_not p is)
+last_there s (Some q) tells is = sym tells
+
+-- a probe with room for a descent has it for a look
+pub room_less : {count : ℕ} → HasRoom count → count < 18446744073709551615
+room_less room = omega (arith, room)
+
+pub with_member : (front : List Place) (p : Place) (back : List Place) → 1 ≤ length (front ++ p ∷ back)
+with_member [] p back = omega arith
+with_member (x ∷ front) p back = omega arith
+
+-- one look at most is made at a position
+pub one_look : (o : Option Place) → looks_there o ≤ 1
+one_look None = omega arith
+one_look (Some p) = omega arith
+
+-- at a square of two or more
+square : (s : List Place) → 1 ≤ length s → 2 ^ 2 ≤ (length s + 1) ^ 2
+square s some = let k : 2 ≤ length s + 1 = omega (arith, some) in pow-le-pow_left k 2
+
+-- THE LOOK AT THE LAST MEMBER is few,
+pub few_last : (s : List Place) (o : Option Place) → o ≡ last s → FewLooks (looks_there o) s
+few_last s None is = subst (λ z. FewLooks 0 z) (sym (nothing_last s is)) (record { few = omega arith; some = λ k. omega (arith, k) })
+few_last s (Some p) is = record { few = omega (arith, square s (has_some s is)); some = λ k. omega arith }
+
+-- and so are two at a hint,
+pub few_there : (s : List Place) (k : ℕ) → 1 ≤ length s → k ≤ 2 → 2 ^ k ≤ 2 * (length s + 1) ^ 2
+few_there s k some most = let a : 2 ^ k ≤ 2 ^ 2 = pow_mono most in let b = square s some in omega (arith, a, b)
+
+-- with those of a descent behind them
+pub few_behind : (s : List Place) (k looks : ℕ) → k ≤ 2 → 2 ^ (looks + 1) ≤ (length s + 1) ^ 2 → 2 ^ (k + looks) ≤ 2 * (length s + 1) ^ 2
+few_behind s k looks most fewer =
+    let a : 2 ^ (k + looks) ≤ 2 ^ suc (looks + 1) = pow_mono (omega (arith, most)) in
+    let b : 2 ^ suc (looks + 1) ≡ 2 ^ (looks + 1) * 2 = pow-suc 2 (looks + 1) in
+    omega (arith, a, b, fewer)
+
+-- A MEMBER IS THERE, and what is searched is not less
+pub behind_some : (at : Place → Ordering) (o : Option Place) → behind_there at o ≡ true → (p : Place) × (o ≡ Some p) × (less_at at p ≡ false)
+behind_some at None e = cc
+behind_some at (Some p) e = (p, refl, not_true (less_at at p) e) where
+  not_true : (b : Bool) → not b ≡ true → b ≡ false
+  not_true true e = cc
+  not_true false e = refl
+
+-- a probe with room for an insert has it for a descent behind the look at an end that is kept
+pub room_below : (k : Kept) (o : Option Place) (count : ℕ) {now : ℕ} → ((root : Option Place) → k ≡ alone root → o ≡ None) → HasRoomFor k count → now ≡ count + looks_there o → HasRoom now
+room_below (alone root) None count none room is = omega (arith, room, is)
+room_below (alone root) (Some p) count none room is = absurd (none_not p (sym (none root refl)))
+room_below (ended e) None count none room is = omega (arith, room, is)
+room_below (ended e) (Some p) count none room is = omega (arith, room, is)
+
+module _ {P V : Type 0} (order : P → V → Ordering) (count : P → ℕ) where
+  -- THE LOOKS OF AN INSERT that ends behind the last member,
+  pub looks_behind : (k : Kept) (s : List Place) (o : Option Place) (at : Place → Ordering) {old new : P} → ((root : Option Place) → k ≡ alone root → o ≡ None) → IfSome o (λ p. last s ≡ Some p) → behind_there at o ≡ true
+      → count new ≡ count old + looks_there o → order new ≡ order old → InsertLooks order count k old new s
+  looks_behind (alone root) s None at none tells behind counted same = cc
+  looks_behind (alone root) s (Some p) at none tells behind counted same = absurd (none_not p (sym (none root refl)))
+  looks_behind (ended e) s None at none tells behind counted same = cc
+  looks_behind (ended e) s (Some p) at none tells behind counted same = record { looks = 1; counted = counted; few = few_last s (Some p) (sym tells); order_is = same }
+
+  -- and of one that descends
+  pub looks_below : (k : Kept) (s : List Place) (o : Option Place) {old mid new : P} → ((root : Option Place) → k ≡ alone root → o ≡ None) → IfSome o (λ p. last s ≡ Some p)
+      → count mid ≡ count old + looks_there o → order mid ≡ order old → Looks order count mid new s → InsertLooks order count k old new s
+  looks_below (alone root) s None none tells counted same x =
+      record { looks = x.looks; counted = omega (arith, x.counted, counted); few = x.few; fewer = x.fewer; order_is = x.order_is ∙ same }
+  looks_below (alone root) s (Some p) none tells counted same x = absurd (none_not p (sym (none root refl)))
+  looks_below (ended e) s None none tells counted same x =
+      record { looks = x.looks; counted = omega (arith, x.counted, counted); few = x.few; order_is = x.order_is ∙ same }
+  looks_below (ended e) s (Some p) none tells counted same x = record {
+    looks = x.looks + 1;
+    counted = omega (arith, x.counted, counted);
+    few = record { few = x.fewer (has_some s (sym tells)); some = λ _. omega arith };
+    order_is = x.order_is ∙ same;
+  }

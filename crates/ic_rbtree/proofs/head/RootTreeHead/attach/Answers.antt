@@ -1,0 +1,4 @@
+use Rattle.ic_rbtree.proofs.head.RootTreeHead.attach.Goals as goal
+
+pub returns-clause-safe : goal.returns-clause-safe
+returns-clause-safe g c = rw (← c.self.view_is) c.attach.ensures.safe

@@ -1,0 +1,51 @@
+-- Where an object comes into a tree, and how many looks find that.
+use Rattle.std.specs.Prelude.{◌≡◌, ℕ, ◌+◌, ◌*◌, ◌^◌, ◌≤◌, Bool, false, not, Option, None, Some, List, length}
+use Rattle.std.specs.declared.cmp.Ordering.{Ordering}
+use Rattle.ic_unsafe_ref.specs.declared.place.Place.{Place}
+use Rattle.ic_unsafe_ref.specs.Objects.{Objects}
+use Rattle.ic_link_ops.specs.declared.side.Side.{Side}
+use Rattle.ic_link_ops.specs.RedBlackTree.{Node}
+use Rattle.ic_link_ops.specs.Sequences.{Cut, join, IsBefore}
+use Rattle.ic_link_ops.specs.Tables.{Table}
+use Rattle.ic_rbtree.specs.Borders.{IsBorder, less_at}
+use Rattle.ic_rbtree.specs.Comparing.{compared}
+use Rattle.ic_rbtree.specs.Insertion.{IsHole}
+
+-- whether what is searched is less than the member at a position, which is not so at null
+abbrev pub less_there : (Place → Ordering) → Option Place → Bool
+less_there at None = false
+less_there at (Some p) = less_at at p
+
+-- whether there is a member, and what is searched is not less
+abbrev pub behind_there : (Place → Ordering) → Option Place → Bool
+behind_there at None = false
+behind_there at (Some p) = not (less_at at p)
+
+-- how many looks tell either
+abbrev pub looks_there : Option Place → ℕ
+looks_there None = 0
+looks_there (Some p) = 1
+
+module _ {E : Type 0} (n : E → Node) where
+  -- THE HOLE IS WHERE WHAT IS SEARCHED BELONGS: behind what is less or equal
+  pub record IsInOrder (v : Table E) (at : Place → Ordering) (s : List Place) (parent : Option Place) (d : Side) : Type 0 where
+    pub gap : Cut
+    pub same : join gap ≡ s
+    pub border : IsBorder (less_at at) gap
+    pub hole : IsHole n v parent d gap
+
+-- the gap in front of this member of s is a border of the test
+pub record BelongsBefore (test : Place → Bool) (p : Place) (s : List Place) : Type 0 where
+  pub gap : Cut
+  pub same : join gap ≡ s
+  pub before : IsBefore gap (Some p)
+  pub border : IsBorder test gap
+
+module _ {P V : Type 0} (order : P → V → Ordering) (count : P → ℕ) where
+  -- THE LOOKS OF ONE INSERT WITH A HINT: two at most where what is searched belongs in front of the hint, and else one more than a descent makes at most
+  pub record HintedLooks (objects : Objects V) (hint : Place) (old new : P) (s : List Place) : Type 0 where
+    pub looks : ℕ
+    pub counted : count new ≡ count old + looks
+    pub few : 2 ^ looks ≤ 2 * (length s + 1) ^ 2
+    pub at_hint : BelongsBefore (less_at (compared (order old) objects)) hint s → looks ≤ 2
+    pub order_is : order new ≡ order old

@@ -1,0 +1,108 @@
+-- What a tree keeps of its members: its root, and maybe the first and the last of them.
+use Rattle.std.specs.Prelude.{◌≡◌, ℕ, ◌+◌, cond, Option, None, Some, List, []}
+use Rattle.std.specs.declared.cmp.Ordering.{Ordering}
+use Rattle.ic_unsafe_ref.specs.declared.place.Place.{Place}
+use Rattle.ic_link_ops.specs.declared.side.Side.{Side}
+use Rattle.ic_link_ops.specs.declared.side.Side.TheVariants.{Left, Right}
+use Rattle.ic_link_ops.specs.Sequences.{Cut, first, last}
+use Rattle.ic_link_ops.specs.Tables.{Table}
+use Rattle.ic_link_ops.specs.Walk.{is_end}
+use Rattle.ic_link_ops.specs.RedBlackTree.{Node, Shows, ShowsSome}
+use Rattle.ic_rbtree.specs.Comparing.{HasRoom, FewLooks, Looks}
+use Rattle.ic_rbtree.specs.Ends.{end_on}
+use Rattle.ic_rbtree.specs.Insertion.{are_across}
+use Rattle.ic_rbtree.specs.Sides.{IsBeside}
+
+-- the root, the first member and the last one
+pub record RootAndEnds : Type 0 where
+  pub root : Option Place
+  pub front : Option Place
+  pub back : Option Place
+
+-- of a tree with no member
+abbrev pub no_ends : RootAndEnds
+no_ends = record { root = None; front = None; back = None }
+
+-- WHAT A TREE KEEPS, as clauses see it: its root alone, or its ends too
+pub data Kept : Type 0 where
+  alone : Option Place → Kept
+  ended : RootAndEnds → Kept
+
+abbrev pub root_kept : Kept → Option Place
+root_kept (alone root) = root
+root_kept (ended h) = h.root
+
+-- what is kept beside the root is right of a tree with these members
+abbrev pub TellsEnds : Kept → List Place → Type 0
+TellsEnds (alone root) s = Unit {0}
+TellsEnds (ended h) s = (h.front ≡ first s) × (h.back ≡ last s)
+
+-- it is that of a tree with no member
+abbrev pub IsEmptied : Kept → Type 0
+IsEmptied (alone root) = root ≡ None
+IsEmptied (ended h) = h ≡ no_ends
+
+module _ {E : Type 0} (n : E → Node) where
+  -- THE TABLE SHOWS s for the tree with this root and these ends: it does for the root, and they are the first and the last of s
+  pub record ShowsWithEnds (t : Table E) (h : RootAndEnds) (s : List Place) : Type 0 where
+    pub shown : Shows n t h.root s
+    pub front_is : h.front ≡ first s
+    pub back_is : h.back ≡ last s
+
+  -- THE TABLE SHOWS s for a tree that keeps this
+  abbrev pub ShowsFor : Table E → Kept → List Place → Type 0
+  ShowsFor t (alone root) = Shows n t root
+  ShowsFor t (ended h) = ShowsWithEnds t h
+
+  -- the end on a side: as it is kept, or the outermost member of what is shown
+  abbrev pub EndIs : Side → Table E → Kept → Option Place → Type 0
+  EndIs d t (alone root) end = (s : List Place) → Shows n t root s → end ≡ end_on d s
+  EndIs Left t (ended h) end = end ≡ h.front
+  EndIs Right t (ended h) end = end ≡ h.back
+
+  -- to find it the table has to show the tree, unless it is kept
+  abbrev pub HasEnds : Table E → Kept → Type 0
+  HasEnds t (alone root) = ShowsSome n t root
+  HasEnds t (ended h) = Unit {0}
+
+-- `kept`: what a tree of this kind keeps
+module _ {H E : Type 0} (kept : H → Kept) (n : E → Node) where
+  -- THE TABLE SHOWS s for the tree with this head
+  abbrev pub ShowsKept : Table E → H → List Place → Type 0
+  ShowsKept t head = ShowsFor n t (kept head)
+
+  -- it shows some sequence
+  abbrev pub ShowsKeptSome : Table E → H → Type 0
+  ShowsKeptSome t head = (s : List Place) × ShowsKept t head s
+
+-- a gap on this side of a member, or the one gap of a tree with none
+abbrev pub IsBelow : Option Place → Side → Cut → Type 0
+IsBelow None below gap = (gap.front ≡ []) × (gap.back ≡ [])
+IsBelow (Some q) below gap = IsBeside below gap (Some q)
+
+-- the end on side d where p has come in on this side of a member, or into an empty tree
+abbrev pub end_with : Side → Option Place → Side → Place → Option Place → Option Place
+end_with d None below p end = Some p
+end_with d (Some q) below p end = cond (are_across d below) end (cond (is_end end q) (Some p) end)
+
+-- the end where a member is replaced by p
+abbrev pub end_for : Place → Place → Option Place → Option Place
+end_for out p end = cond (is_end end out) (Some p) end
+
+-- a probe has room for an insert: for one descent, and where an end is kept for one look more
+abbrev pub HasRoomFor : Kept → ℕ → Type 0
+HasRoomFor (alone root) count = HasRoom count
+HasRoomFor (ended h) count = HasRoom (count + 1)
+
+module _ {P V : Type 0} (order : P → V → Ordering) (count : P → ℕ) where
+  -- THE LOOKS OF ONE INSERT that looks at the last member first: no more than one descent makes at most. The probe compares as before
+  pub record EndLooks (old new : P) (s : List Place) : Type 0 where
+    pub looks : ℕ
+    pub counted : count new ≡ count old + looks
+    pub few : FewLooks looks s
+    pub order_is : order new ≡ order old
+
+  -- and of one in a tree that keeps this
+  abbrev pub InsertLooks : Kept → P → P → List Place → Type 0
+  InsertLooks (alone root) = Looks order count
+  InsertLooks (ended h) = EndLooks

@@ -1,0 +1,95 @@
+//! Inserts that begin at a member in front of which the object probably goes.
+//!
+//! ```text
+//! timers.insert_with_hint(&mut links, &objects, &next, timer)?; // two looks where it goes in front of `next`
+//! ```
+
+ghost use Rattle.std.specs.Prelude.{◌≡◌, ◌+◌, true, OnOk, OnErr, IfErr, List, [], ◌∷◌};
+ghost use Rattle.ic_unsafe_ref.specs.declared.place.Place.{Place};
+ghost use Rattle.ic_unsafe_ref.specs.Objects.{is_placed};
+ghost use Rattle.ic_link_ops.specs.LinkSteps.{acquires};
+ghost use Rattle.ic_link_ops.specs.PlacedObjects.{ShowsPlaced};
+ghost use Rattle.ic_link_ops.specs.Positions.{HasMember};
+ghost use Rattle.ic_link_ops.specs.Tables.{IsCovered};
+ghost use Rattle.ic_rbtree.specs.Comparing.{compared, own_order, HasRoom};
+ghost use Rattle.ic_rbtree.specs.Holes.{HintedLooks};
+ghost use Rattle.ic_rbtree.specs.Kept.{ShowsKept};
+ghost use Rattle.ic_rbtree.specs.Ordered.{InsertsInOrder};
+ghost use Rattle.ic_rbtree.specs.Tree.{head_of, adapter_of};
+
+use crate::head::TreeHead;
+use crate::keys::hole::hole_near;
+use crate::{KeyAdapter, KeyProbe, Probe, RBTree};
+use ic_link_ops::rbtree::RBTreeOps;
+use ic_link_ops::{AlreadyLinked, LinkOps};
+use ic_unsafe_ref::{UnsafeRef, Values};
+
+impl<A: KeyAdapter, E: TreeHead> RBTree<A, E> {
+    /// Inserts the object where the probe's order wants it, with a hint: the member in front of which it probably goes. It looks at that
+    /// member, and at the one in front of it. If the object goes between both, it makes no descent, and else it descends.
+    ///
+    /// It requires that the object's place is covered, that all members are placed, that the hint is a member, and that the probe's count is
+    /// at most `u64::MAX - 68`. A refused object comes back, nothing is looked at, and the tree and its links are as they were. O(log n):
+    /// two looks at most where the hint is right, and else v in a tree of n members, where `2^v <= 2 * (n + 1)^2`.
+    #[inline]
+    pub fn insert_with_hint_by<L: RBTreeOps, P: Probe<A::Value>, O: Values<A::Value>>(
+        &mut self,
+        links: &mut L,
+        objects: &O,
+        probe: &mut P,
+        hint: &UnsafeRef<A::Value>,
+        object: UnsafeRef<A::Value>,
+    ) -> Result<(), AlreadyLinked<A::Value>>
+        requires covered { IsCovered (L.table links.old) object }
+        requires placed { ShowsPlaced (ShowsKept E.kept L.node (L.table links.old) (head_of self.old)) (O.values objects.now) }
+        requires member { HasMember (ShowsKept E.kept L.node (L.table links.old) (head_of self.old)) hint.now }
+        requires room { HasRoom (P.count probe.old + 2) }
+        ensures inserted { (s : List Place) → ShowsKept E.kept L.node (L.table links.old) (head_of self.old) s → OnOk result
+            (InsertsInOrder (ShowsKept E.kept L.node) (compared (P.order probe.old) (O.values objects.now)) (L.table links.old)
+            (L.table links.new) (head_of self.new) s object) }
+        ensures acquired { OnOk result (L.Does links.old links.new (acquires object ∷ [])) }
+        ensures adapter { adapter_of self.new ≡ adapter_of self.old }
+        ensures refused { OnErr result (L.Refused links.old links.new object) }
+        ensures unchanged { IfErr result (λ refused. (refused.0 ≡ object) × (self.new ≡ self.old)) }
+        ensures looks { (s : List Place) → ShowsKept E.kept L.node (L.table links.old) (head_of self.old) s
+            → OnOk result (HintedLooks P.order P.count (O.values objects.now) hint.now probe.old probe.new s) }
+        ensures no_look { OnErr result (probe.new ≡ probe.old) }
+    {
+        let place = object.place();
+        if !links.acquire_link(place) {
+            return Err(AlreadyLinked(object));
+        }
+        let root = self.head.root();
+        let (parent, side) = hole_near(&*links, root, hint.place(), objects, probe);
+        self.head.attach(links, parent, side, place);
+        Ok(())
+    }
+
+    /// Inserts the object where its own key belongs, behind members with the same key, with a hint: `insert_with_hint_by` with a
+    /// `KeyProbe`. It requires that the object is placed, too. O(log n), and two looks at most where the hint is right.
+    #[inline]
+    pub fn insert_with_hint<L: RBTreeOps, O: Values<A::Value>>(
+        &mut self,
+        links: &mut L,
+        objects: &O,
+        hint: &UnsafeRef<A::Value>,
+        object: UnsafeRef<A::Value>,
+    ) -> Result<(), AlreadyLinked<A::Value>>
+        requires covered { IsCovered (L.table links.old) object }
+        requires placed { ShowsPlaced (ShowsKept E.kept L.node (L.table links.old) (head_of self.old)) (O.values objects.now) }
+        requires member { HasMember (ShowsKept E.kept L.node (L.table links.old) (head_of self.old)) hint.now }
+        requires object { is_placed (O.values objects.now) object ≡ true }
+        ensures inserted { (s : List Place) → ShowsKept E.kept L.node (L.table links.old) (head_of self.old) s → OnOk result
+            (InsertsInOrder (ShowsKept E.kept L.node)
+            (compared (own_order A.Key.cmp (A.key_of (adapter_of self.old)) (O.values objects.now) object) (O.values objects.now))
+            (L.table links.old) (L.table links.new) (head_of self.new) s object) }
+        ensures acquired { OnOk result (L.Does links.old links.new (acquires object ∷ [])) }
+        ensures adapter { adapter_of self.new ≡ adapter_of self.old }
+        ensures refused { OnErr result (L.Refused links.old links.new object) }
+        ensures unchanged { IfErr result (λ refused. (refused.0 ≡ object) × (self.new ≡ self.old)) }
+    {
+        let value = objects.value(object.place());
+        let mut probe = KeyProbe::new(self.adapter, self.adapter.get_key(value));
+        self.insert_with_hint_by(links, objects, &mut probe, hint, object)
+    }
+}
