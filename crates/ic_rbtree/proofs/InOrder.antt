@@ -20,6 +20,7 @@ use Rattle.ic_link_ops.proofs.ShownTrees.{shows_beside, free_absent}
 use Rattle.ic_cursors.specs.Answers.{inserted}
 use Rattle.ic_rbtree.specs.declared.keys.descent.Descent.{Descent}
 use Rattle.ic_rbtree.specs.Borders.{less_at}
+use Rattle.ic_rbtree.specs.Closed.{IsSafeBut}
 use Rattle.ic_rbtree.specs.Comparing.{answer_at, compared, order_of, own_order}
 use Rattle.ic_rbtree.specs.Descents.{gap_in, EndsAt}
 use Rattle.ic_rbtree.specs.Holes.{IsInOrder}
@@ -30,6 +31,7 @@ use Rattle.ic_rbtree.specs.Pieces.{loose, Shown}
 use Rattle.ic_rbtree.proofs.Attaching.{acquired_shown, inserts}
 use Rattle.ic_rbtree.proofs.Gaps.{gap_join, gap_border}
 use Rattle.ic_rbtree.proofs.KeptHeads.{shown, told, shows, inserts_kept, hole_below}
+use Rattle.ic_rbtree.proofs.ShownClosed.{with_place, shown_closed_but, with_itself, hole_in}
 
 -- A DESCENT ENDS where what is searched belongs
 pub ended_in_order : {E : Type 0} (n : E → Node) {v : Table E} {root : Option Place} {s : List Place} {at : Place → Ordering} {d : Descent} {parent : Option Place}
@@ -56,6 +58,11 @@ module _ {E : Type 0} (n : E → Node) (linked : E → Bool) (alike : (e : E) �
   pub fits : {root : Option Place} {at : Place → Ordering} {parent : Option Place} {d : Side} {s : List Place} → Shows n old root s → (x : IsInOrder n v at s parent d)
       → Shown n v v root (join x.gap) (loose p ∷ [])
   fits {root} h x = acquired_shown n linked alike old v root (join x.gap) p (subst (Shows n old root) (sym x.same) h) was is only
+
+  -- so it may come in there
+  pub fits_safe : {root : Option Place} {at : Place → Ordering} {parent : Option Place} {d : Side} {s : List Place} → Shows n old root s → IsInOrder n v at s parent d
+      → IsSafeBut n v root p (Some p ∷ parent ∷ [])
+  fits_safe h x = let f = fits h x in (with_place p (join x.gap), shown_closed_but n f, (with_itself n f, (hole_in n v p _ _ x.gap x.hole, tt)))
 
   pub fitted : {H : Type 0} (kept : H → Kept) (head new : H) {at : Place → Ordering} {parent : Option Place} {d : Side} {s : List Place} {w : Table E} → ShowsFor n old (kept head) s → IsInOrder n v at s parent d
       → Attaches n v w (root_kept (kept head)) (root_kept (kept new)) parent d p

@@ -1,7 +1,5 @@
-use Rattle.ic_link_ops.specs.Sequences.{join}
-use Rattle.ic_rbtree.proofs.InOrder.{still_kept, fits, fitted}
+use Rattle.ic_rbtree.proofs.InOrder.{still_kept, fits_safe, fitted}
 use Rattle.ic_rbtree.proofs.KeptHeads.{shown}
-use Rattle.ic_rbtree.proofs.ShownClosed.{with_place, shown_closed_but, with_itself, hole_in}
 use Rattle.ic_rbtree.proofs.linking.insert_in_order.Goals as goal
 
 pub hole_for-parent-requires-clause-placed : goal.hole_for-parent-requires-clause-placed
@@ -22,8 +20,7 @@ attach-requires g c =
     let r = c.requires.placed in
     let l = g.met.L.LinkOps.does_replay _ _ _ c.if-not-acquire_link.ensures.acquired in
     let x = c.hole_for-parent.ensures.hole r.members (still_kept n g.L.LinkOps.linked alike l.was l.is c.acquire_link.ensures.frame kept r.members r.shown) in
-    let f = fits n g.L.LinkOps.linked alike l.was l.is c.acquire_link.ensures.frame (shown kept r.shown) x in
-    (with_place c.args.object (join x.gap), shown_closed_but n f, (with_itself n f, (hole_in n (g.L.LinkOps.table c.acquire_link.new.self) c.args.object _ _ x.gap x.hole, tt)))
+    fits_safe n g.L.LinkOps.linked alike l.was l.is c.acquire_link.ensures.frame (shown kept r.shown) x
 
 pub returns-clause-inserted : goal.returns-clause-inserted
 returns-clause-inserted g c s h =

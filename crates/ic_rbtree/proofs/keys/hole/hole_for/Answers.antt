@@ -1,4 +1,4 @@
-use Rattle.std.proofs.Common.{◌≡◌, false, refl, sym, ◌∙◌, subst, append-nil}
+use Rattle.std.proofs.Common.{◌≡◌, false, sym, ◌∙◌, subst, append-nil}
 use Rattle.ic_link_ops.specs.declared.side.Side.TheVariants.{Right}
 use Rattle.ic_link_ops.specs.Sequences.{at_back}
 use Rattle.ic_link_ops.proofs.SequenceLemmas.{none_not, some_same}
@@ -40,7 +40,7 @@ returns-then-is_behind-clause-looks g c s h =
     c.kept_last-last.ensures.alone (c.kept_last-last.ensures.last s (told g.L.RBTreeOps.node (g.L.LinkOps.table c.args.links.now) k s h)) (sym c.is_behind.ensures.behind ∙ c.if-is_behind.true) c.is_behind.ensures.counted c.is_behind.ensures.same
 
 pub descend-hole-requires-clause-placed : goal.descend-hole-requires-clause-placed
-descend-hole-requires-clause-placed g c = placed_root (g.E.TreeHead.kept c.args.head.now) c.requires.placed
+descend-hole-requires-clause-placed g c = rw c.root.ensures (placed_root (g.E.TreeHead.kept c.args.head.now) c.requires.placed)
 
 pub descend-hole-requires-clause-room : goal.descend-hole-requires-clause-room
 descend-hole-requires-clause-room g c = room_below (g.E.TreeHead.kept c.args.head.now) c.kept_last-last.result _ c.kept_last-last.ensures.alone c.requires.room c.is_behind.ensures.counted
@@ -51,10 +51,10 @@ returns-clause-hole g c s h =
     let v = g.L.LinkOps.table c.args.links.now in
     let values = g.O.Values.values c.args.objects.now in
     let x = shown (g.E.TreeHead.kept c.args.head.now) h in
-    ended_in_order n x (subst (λ o. EndsAt n v (compared o values) Right x.tree c.descend-hole.result) c.is_behind.ensures.same (ends_at_root n refl c.descend-hole.ensures.ends x)) c.get.ensures
+    ended_in_order n x (subst (λ o. EndsAt n v (compared o values) Right x.tree c.descend-hole.result) c.is_behind.ensures.same (ends_at_root n c.root.ensures c.descend-hole.ensures.ends x)) c.get.ensures
 
 pub returns-clause-looks : goal.returns-clause-looks
 returns-clause-looks g c s h =
     let k = g.E.TreeHead.kept c.args.head.now in
     looks_below g.P.Probe.order g.P.Probe.count k s c.kept_last-last.result c.kept_last-last.ensures.alone (c.kept_last-last.ensures.last s (told g.L.RBTreeOps.node (g.L.LinkOps.table c.args.links.now) k s h)) c.is_behind.ensures.counted c.is_behind.ensures.same
-    (c.descend-hole.ensures.looks s (shown k h))
+    (c.descend-hole.ensures.looks s (rw c.root.ensures (shown k h)))

@@ -1,25 +1,22 @@
 use Rattle.std.proofs.Common.{◌∙◌, refl, sym, subst}
 use Rattle.ic_unsafe_ref.specs.declared.place.Place.{Place}
 use Rattle.ic_unsafe_ref.specs.Objects.{Objects}
-use Rattle.ic_link_ops.specs.PlacedObjects.{ArePlaced}
-use Rattle.ic_link_ops.specs.Sequences.{join}
 use Rattle.ic_rbtree.specs.Comparing.{compared, own_order}
 use Rattle.ic_rbtree.specs.Kept.{ShowsKept}
 use Rattle.ic_rbtree.specs.Ordered.{InsertsInOrder}
-use Rattle.ic_rbtree.proofs.InOrder.{still_kept, fits, fitted, own_is}
+use Rattle.ic_rbtree.proofs.InOrder.{still_kept, fits_safe, fitted, own_is}
 use Rattle.ic_rbtree.proofs.KeptHeads.{shown, room_new}
-use Rattle.ic_rbtree.proofs.ShownClosed.{with_place, shown_closed_but, with_itself, hole_in}
+use Rattle.ic_rbtree.proofs.PlacedMembers.{kept_placed}
 use Rattle.ic_rbtree.proofs.tree.RBTree.insert_keyed.Goals as goal
 
 pub hole_for-parent-requires-clause-placed : goal.hole_for-parent-requires-clause-placed
 hole_for-parent-requires-clause-placed g c =
-    let r = c.requires.placed in
+    let alike = g.met.L.RBTreeOps.linked_alike in
+    let kept = g.E.TreeHead.kept c.args.self.now.head in
+    let r = c.requires.shown in
     let l = g.met.L.LinkOps.does_replay _ _ _ c.if-not-acquire_link.ensures.acquired in
-    record {
-      members = r.members;
-      shown = still_kept g.L.RBTreeOps.node g.L.LinkOps.linked g.met.L.RBTreeOps.linked_alike l.was l.is c.acquire_link.ensures.frame (g.E.TreeHead.kept c.args.self.now.head) r.members r.shown;
-      placed = subst (λ o. ArePlaced o r.members) (sym (g.met.L.LinkValues.values_stay _ _ c.acquire_link.ensures.frame.extent)) r.placed;
-    }
+    kept_placed g.L.RBTreeOps.node g.L.LinkOps.table g.L.Values.values alike g.met.L.LinkOps.linked_is_covered g.met.L.LinkValues.covered_has_value c.acquire_link.new.self kept
+    (r.0, still_kept g.L.RBTreeOps.node g.L.LinkOps.linked alike l.was l.is c.acquire_link.ensures.frame kept r.0 r.1)
 
 pub hole_for-parent-requires-clause-room : goal.hole_for-parent-requires-clause-room
 hole_for-parent-requires-clause-room g c = rw c.new-probe.ensures.none (room_new (g.E.TreeHead.kept c.args.self.now.head))
@@ -29,11 +26,10 @@ attach-requires g c =
     let n = g.L.RBTreeOps.node in
     let alike = g.met.L.RBTreeOps.linked_alike in
     let kept = g.E.TreeHead.kept c.args.self.now.head in
-    let r = c.requires.placed in
+    let r = c.requires.shown in
     let l = g.met.L.LinkOps.does_replay _ _ _ c.if-not-acquire_link.ensures.acquired in
-    let x = c.hole_for-parent.ensures.hole r.members (still_kept n g.L.LinkOps.linked alike l.was l.is c.acquire_link.ensures.frame kept r.members r.shown) in
-    let f = fits n g.L.LinkOps.linked alike l.was l.is c.acquire_link.ensures.frame (shown kept r.shown) x in
-    (with_place c.place-place.result (join x.gap), shown_closed_but n f, (with_itself n f, (hole_in n (g.L.LinkOps.table c.acquire_link.new.self) c.place-place.result _ _ x.gap x.hole, tt)))
+    let x = c.hole_for-parent.ensures.hole r.0 (still_kept n g.L.LinkOps.linked alike l.was l.is c.acquire_link.ensures.frame kept r.0 r.1) in
+    fits_safe n g.L.LinkOps.linked alike l.was l.is c.acquire_link.ensures.frame (shown kept r.1) x
 
 pub returns-clause-inserted : goal.returns-clause-inserted
 returns-clause-inserted g c s h =
@@ -56,5 +52,5 @@ returns-clause-inserted g c s h =
 
 pub returns-clause-values : goal.returns-clause-values
 returns-clause-values g c =
-    let r = c.requires.placed in
-    g.met.L.LinkValues.values_stay _ _ (returns-clause-inserted g c r.members r.shown).inserted.frame.extent
+    let r = c.requires.shown in
+    g.met.L.LinkValues.values_stay _ _ (returns-clause-inserted g c r.0 r.1).inserted.frame.extent

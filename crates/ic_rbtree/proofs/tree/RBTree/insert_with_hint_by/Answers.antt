@@ -1,12 +1,10 @@
 use Rattle.std.proofs.Common.{subst}
-use Rattle.ic_link_ops.specs.Sequences.{join}
 use Rattle.ic_rbtree.specs.Comparing.{compared}
 use Rattle.ic_rbtree.specs.Holes.{HintedLooks}
 use Rattle.ic_rbtree.specs.Kept.{ShowsKept}
 use Rattle.ic_rbtree.specs.Ordered.{InsertsInOrder}
-use Rattle.ic_rbtree.proofs.InOrder.{still_shown, fits, fitted}
+use Rattle.ic_rbtree.proofs.InOrder.{still_shown, fits_safe, fitted}
 use Rattle.ic_rbtree.proofs.KeptHeads.{shown, placed_root, member_root}
-use Rattle.ic_rbtree.proofs.ShownClosed.{with_place, shown_closed_but, with_itself, hole_in}
 use Rattle.ic_rbtree.proofs.tree.RBTree.insert_with_hint_by.Goals as goal
 
 pub hole_near-parent-requires-clause-placed : goal.hole_near-parent-requires-clause-placed
@@ -30,8 +28,7 @@ attach-requires g c =
     let r = placed_root (g.E.TreeHead.kept c.args.self.now.head) c.requires.placed in
     let l = g.met.L.LinkOps.does_replay _ _ _ c.if-not-acquire_link.ensures.acquired in
     let x = c.hole_near-parent.ensures.hole r.members (rw c.root-root.ensures (still_shown n g.L.LinkOps.linked alike l.was l.is c.acquire_link.ensures.frame r.shown)) in
-    let f = fits n g.L.LinkOps.linked alike l.was l.is c.acquire_link.ensures.frame r.shown x in
-    (with_place c.place-place.result (join x.gap), shown_closed_but n f, (with_itself n f, (hole_in n (g.L.LinkOps.table c.acquire_link.new.self) c.place-place.result _ _ x.gap x.hole, tt)))
+    fits_safe n g.L.LinkOps.linked alike l.was l.is c.acquire_link.ensures.frame r.shown x
 
 pub returns-clause-inserted : goal.returns-clause-inserted
 returns-clause-inserted g c s h =
