@@ -2,19 +2,16 @@
 use Rattle.std.specs.declared.cmp.Ordering.{Ordering}
 use Rattle.std.proofs.Common.{◌≡◌, ◌≢◌, ◌≤◌, ◌+◌, true, false, Option, None, List, [], ◌∷◌, refl, sym, ap, ◌∙◌, subst, arith, inl, inr}
 use Rattle.ic_unsafe_ref.specs.declared.place.Place.{Place}
-use Rattle.ic_unsafe_ref.specs.Objects.{Objects, is_placed}
 use Rattle.ic_unsafe_ref.proofs.PlaceLemmas.{same_or_not}
 use Rattle.ic_link_ops.specs.declared.side.Side.{Side}
-use Rattle.ic_link_ops.specs.PlacedObjects.{ShowsPlaced}
 use Rattle.ic_link_ops.specs.Sequences.{Cut, join, insert, IsAbsent, IsDisjoint}
 use Rattle.ic_link_ops.specs.Tables.{Table, ChangesOnly}
 use Rattle.ic_link_ops.specs.Trees.{in_order}
 use Rattle.ic_link_ops.specs.RedBlackTree.{Node, Shows}
 use Rattle.ic_link_ops.specs.Times.{one_at, times, times_in}
-use Rattle.ic_link_ops.proofs.Each.{all_members}
 use Rattle.ic_link_ops.proofs.Times.{one_at_self, one_at_other, times_append, times_order, absent_times}
 use Rattle.ic_link_ops.proofs.SequenceLemmas.{disjoint_cons}
-use Rattle.ic_link_ops.proofs.ShownTrees.{holds_linked, holds_once, shows_beside, shows_frame, free_absent, one_sequence}
+use Rattle.ic_link_ops.proofs.ShownTrees.{holds_once, shows_beside, shows_frame, free_absent, one_sequence}
 use Rattle.ic_rbtree.specs.Closed.{IsNode}
 use Rattle.ic_rbtree.specs.Height.{height}
 use Rattle.ic_rbtree.specs.Insertion.{IsHole, Attaches}
@@ -26,11 +23,6 @@ use Rattle.ic_rbtree.proofs.Climbed.{path_few}
 use Rattle.ic_augmented.specs.Sums.{Sums}
 use Rattle.ic_augmented.specs.Consistent.{IsSameAt, IsConsistent, IsConsistentTree, KeepsConsistent, ShowsConsistent, ShowsSummed, Refreshes, IsJoined}
 use Rattle.ic_augmented.proofs.ConsistencyLemmas.{not_stale, consistent_tree, tree_consistent, consistent_kept, summed_consistent_tree}
-
--- a value stands at each member of a tree, if one stands wherever a place is linked
-pub members_placed : {E T : Type 0} (n : E → Node) {v : Table E} {root : Option Place} {s : List Place} (objects : Objects T) → Shows n v root s
-    → ((p : Place) → (n (v.entry p)).linked ≡ true → is_placed objects p ≡ true) → ShowsPlaced (Shows n v root) objects
-members_placed n {s = s} objects shown linked = record { members = s; shown = shown; placed = all_members s (λ p member. linked p (holds_linked shown.held member)) }
 
 module _ {E : Type 0} (n : E → Node) where
   -- a linked place beside the tree

@@ -8,20 +8,21 @@ use Rattle.ic_link_ops.specs.Tables.{Table, Extent}
 use Rattle.ic_link_ops.proofs.ShownTrees.{free_absent}
 use Rattle.ic_rbtree.specs.Comparing.{compared, own_order}
 use Rattle.ic_rbtree.specs.Ordered.{InsertsInOrder}
-use Rattle.ic_rbtree.proofs.ShownClosed.{with_place, shown_closed_but, with_itself, hole_in}
 use Rattle.ic_rbtree.specs.Kept.{alone}
-use Rattle.ic_rbtree.proofs.InOrder.{ended_in_order, still_shown, fits, fitted, own_is}
+use Rattle.ic_rbtree.proofs.PlacedMembers.{members_placed}
+use Rattle.ic_rbtree.proofs.InOrder.{ended_in_order, still_shown, fits_safe, fitted, own_is}
 use Rattle.ic_augmented.specs.Consistent.{ShowsConsistent, ShowsSummed}
-use Rattle.ic_augmented.proofs.EditLemmas.{members_placed, free_member, acquired_consistent, beside_shows, inserts_summed, inserts_still}
+use Rattle.ic_augmented.proofs.EditLemmas.{free_member, acquired_consistent, beside_shows, inserts_summed, inserts_still}
 use Rattle.ic_augmented.proofs.fresh.insert_fresh.Goals as goal
 
 pub descend-hole-requires-clause-placed : goal.descend-hole-requires-clause-placed
 descend-hole-requires-clause-placed g c =
     let n = g.L.RBTreeOps.node in
     let alike = g.met.L.RBTreeOps.linked_alike in
+    let r = c.requires.shown in
     let l = g.met.L.LinkOps.does_replay _ _ _ c.if-not-acquire_link.ensures.acquired in
-    members_placed n (g.L.Values.values c.acquire_link.new.self) (still_shown n g.L.LinkOps.linked alike l.was l.is c.acquire_link.ensures.frame c.requires.shown.1)
-    (λ p is. g.met.L.LinkValues.covered_has_value _ p (g.met.L.LinkOps.linked_is_covered _ p (sym (alike _) ∙ is)))
+    members_placed g.L.RBTreeOps.node g.L.LinkOps.table g.L.Values.values alike g.met.L.LinkOps.linked_is_covered g.met.L.LinkValues.covered_has_value c.acquire_link.new.self
+    (r.0, still_shown n g.L.LinkOps.linked alike l.was l.is c.acquire_link.ensures.frame r.1)
 
 pub attach_fresh-requires-clause-safe : goal.attach_fresh-requires-clause-safe
 attach_fresh-requires-clause-safe g c =
@@ -30,9 +31,7 @@ attach_fresh-requires-clause-safe g c =
     let r = c.requires.shown in
     let l = g.met.L.LinkOps.does_replay _ _ _ c.if-not-acquire_link.ensures.acquired in
     let there = still_shown n g.L.LinkOps.linked alike l.was l.is c.acquire_link.ensures.frame r.1 in
-    let x = ended_in_order n there (c.descend-hole.ensures.ends r.0 there) c.get.ensures in
-    let f = fits n g.L.LinkOps.linked alike l.was l.is c.acquire_link.ensures.frame r.1 x in
-    (with_place c.place-place.result (join x.gap), shown_closed_but n f, (with_itself n f, (hole_in n (g.L.LinkOps.table c.acquire_link.new.self) c.place-place.result _ _ x.gap x.hole, tt)))
+    fits_safe n g.L.LinkOps.linked alike l.was l.is c.acquire_link.ensures.frame r.1 (ended_in_order n there (c.descend-hole.ensures.ends r.0 there) c.get.ensures)
 
 pub attach_fresh-requires-clause-hole : goal.attach_fresh-requires-clause-hole
 attach_fresh-requires-clause-hole g c =
