@@ -4,16 +4,14 @@ ghost use Rattle.std.specs.Prelude.{◌≡◌};
 ghost use Rattle.ic_link_ops.specs.PlacedObjects.{ShowsPlaced};
 ghost use Rattle.ic_link_ops.specs.RedBlackTree.{Shows};
 ghost use Rattle.ic_link_ops.specs.Tables.{IsCovered};
-ghost use Rattle.ic_rbtree.specs.Tree.{root_of};
-ghost use Rattle.ic_rbtree_cached.specs.Ends.{ShowsCached};
-ghost use Rattle.ic_rbtree_cached.specs.Tree.{ends_of};
+ghost use Rattle.ic_rbtree.specs.Kept.{ShowsWithEnds};
+ghost use Rattle.ic_rbtree.specs.Tree.{root_of, ends_of};
 
 use crate::notes::assert_words;
 use crate::tree::trees::OwnKey;
 use ic_link_ops::LinkValues;
 use ic_link_ops::rbtree::{LinkOpsWith, RBTreeOps};
-use ic_rbtree::RBTree;
-use ic_rbtree_cached::RBTreeCached;
+use ic_rbtree::{RBTree, RBTreeCached};
 use ic_test_support::answers::write_places;
 use ic_test_support::notes::Text;
 use ic_test_support::objects::{place_at, reference};
@@ -43,12 +41,12 @@ fn write_inserted_cached<L: RBTreeOps + LinkValues<u64>>(
     object: UnsafeRef<u64>,
 )
     requires covered { IsCovered (L.table links.old) object }
-    requires placed { ShowsPlaced (ShowsCached L.node (L.table links.old) (ends_of tree.old)) (L.values links.old) }
-    ensures placed { ShowsPlaced (ShowsCached L.node (L.table links.new) (ends_of tree.new)) (L.values links.new) }
+    requires placed { ShowsPlaced (ShowsWithEnds L.node (L.table links.old) (ends_of tree.old)) (L.values links.old) }
+    ensures placed { ShowsPlaced (ShowsWithEnds L.node (L.table links.new) (ends_of tree.new)) (L.values links.new) }
     ensures extent { (L.table links.new).extent ≡ (L.table links.old).extent }
 {
     let _ = tree.insert_keyed(links, object);
-    write_places(notes, &[tree.first(), tree.last()]);
+    write_places(notes, &[tree.first(&*links), tree.last(&*links)]);
 }
 
 #[test]
@@ -64,7 +62,7 @@ fn keys_beside_links(rt: HostRuntime) {
     write_inserted(&mut notes, &mut tree, &mut links, reference(1));
     links.set_value(place_at(2), 20);
     links.set_value(place_at(3), 10);
-    let mut tree = RBTreeCached::new(OwnKey);
+    let mut tree = RBTree::with_ends(OwnKey);
     write_inserted_cached(&mut notes, &mut tree, &mut links, reference(2));
     write_inserted_cached(&mut notes, &mut tree, &mut links, reference(3));
     assert_words(&rt, &notes, "0 1 2 2 3 2");

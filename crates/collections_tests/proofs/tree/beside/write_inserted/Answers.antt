@@ -2,11 +2,11 @@ use Rattle.std.proofs.Common.{sym, subst}
 use Rattle.ic_link_ops.specs.PlacedObjects.{ShowsPlaced}
 use Rattle.ic_link_ops.specs.RedBlackTree.{Shows}
 use Rattle.ic_rbtree.specs.Tree.{root_of}
-use Rattle.ic_rbtree_cached.proofs.PlacedMembers.{inserted_placed}
+use Rattle.ic_rbtree.proofs.PlacedMembers.{inserted_placed}
 use Rattle.collections_tests.proofs.tree.beside.write_inserted.Goals as goal
 
-pub insert_keyed-requires-clause-object : goal.insert_keyed-requires-clause-object
-insert_keyed-requires-clause-object g c = g.met.L.LinkValues.covered_has_value _ _ c.requires.covered
+pub insert_keyed-requires-clause-shown : goal.insert_keyed-requires-clause-shown
+insert_keyed-requires-clause-shown g c = let r = c.requires.placed in (r.members, r.shown)
 
 pub front-requires : goal.front-requires
 front-requires g c =
