@@ -2,7 +2,6 @@ pub mod Builders
 pub mod Extents
 pub mod HashTables
 pub mod Intervals
-pub mod KeyedTrees
 pub mod Positions
 pub mod Ready
 pub mod TwoTrees

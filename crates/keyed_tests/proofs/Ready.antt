@@ -3,16 +3,12 @@ use Rattle.std.proofs.Common.{◌≡◌, ◌<◌, Option, None, List, [], ◌∷
 use Rattle.std.specs.declared.cmp.Ordering.{Ordering}
 use Rattle.std.specs.Result.{is_ok}
 use Rattle.ic_unsafe_ref.specs.declared.place.Place.{Place}
-use Rattle.ic_unsafe_ref.specs.Objects.{Objects, is_placed}
 use Rattle.ic_unsafe_ref.specs.Places.{index_of}
 use Rattle.ic_link_ops.specs.LinkSteps.{LinkStep, acquires}
-use Rattle.ic_link_ops.specs.PlacedObjects.{ShowsPlaced}
 use Rattle.ic_link_ops.specs.RedBlackTree.{Node, Shows}
 use Rattle.ic_link_ops.specs.Sequences.{insert}
 use Rattle.ic_link_ops.specs.Tables.{Table, Extent, IsCovered, IsLinked}
 use Rattle.ic_link_ops.specs.Trees.{leaf}
-use Rattle.ic_link_ops.proofs.Each.{all_members}
-use Rattle.ic_link_ops.proofs.ShownTrees.{holds_linked}
 use Rattle.ic_rbtree.specs.Closed.{IsNode}
 use Rattle.ic_rbtree.specs.Ordered.{InsertsInOrder}
 use Rattle.ic_rbtree.specs.Tree.{root_of}
@@ -58,11 +54,6 @@ if_err_map follows (Err y) holds = follows y holds
 pub either_answer : {X Y P Q Goal : Type 0} (F : Y → Type 0) (r : Result X Y) → OnOk r P → OnErr r Q → IfErr r F → (P → Goal) → (Q → (y : Y) → F y → Goal) → Goal
 either_answer F (Ok x) holds refused unchanged accepts refuses = accepts holds
 either_answer F (Err y) holds refused unchanged accepts refuses = refuses refused y unchanged
-
--- a value stands at each member of a tree, if one stands wherever a place is linked
-pub members_placed : {E T : Type 0} (n : E → Node) {v : Table E} {root : Option Place} {s : List Place} (objects : Objects T) → Shows n v root s
-    → ((p : Place) → (n (v.entry p)).linked ≡ true → is_placed objects p ≡ true) → ShowsPlaced (Shows n v root) objects
-members_placed n {s = s} objects shown linked = record { members = s; shown = shown; placed = all_members s (λ p member. linked p (holds_linked shown.held member)) }
 
 -- AFTER AN INSERT, whatever it answered, each fresh summary is right, and there is as much room
 module _ {N M E S A : Type 0} (Does : N → N → List LinkStep → Type 0) (n : E → Node) (table : N → Table E) (sums : M → Sums S) (Covers : M → Place → Type 0) (Refused : N → N → Place → Type 0)

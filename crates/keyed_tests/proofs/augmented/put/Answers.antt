@@ -1,14 +1,9 @@
 use Rattle.std.proofs.Common.{sym, ◌∙◌}
-use Rattle.keyed_tests.proofs.Ready.{members_placed, after_insert, room_covered, room_linked}
+use Rattle.keyed_tests.proofs.Ready.{after_insert, room_covered, room_linked}
 use Rattle.keyed_tests.proofs.augmented.put.Goals as goal
 
-pub insert_keyed-requires-clause-placed : goal.insert_keyed-requires-clause-placed
-insert_keyed-requires-clause-placed g c =
-    members_placed g.L.RBTreeOps.node (g.L.Values.values c.args.summed.now.links) c.requires.ready.shown.shows
-    (λ p is. g.met.L.LinkValues.covered_has_value _ p (g.met.L.LinkOps.linked_is_covered _ p (sym (g.met.L.RBTreeOps.linked_alike _) ∙ is)))
-
-pub insert_keyed-requires-clause-object : goal.insert_keyed-requires-clause-object
-insert_keyed-requires-clause-object g c = g.met.L.LinkValues.covered_has_value _ _ c.requires.covered
+pub insert_keyed-requires-clause-shown : goal.insert_keyed-requires-clause-shown
+insert_keyed-requires-clause-shown g c = let q = c.requires.ready in (q.members, q.shown.shows)
 
 pub refresh-requires : goal.refresh-requires
 refresh-requires g c =

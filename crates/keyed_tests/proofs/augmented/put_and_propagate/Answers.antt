@@ -1,16 +1,11 @@
 use Rattle.std.proofs.Common.{◌≡◌, ◌∙◌, ◌++◌, ◌∷◌, true, sym, rules}
 use Rattle.ic_augmented.specs.Consistent.{ShowsConsistent}
 use Rattle.ic_augmented.proofs.StepLemmas.{inserted_right}
-use Rattle.keyed_tests.proofs.Ready.{members_placed, on_ok, room_covered, room_linked}
+use Rattle.keyed_tests.proofs.Ready.{on_ok, room_covered, room_linked}
 use Rattle.keyed_tests.proofs.augmented.put_and_propagate.Goals as goal
 
-pub insert_keyed-inserted-requires-clause-placed : goal.insert_keyed-inserted-requires-clause-placed
-insert_keyed-inserted-requires-clause-placed g c =
-    members_placed g.L.RBTreeOps.node (g.L.Values.values c.args.summed.now.links) c.requires.ready.shown.shows
-    (λ p is. g.met.L.LinkValues.covered_has_value _ p (g.met.L.LinkOps.linked_is_covered _ p (sym (g.met.L.RBTreeOps.linked_alike _) ∙ is)))
-
-pub insert_keyed-inserted-requires-clause-object : goal.insert_keyed-inserted-requires-clause-object
-insert_keyed-inserted-requires-clause-object g c = g.met.L.LinkValues.covered_has_value _ _ c.requires.covered
+pub insert_keyed-inserted-requires-clause-shown : goal.insert_keyed-inserted-requires-clause-shown
+insert_keyed-inserted-requires-clause-shown g c = let q = c.requires.ready in (q.members, q.shown.shows)
 
 pub propagate-requires : goal.propagate-requires
 propagate-requires g c =
