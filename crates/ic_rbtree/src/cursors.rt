@@ -58,7 +58,9 @@ impl<A: KeyAdapter, E: TreeHead> RBTree<A, E> {
         Cursor::new(self, links, PlaceWord::of(Some(object.place())))
     }
 
-    /// A cursor on the first member, null in an empty tree. O(log n), and O(1) where it is kept: else it goes down to it, and so requires that the tree is shown.
+    /// A cursor on the first member, null in an empty tree. O(log n), and O(1) where it is kept.
+    ///
+    /// It requires that the tree is shown, unless it keeps its ends.
     #[inline]
     pub fn front<'a, L: RBTreeOps>(&'a self, links: &'a L) -> Cursor<'a, A, L, E>
         requires shown { HasEnds L.node (L.table links.now) (E.kept (head_of self.now)) }
@@ -69,7 +71,9 @@ impl<A: KeyAdapter, E: TreeHead> RBTree<A, E> {
         Cursor::new(self, links, PlaceWord::of(self.first(links)))
     }
 
-    /// A cursor on the last member, null in an empty tree. O(log n), and O(1) where it is kept: else it goes down to it, and so requires that the tree is shown.
+    /// A cursor on the last member, null in an empty tree. O(log n), and O(1) where it is kept.
+    ///
+    /// It requires that the tree is shown, unless it keeps its ends.
     #[inline]
     pub fn back<'a, L: RBTreeOps>(&'a self, links: &'a L) -> Cursor<'a, A, L, E>
         requires shown { HasEnds L.node (L.table links.now) (E.kept (head_of self.now)) }
@@ -114,7 +118,9 @@ impl<A: KeyAdapter, E: TreeHead> RBTree<A, E> {
         CursorMut::new(self, links, current)
     }
 
-    /// A cursor that edits, on the first member, null in an empty tree. O(log n), and O(1) where it is kept: else it requires that the tree is shown.
+    /// A cursor that edits, on the first member, null in an empty tree. O(log n), and O(1) where it is kept.
+    ///
+    /// It requires that the tree is shown, unless it keeps its ends.
     #[inline]
     pub fn front_mut<'a, L: RBTreeOps>(&'a mut self, links: &'a mut L) -> CursorMut<'a, A, L, E>
         requires shown { HasEnds L.node (L.table links.old) (E.kept (head_of self.old)) }
@@ -125,7 +131,9 @@ impl<A: KeyAdapter, E: TreeHead> RBTree<A, E> {
         CursorMut::new(self, links, current)
     }
 
-    /// A cursor that edits, on the last member, null in an empty tree. O(log n), and O(1) where it is kept: else it requires that the tree is shown.
+    /// A cursor that edits, on the last member, null in an empty tree. O(log n), and O(1) where it is kept.
+    ///
+    /// It requires that the tree is shown, unless it keeps its ends.
     #[inline]
     pub fn back_mut<'a, L: RBTreeOps>(&'a mut self, links: &'a mut L) -> CursorMut<'a, A, L, E>
         requires shown { HasEnds L.node (L.table links.old) (E.kept (head_of self.old)) }
@@ -169,7 +177,9 @@ impl<A: KeyAdapter, E: TreeHead> RBTree<A, E> {
         CursorOwning::new(self, PlaceWord::of(Some(object.place())))
     }
 
-    /// A cursor that keeps the tree, on the first member, null in an empty tree. O(log n), and O(1) where it is kept: else it requires that the tree is shown.
+    /// A cursor that keeps the tree, on the first member, null in an empty tree. O(log n), and O(1) where it is kept.
+    ///
+    /// It requires that the tree is shown, unless it keeps its ends.
     #[inline]
     pub fn front_owning<L: RBTreeOps>(self, links: &L) -> CursorOwning<A, E>
         requires shown { HasEnds L.node (L.table links.now) (E.kept (head_of self)) }
@@ -180,7 +190,9 @@ impl<A: KeyAdapter, E: TreeHead> RBTree<A, E> {
         CursorOwning::new(self, at)
     }
 
-    /// A cursor that keeps the tree, on the last member, null in an empty tree. O(log n), and O(1) where it is kept: else it requires that the tree is shown.
+    /// A cursor that keeps the tree, on the last member, null in an empty tree. O(log n), and O(1) where it is kept.
+    ///
+    /// It requires that the tree is shown, unless it keeps its ends.
     #[inline]
     pub fn back_owning<L: RBTreeOps>(self, links: &L) -> CursorOwning<A, E>
         requires shown { HasEnds L.node (L.table links.now) (E.kept (head_of self)) }

@@ -26,6 +26,8 @@ use ic_unsafe_ref::{Place, UnsafeRef};
 
 impl<A: KeyAdapter, E: TreeHead> RBTree<A, E> {
     /// The first member, `None` in an empty tree. O(log n), and O(1) where it is kept.
+    ///
+    /// It requires that the tree is shown, unless it keeps its ends.
     #[inline]
     pub fn first<L: RBTreeOps>(&self, links: &L) -> Option<Place>
         requires shown { HasEnds L.node (L.table links.now) (E.kept (head_of self.now)) }
@@ -35,6 +37,8 @@ impl<A: KeyAdapter, E: TreeHead> RBTree<A, E> {
     }
 
     /// The last member, `None` in an empty tree. O(log n), and O(1) where it is kept.
+    ///
+    /// It requires that the tree is shown, unless it keeps its ends.
     #[inline]
     pub fn last<L: RBTreeOps>(&self, links: &L) -> Option<Place>
         requires shown { HasEnds L.node (L.table links.now) (E.kept (head_of self.now)) }

@@ -43,7 +43,7 @@ pub trait TreeHead: Drop {
     fn root(&self) -> Option<Place>
         ensures { result ≡ root_kept (kept self.now) };
 
-    /// Puts `place` in on this side of `parent`, as [`RBTree::attach`](crate::RBTree::attach) does.
+    /// Puts `place` in on this side of `parent`, as [`RBTree::attach`](crate::RBTree::attach) does. O(log n).
     fn attach<N: Nodes>(&mut self, nodes: &mut N, parent: Option<Place>, side: Side, place: Place)
         requires { IsSafeBut N.node (N.table nodes.old) (root_kept (kept self.old)) place (Some place ∷ parent ∷ []) }
         ensures attached { Attaches N.node (N.table nodes.old) (N.table nodes.new) (root_kept (kept self.old)) (root_kept (kept self.new)) parent side place }
@@ -52,7 +52,7 @@ pub trait TreeHead: Drop {
         ensures ends { (gap : Cut) → IsBelow parent side gap → IsDistinct (join gap) → TellsEnds (kept self.old) (join gap)
             → TellsEnds (kept self.new) (insert gap place) };
 
-    /// Takes the member at `place` out, as [`RBTree::unlink`](crate::RBTree::unlink) does.
+    /// Takes the member at `place` out, as [`RBTree::unlink`](crate::RBTree::unlink) does. O(log n).
     fn unlink<N: Nodes>(&mut self, nodes: &mut N, place: Place)
         requires { IsSafe N.node (N.table nodes.old) (root_kept (kept self.old)) (Some place ∷ []) }
         ensures taken { TakesAway N.node (N.table nodes.old) (N.table nodes.new) (root_kept (kept self.old)) (root_kept (kept self.new)) place }
@@ -61,7 +61,7 @@ pub trait TreeHead: Drop {
         ensures ends { (front back : List Place) → Shows N.node (N.table nodes.old) (root_kept (kept self.old)) (front ++ place ∷ back)
             → TellsEnds (kept self.old) (front ++ place ∷ back) → TellsEnds (kept self.new) (front ++ back) };
 
-    /// Puts `new` in place of the member at `place`, as [`RBTree::take_place`](crate::RBTree::take_place) does.
+    /// Puts `new` in place of the member at `place`, as [`RBTree::take_place`](crate::RBTree::take_place) does. O(1).
     fn take_place<N: Nodes>(&mut self, nodes: &mut N, place: Place, new: Place)
         requires safe { IsSafeBut N.node (N.table nodes.old) (root_kept (kept self.old)) new (Some place ∷ Some new ∷ []) }
         requires apart { place ≢ new }
@@ -71,24 +71,25 @@ pub trait TreeHead: Drop {
         ensures ends { (front back : List Place) → IsDistinct (front ++ place ∷ back) → TellsEnds (kept self.old) (front ++ place ∷ back)
             → TellsEnds (kept self.new) (front ++ new ∷ back) };
 
-    /// The outermost member on this side: as it is kept, O(1), or by a descent from the root, O(log n).
+    /// The outermost member on this side, `None` where the tree has no members. O(log n), and O(1) where it is kept.
     fn end<L: RBTreeOps>(&self, links: &L, side: Side) -> Option<Place>
         requires shown { HasEnds L.node (L.table links.now) (kept self.now) }
         ensures { EndIs L.node side (L.table links.now) (kept self.now) result };
 
-    /// The last member as it is kept, `None` in an empty tree, and where the kind keeps none.
+    /// The last member as it is kept, `None` in an empty tree, and where no end is kept. O(1).
     fn kept_last(&self) -> Option<Place>
         ensures last { (s : List Place) → TellsEnds (kept self.now) s → IfSome result (λ p. last s ≡ Some p) }
         ensures alone { (root : Option Place) → kept self.now ≡ alone root → result ≡ None };
 
-    /// Keeps what a tree with this root does that has the members of this one, this place, and those of `other`, which has none then.
+    /// Becomes the head of the tree with this root, in which another call has joined the members of both trees with `place` between them.
+    /// `other` has no members then. O(1).
     fn join(&mut self, root: Option<Place>, place: Place, other: &mut Self)
         ensures root { root_kept (kept self.new) ≡ root }
         ensures ends { (s t : List Place) → TellsEnds (kept self.old) s → TellsEnds (kept other.old) t → TellsEnds (kept self.new) (s ++ place ∷ t) }
         ensures emptied { IsEmptied (kept other.new) };
 
-    /// Keeps what the tree with the root `front` does, and hands out what the one with the root `back` does, of which `place` is the first
-    /// member.
+    /// Becomes the head of the tree with the root `front`, and returns that of the tree with the root `back`, into which another call has
+    /// parted its members. `place` is the first member of the second tree. O(1), and O(log n) where the ends are kept.
     fn split<L: RBTreeOps>(
         &mut self,
         links: &L,

@@ -121,7 +121,7 @@ impl<'a, A, L: RBTreeOps> IntoIter<'a, A, L> {
 impl<A: KeyAdapter, E: TreeHead> RBTree<A, E> {
     ghost use Rattle.ic_rbtree.specs.IntoIter.{Leaves};
 
-    /// A walk that takes the members off, from either end. O(log n): nothing is unlinked yet.
+    /// A walk that takes the members off, from either end. Nothing is unlinked yet. O(log n), and O(1) where the ends are kept.
     pub fn into_iter<'a, L: RBTreeOps>(self, links: &'a mut L) -> IntoIter<'a, A, L>
         requires shown { ShowsKeptSome E.kept L.node (L.table links.old) (head_of self) }
         ensures tree { (s : List Place) → ShowsKept E.kept L.node (L.table links.entry.now) (head_of self) s

@@ -8,6 +8,13 @@
 //! let first = tree.front_mut(&mut links).remove();
 //! ```
 //!
+//! A tree with [`WithEnds`] keeps its first and its last member beside its root, for timers and queues. All calls are the same.
+//!
+//! ```text
+//! let mut timers = RBTree::with_ends(ByDeadline);
+//! let due = timers.pop_front(&mut links); // no descent
+//! ```
+//!
 //! Who keeps trees in words of his own makes a tree of the root that he keeps, makes one edit by the layer under these calls, and
 //! reads the root again. That layer runs over whatever implements [`Nodes`], and requires only that links lead out of no set of
 //! linked places.

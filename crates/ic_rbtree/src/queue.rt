@@ -22,8 +22,8 @@ use ic_link_ops::{AlreadyLinked, LinkOps, Side};
 use ic_unsafe_ref::UnsafeRef;
 
 impl<A: KeyAdapter, E: TreeHead> RBTree<A, E> {
-    /// Takes the first object off the tree and returns it, `None` if the tree is empty. O(log n): where the ends are kept it makes no
-    /// descent, and takes O(1) on average over removals.
+    /// Takes the first object off the tree and returns it, `None` if the tree is empty. O(log n), and O(1) on average over removals where
+    /// the ends are kept, since it makes no descent then.
     #[inline]
     pub fn pop_front<L: RBTreeOps>(&mut self, links: &mut L) -> Option<UnsafeRef<A::Value>>
         requires shown { ShowsKeptSome E.kept L.node (L.table links.old) (head_of self.old) }
@@ -59,8 +59,8 @@ impl<A: KeyAdapter, E: TreeHead> RBTree<A, E> {
         Some(object)
     }
 
-    /// Inserts the object behind all others, whatever its key is, unless its link is refused. It makes no look. O(log n): where the ends
-    /// are kept it makes no descent, and takes O(1) on average over inserts.
+    /// Inserts the object behind all others, whatever its key is, unless its link is refused. It makes no look. O(log n), and O(1) on
+    /// average over inserts where the ends are kept, since it makes no descent then.
     ///
     /// It requires that the object's place is covered. A refused object comes back, and the tree and its links are as they were.
     #[inline]
