@@ -4,6 +4,7 @@ mod beside;
 mod cached;
 mod cursors;
 mod keys;
+mod looks;
 mod shape;
 pub(crate) mod trees;
 mod walks;

@@ -1,0 +1,136 @@
+//! How often the calls that take a key read a value: once for each look, and an insert once more, for the object's own key.
+
+ghost use Rattle.std.specs.Prelude.{◌≡◌, ◌<◌, true};
+ghost use Rattle.ic_unsafe_ref.specs.declared.place.Place.{Place};
+ghost use Rattle.ic_unsafe_ref.specs.Objects.{is_placed};
+ghost use Rattle.ic_unsafe_ref.specs.Places.{index_of};
+ghost use Rattle.ic_link_ops.specs.PlacedObjects.{ShowsPlaced};
+ghost use Rattle.ic_link_ops.specs.Tables.{IsCovered};
+ghost use Rattle.ic_rbtree.specs.Kept.{ShowsKept};
+ghost use Rattle.ic_rbtree.specs.PlainTrees.{plain_table, PlainShows};
+ghost use Rattle.ic_rbtree.specs.Tree.{head_of, root_of};
+
+use crate::notes::assert_words;
+use crate::tree::trees::{OwnKey, TreeFixture, tree_of};
+use ic_link_ops::rbtree::RBTreeOps;
+use ic_rbtree::{RBTree, TreeHead};
+use ic_test_support::notes::{Answer, Text};
+use ic_test_support::objects::reference;
+use ic_unsafe_ref::{Objects, Place, UnsafeRef, Values};
+use std::cell::Cell;
+
+// Values that count how often one is read.
+#[derive(Drop)]
+struct Counted<'o> {
+    objects: &'o Objects<u64>,
+    reads: Cell<u64>,
+}
+
+impl<'o> Counted<'o> {
+    // These objects, of which none was read.
+    fn of(objects: &'o Objects<u64>) -> Counted<'o>
+        ensures { result.objects.now ≡ objects.now }
+    {
+        Counted {
+            objects,
+            reads: Cell::new(0),
+        }
+    }
+
+    // Notes how often one was read.
+    fn write_reads(&self, notes: &mut Text) {
+        notes.add(Answer::Number(self.reads.get()), " ");
+    }
+}
+
+impl Values<u64> for Counted<'_> {
+    ghost values = { λ counted. counted.objects.now };
+
+    fn value(&self, place: Place) -> &u64 {
+        self.reads.set(self.reads.get().wrapping_add(1));
+        self.objects.value(place)
+    }
+}
+
+// Puts the object in where its key belongs, and notes how often a value was read.
+fn write_insert<E: TreeHead, L: RBTreeOps>(
+    notes: &mut Text,
+    tree: &mut RBTree<OwnKey, E>,
+    links: &mut L,
+    objects: &Objects<u64>,
+    object: UnsafeRef<u64>,
+)
+    requires covered { IsCovered (L.table links.old) object }
+    requires placed { ShowsPlaced (ShowsKept E.kept L.node (L.table links.old) (head_of tree.old)) objects.now }
+    requires object { is_placed objects.now object ≡ true }
+{
+    let counted = Counted::of(objects);
+    let _ = tree.insert(links, &counted, object);
+    counted.write_reads(notes);
+}
+
+// Searches the entry of 80, and notes how often a value was read.
+fn write_entry(notes: &mut Text, fixture: &mut TreeFixture)
+    requires placed { ShowsPlaced (PlainShows fixture.old.links (root_of fixture.old.tree)) fixture.old.objects }
+{
+    let TreeFixture {
+        objects,
+        links,
+        tree,
+    } = fixture;
+    let counted = Counted::of(objects);
+    let _ = tree.entry(links, &counted, &80);
+    counted.write_reads(notes);
+}
+
+// Takes 30 out and puts it in again, in front of the hint 40, and notes how often a value was read.
+fn write_hinted(notes: &mut Text, fixture: &mut TreeFixture)
+    requires covers { (plain_table fixture.old.links).extent.places ≡ 8 }
+    requires objects { (q : Place) → index_of q < 8 → is_placed fixture.old.objects q ≡ true }
+    requires placed { ShowsPlaced (PlainShows fixture.old.links (root_of fixture.old.tree)) fixture.old.objects }
+{
+    let TreeFixture {
+        objects,
+        links,
+        tree,
+    } = fixture;
+    let (object, hint) = (reference(2), reference(3));
+    let counted = Counted::of(objects);
+    if tree.contains(&*links, object.place()) {
+        tree.remove(links, &object);
+    }
+    if tree.contains(&*links, hint.place()) {
+        let _ = tree.insert_with_hint(links, &counted, &hint, object);
+    }
+    counted.write_reads(notes);
+}
+
+// Seven members that came in rising order have 20 at the root, and 40, 60 and 70 below each other on its right. Without 30 the members 60
+// and 40 stand on the way to it. So an insert of 80 makes four looks, and one where 70 is kept as the last member; an entry of 80 makes four;
+// and an insert of 30 with a hint makes two where a descent would make three.
+// Promise: looks of plain calls.
+#[test]
+fn plain_calls_look_once(rt: HostRuntime) {
+    let alloc = rt.alloc();
+    let mut notes = Text::new(alloc);
+    let mut fixture = tree_of(&rt, alloc, 7);
+    write_insert(
+        &mut notes,
+        &mut fixture.tree,
+        &mut fixture.links,
+        &fixture.objects,
+        reference(7),
+    );
+    let mut fixture = tree_of(&rt, alloc, 7);
+    let mut tree = RBTree::from_root(OwnKey, fixture.tree.root()).keep_ends(&fixture.links);
+    write_insert(
+        &mut notes,
+        &mut tree,
+        &mut fixture.links,
+        &fixture.objects,
+        reference(7),
+    );
+    write_entry(&mut notes, &mut tree_of(&rt, alloc, 7));
+    write_hinted(&mut notes, &mut tree_of(&rt, alloc, 7));
+    assert_words(&rt, &notes, "5 2 4 3");
+}
