@@ -1,5 +1,5 @@
 -- A summary that has changed, passed on to those above it.
-use Rattle.std.proofs.Common.{◌≡◌, ◌≢◌, ◌≤◌, ◌+◌, ◌-◌, ℕ, true, false, Option, Some, None, List, [], ◌∷◌, ◌++◌, refl, sym, ap, ◌∙◌, subst, arith, inl, inr}
+use Rattle.std.proofs.Common.{◌≡◌, ◌≢◌, ◌≤◌, ◌+◌, ◌-◌, ℕ, suc, true, false, Option, Some, None, List, [], ◌∷◌, ◌++◌, refl, sym, ap, ◌∙◌, subst, arith, inl, inr}
 use Rattle.ic_unsafe_ref.specs.declared.place.Place.{Place}
 use Rattle.ic_link_ops.specs.declared.color.Color.{Color}
 use Rattle.ic_link_ops.specs.declared.side.Side.{Side}
@@ -284,6 +284,14 @@ module _ {E S : Type 0} (n : E → Node) (v : Table E) where
         closes y None (z.upper p) fs t (λ f. let k : false ≡ true = f in cc) (λ f. let k : false ≡ true = f in cc) (summed_consistent_tree y parent t (climbed_tree fs t h e below))
         (subst (λ (o : Option S). IsConsistentAbove y o (z.upper p) fs) none (above_there fs t h e (at_edge fs t i h e at)))
 
+    -- at the edge, whose summary is as it was
+    pub climbed_same : (was : S) (turns : ℕ) → p ≡ edge → z.fresh p ≡ Some was → was ≡ is → ClimbsTo n v z y p edge turns
+    climbed_same was turns i fresh same fs t h e low below at =
+        let tree = climbed_tree fs t h e below in
+        closes y (Some was) (above fs) fs t (λ f. ap (seen y) e ∙ (sym is_there ∙ ap Some (sym same)))
+        (λ f. ap (seen_upper y) e ∙ (summed_upper y parent p t e tree ∙ parent_above fs t h e)) (summed_consistent_tree y parent t tree)
+        (under_now y (Some was) (z.upper p) fs (subst (λ (o : Option S). IsConsistentAbove y o (z.upper p) fs) fresh (above_there fs t h e (at_edge fs t i h e at))))
+
     -- at the edge, from which the change is passed on
     pub climbed_edge : (w : Sums S) (next : Place) (was : S) (turns : ℕ) → p ≡ edge → z.fresh p ≡ Some was → parent ≡ Some next → PassesOn n v y w next was is (turns - 1) → ClimbsTo n v z w p edge turns
     climbed_edge w next was turns i fresh on passes [] t h e low below at = absurd (none_not next (sym (parent_above [] t h e) ∙ on))
@@ -294,6 +302,11 @@ module _ {E S : Type 0} (n : E → Node) (v : Table E) where
         passes_q d c b fs t (z.upper p) h (omega (arith, low)) (summed_consistent_tree y parent t tree) (ap (seen y) e ∙ sym is_there)
         (ap (seen_upper y) e ∙ (summed_upper y parent p t e tree ∙ parent_above (frame d c q b ∷ fs) t h e))
         (subst (λ (o : Option S). IsConsistentAbove y o (z.upper p) (frame d c q b ∷ fs)) fresh (above_there (frame d c q b ∷ fs) t h e (at_edge (frame d c q b ∷ fs) t i h e at)))
+
+  -- the place is the edge itself
+  pub climbed_there : (z y : Sums S) (p edge : Place) (turns : ℕ) → p ≡ edge → 1 ≤ turns → ClimbsTo n v z y p p (suc (turns - 1)) → ClimbsTo n v z y p edge turns
+  climbed_there z y p edge turns i more climbs fs t h e low below at =
+      climbs fs t h e (omega (arith, low, more)) below (subst (λ (q : Place). IsEdgeAt z q p fs) (sym i) at)
 
   pub climbed_out : (z y : Sums S) (p edge : Place) (turns : ℕ) → turns ≡ 0 → ClimbsTo n v z y p edge turns
   climbed_out z y p edge turns none fs t h e low below at = absurd (omega (arith, low, none))

@@ -267,6 +267,15 @@ module _ {E S : Type 0} (n : E → Node) where
   edge_written v w z s p o none only h q m but x e =
       subst (λ (k : E). IsJoined z q (n k).left (n k).right x) (sym (only.others q (not_stale z p q x none e))) (h q m but x e)
 
+  -- or is the one left out
+  pub edge_rewritten : (v w : Table E) (z : Sums S) (s : List Place) (p : Place) (o : Option Place) → (z.fresh p ≡ None) ⊎ (o ≡ Some p) → ChangesOnly v w p → IsConsistentBut n v z s o → IsConsistentBut n w z s o
+  edge_rewritten v w z s p o k only h q m but x e =
+      let other : q ≢ p = elim k [
+        | inl none ↦ not_stale z p q x none e
+        | inr is ↦ λ (i : q ≡ p). but (is ∙ ap Some (sym i))
+      ] in
+      subst (λ (k : E). IsJoined z q (n k).left (n k).right x) (sym (only.others q other)) (h q m but x e)
+
   pub edge_beside : (v w : Table E) (z : Sums S) (s : List Place) (p : Place) (o : Option Place) → (n (w.entry p)).left ≡ (n (v.entry p)).left → (n (w.entry p)).right ≡ (n (v.entry p)).right
       → ChangesOnly v w p → IsConsistentBut n v z s o → IsConsistentBut n w z s o
   edge_beside v w z s p o el er only h q m but x e = elim (same_or_not q p) [

@@ -4,17 +4,18 @@
 //! settle(&links, &mut sums, place, edge); // up to the edge, and on while summaries change
 //! ```
 
-ghost use Rattle.std.specs.Prelude.{◌≡◌, Option, Some, None, List, ◌∷◌, ◌++◌, IsTrue, IfSome, IfNone};
+ghost use Rattle.std.specs.Prelude.{◌≡◌, suc, Option, Some, None, List, ◌∷◌, ◌++◌, IsTrue, IfSome, IfNone};
 ghost use Rattle.ic_unsafe_ref.specs.declared.place.Place.{Place};
 ghost use Rattle.ic_link_ops.specs.Frames.{Frame, plug};
 ghost use Rattle.ic_link_ops.specs.Positions.{HasMember};
-ghost use Rattle.ic_link_ops.specs.RedBlackTree.{Shows};
+ghost use Rattle.ic_link_ops.specs.RedBlackTree.{IsTree, Shows};
 ghost use Rattle.ic_link_ops.specs.Sequences.{IsDisjoint};
+ghost use Rattle.ic_link_ops.specs.Tables.{Table};
 ghost use Rattle.ic_link_ops.specs.Trees.{Tree, top};
 ghost use Rattle.ic_link_ops.specs.Times.{times};
 ghost use Rattle.ic_rbtree.specs.Closed.{IsNode};
 ghost use Rattle.ic_augmented.specs.Changes.{IsAmong, RenewsAt, PassesOn, ClimbsTo};
-ghost use Rattle.ic_augmented.specs.Consistent.{IsSameAt, IsConsistent, IsConsistentBut, IsConsistentTree};
+ghost use Rattle.ic_augmented.specs.Consistent.{IsSameAt, IsConsistent, IsConsistentBut, IsConsistentTree, IsConsistentBelow, Refreshes};
 ghost use Rattle.ic_augmented.specs.Subtrees.{IsSubtree};
 
 use crate::ranks::is_at;
@@ -38,6 +39,24 @@ fn is_above<N: Nodes>(links: &N, place: Place, edge: Place, turns: u32) -> bool
         return true;
     }
     is_above(links, above, edge, turns - 1)
+}
+
+// Writes the summary of a place, after the stale ones below it, in code of its own.
+#[inline(never)]
+fn renew_whole<N: Nodes, M: RenewSums>(
+    links: &N,
+    sums: &mut M,
+    here: Place,
+    upper: Option<Place>,
+) -> M::Summary
+    requires covered { (q : Place) → IsNode N.node (N.table links.now) q → M.Covers sums.old q }
+    requires tree { (u : Option Place) × (t : Tree) × IsTree N.node (Table.entry (N.table links.now)) u t × (Some here ≡ top t) }
+    ensures covers { (q : Place) → M.Covers sums.old q → M.Covers sums.new q }
+    ensures summary { Some result ≡ (M.sums sums.new).fresh here }
+    ensures refreshed { (u : Option Place) (t : Tree) → IsTree N.node (Table.entry (N.table links.now)) u t → Some here ≡ top t
+        → Refreshes IsConsistentBelow (M.sums sums.old) (M.sums sums.new) upper t 67 }
+{
+    renew(links, sums, here, upper, 66)
 }
 
 // Renews the summary of a place, where that of one child had been `from` and is `to`: what it was and is, none where it is stale.
@@ -66,7 +85,7 @@ fn renew_at<N: Nodes, M: RenewSums>(
         return Some(change);
     }
     let was = sums.fresh(place)?;
-    Some((was, renew(links, sums, place, upper, 66)))
+    Some((was, renew_whole(links, sums, place, upper)))
 }
 
 // Renews the summaries from a place up as far as they change, where that of one child had been `from` and is `to`.
@@ -103,6 +122,32 @@ fn pass_on<N: Nodes, M: RenewSums>(
     pass_on(links, sums, above, was, is, turns - 1);
 }
 
+// Renews the summary of the edge, and those above as far as they change.
+#[inline(always)]
+fn climb_on<N: Nodes, M: RenewSums>(links: &N, sums: &mut M, edge: Place, turns: u32)
+    requires covered { (q : Place) → IsNode N.node (N.table links.now) q → M.Covers sums.old q }
+    requires subtree { (fs : List Frame) × (t : Tree) × IsSubtree N.node (N.table links.now) fs t × (top t ≡ Some edge) }
+    ensures covers { (q : Place) → M.Covers sums.old q → M.Covers sums.new q }
+    ensures join { (M.sums sums.new).join ≡ (M.sums sums.old).join }
+    ensures others { (fs : List Frame) (t : Tree) → IsSubtree N.node (N.table links.now) fs t → top t ≡ Some edge
+        → (q : Place) → times q (plug fs t) ≡ 0 → IsSameAt (M.sums sums.old) (M.sums sums.new) q }
+    ensures consistent { ClimbsTo N.node (N.table links.now) (M.sums sums.old) (M.sums sums.new) edge edge (suc turns) }
+{
+    let upper = links.parent(edge);
+    let was = sums.fresh(edge);
+    let is = renew(links, sums, edge, upper, 66);
+    let Some(above) = upper else {
+        return;
+    };
+    let Some(was) = was else {
+        return;
+    };
+    if M::is_same(&was, &is) {
+        return;
+    }
+    pass_on(links, sums, above, was, is, turns);
+}
+
 // Renews the summaries from a place up to the edge, and those above as far as they change.
 fn climb<N: Nodes, M: RenewSums>(links: &N, sums: &mut M, place: Place, edge: Place, turns: u32)
     requires covered { (q : Place) → IsNode N.node (N.table links.now) q → M.Covers sums.old q }
@@ -116,20 +161,16 @@ fn climb<N: Nodes, M: RenewSums>(links: &N, sums: &mut M, place: Place, edge: Pl
     if turns == 0 {
         return;
     }
+    if is_at(Some(place), edge) {
+        climb_on(links, sums, place, turns - 1);
+        return;
+    }
     let upper = links.parent(place);
-    let was = sums.fresh(place);
-    let is = renew(links, sums, place, upper, 66);
+    let _ = renew(links, sums, place, upper, 66);
     let Some(above) = upper else {
         return;
     };
-    if !is_at(Some(place), edge) {
-        climb(links, sums, above, edge, turns - 1);
-        return;
-    }
-    let Some(was) = was else {
-        return;
-    };
-    pass_on(links, sums, above, was, is, turns - 1);
+    climb(links, sums, above, edge, turns - 1);
 }
 
 // Renews what an insert of the place has left stale below the edge, and what changes above. If the edge is not above the place, the

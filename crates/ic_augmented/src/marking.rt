@@ -4,7 +4,7 @@
 //! let edge = attach_marking(&mut tree, &mut summed, parent, side, place); // its summary is as it was
 //! ```
 
-ghost use Rattle.std.specs.Prelude.{◌≡◌, Some, None, List, [], ◌∷◌};
+ghost use Rattle.std.specs.Prelude.{◌≡◌, ◌⊎◌, Some, None, List, [], ◌∷◌};
 ghost use Rattle.ic_unsafe_ref.specs.declared.place.Place.{Place};
 ghost use Rattle.ic_rbtree.specs.Closed.{IsSafeBut, KeepsNodes};
 ghost use Rattle.ic_rbtree.specs.Insertion.{Attaches};
@@ -45,7 +45,7 @@ fn invalidate_in<N: Nodes, M: Sums>(
     edge: Option<Place>,
     place: Place,
 ) -> Option<Place>
-    ensures stale { (M.sums (sums_of summed.new)).fresh place ≡ None }
+    ensures writable { ((M.sums (sums_of summed.new)).fresh place ≡ None) ⊎ (result ≡ Some place) }
     ensures covers { (q : Place) → M.Covers (sums_of summed.old) q → M.Covers (sums_of summed.new) q }
     ensures edge { KeepsEdge N.node (N.table (links_of summed.old)) (N.table (links_of summed.new)) (M.sums (sums_of summed.old)) (M.sums (sums_of summed.new)) edge result }
     ensures links { links_of summed.new ≡ links_of summed.old }

@@ -6,7 +6,7 @@
 //! refresh_path(&links, &mut sums, place, TURNS); // from a place up
 //! ```
 
-ghost use Rattle.std.specs.Prelude.{◌≡◌, ◌<◌, suc, Option, Some, None, List, length};
+ghost use Rattle.std.specs.Prelude.{◌≡◌, ◌<◌, ◌⊎◌, suc, Option, Some, None, List, length};
 ghost use Rattle.ic_unsafe_ref.specs.declared.place.Place.{Place};
 ghost use Rattle.ic_link_ops.specs.Frames.{Frame, plug};
 ghost use Rattle.ic_link_ops.specs.RedBlackTree.{IsTree};
@@ -42,12 +42,14 @@ pub(crate) fn invalidate_up<N: Nodes, M: Sums>(_links: &N, sums: &mut M, place: 
     }
 }
 
-// Makes the summaries from `edge` up to a place stale, so that no other than that of the place may be wrong.
-fn invalidate_up_to<N: Nodes, M: Sums>(_links: &N, sums: &mut M, edge: Option<Place>, place: Place)
+// Makes the summaries from `edge` up to a place stale, so that no other than that of the place may be wrong. Few writes of a child come
+// here, so their code has a call alone.
+#[inline(never)]
+fn invalidate_up_to<N: Nodes, M: Sums>(_links: &N, sums: &mut M, edge: Place, place: Place)
     ensures covers { (q : Place) → M.Covers sums.old q → M.Covers sums.new q }
-    ensures edge { KeepsEdge N.node (N.table _links.now) (N.table _links.now) (M.sums sums.old) (M.sums sums.new) edge (Some place) }
+    ensures edge { KeepsEdge N.node (N.table _links.now) (N.table _links.now) (M.sums sums.old) (M.sums sums.new) (Some edge) (Some place) }
 {
-    let mut from = edge;
+    let mut from = Some(edge);
     while let Some(here) = from {
         if is_at(Some(here), place) {
             return;
@@ -60,7 +62,7 @@ fn invalidate_up_to<N: Nodes, M: Sums>(_links: &N, sums: &mut M, edge: Option<Pl
     }
 }
 
-// Makes the summary of a place stale, and those from `edge` up to it: what was made of it is above, and may be wrong now.
+// The place of a summary may be written to, since it is stale or the edge: those from the edge before up to it are stale now.
 #[inline]
 pub(crate) fn invalidate_from<N: Nodes, M: Sums>(
     links: &N,
@@ -68,16 +70,21 @@ pub(crate) fn invalidate_from<N: Nodes, M: Sums>(
     edge: Option<Place>,
     place: Place,
 ) -> Option<Place>
-    ensures stale { (M.sums sums.new).fresh place ≡ None }
+    ensures writable { ((M.sums sums.new).fresh place ≡ None) ⊎ (result ≡ Some place) }
     ensures covers { (q : Place) → M.Covers sums.old q → M.Covers sums.new q }
     ensures edge { KeepsEdge N.node (N.table links.now) (N.table links.now) (M.sums sums.old) (M.sums sums.new) edge result }
 {
+    if is_at(edge, place) {
+        return edge;
+    }
     if !sums.is_fresh(place) {
         return edge;
     }
-    invalidate_up_to(links, sums, edge, place);
-    sums.invalidate(place);
-    sums.upper(place)
+    let Some(from) = edge else {
+        return Some(place);
+    };
+    invalidate_up_to(links, sums, from, place);
+    Some(place)
 }
 
 // Writes the stale summaries at an end and below it, and tells the one at the end. It goes down where they are stale alone.
@@ -98,10 +105,9 @@ pub(crate) fn refresh_below<N: Nodes, M: RenewSums>(
         → Refreshes IsConsistentTree (M.sums sums.old) (M.sums sums.new) upper t turns }
 {
     let here = place?;
-    let Some(summary) = sums.fresh(here) else {
+    let Some(summary) = sums.adopt(here, upper) else {
         return refresh_at(links, sums, here, upper, turns);
     };
-    sums.set_upper(here, upper);
     Some(summary)
 }
 

@@ -209,9 +209,13 @@ impl<V: Joins<S>, S: Copy + Drop, A: Allocator> Sums for SumTable<V, S, A> {
 
 impl<V: Joins<S>, S: Copy + Drop, A: Allocator> RenewSums for SumTable<V, S, A> {
     #[inline]
-    fn set_upper(&mut self, place: Place, upper: Option<Place>) {
-        let cell = &mut self.cells[place.index()];
-        cell.upper = PlaceWord::of(upper);
+    fn adopt(&mut self, place: Place, upper: Option<Place>) -> Option<S> {
+        let index = place.index();
+        let cell = &self.cells[index];
+        let summary = cell.summary?;
+        let adopted = &mut self.cells[index];
+        adopted.upper = PlaceWord::of(upper);
+        Some(summary)
     }
 
     #[inline]

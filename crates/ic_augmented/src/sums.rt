@@ -43,11 +43,14 @@ pub trait Sums {
 
 /// Summaries that can be written anew, in memory of their own.
 pub trait RenewSums: Sums {
-    /// Keeps the summary of `place`, and sets its parent. It requires room for a summary there. O(1).
-    fn set_upper(&mut self, place: Place, upper: Option<Place>)
+    /// The summary of `place`, whose parent is set: `None` where it is stale, and then nothing has changed. It requires room for a summary
+    /// there. O(1).
+    fn adopt(&mut self, place: Place, upper: Option<Place>) -> Option<Self::Summary>
         requires covered { Self.Covers self.old place }
         ensures covers { (q : Place) → Self.Covers self.old q → Self.Covers self.new q }
-        ensures written { Writes (Self.sums self.old) (Self.sums self.new) place ((Self.sums self.old).fresh place) upper };
+        ensures summary { result ≡ (Self.sums self.old).fresh place }
+        ensures written { IfSome result (λ summary. Writes (Self.sums self.old) (Self.sums self.new) place ((Self.sums self.old).fresh place) upper) }
+        ensures kept { IfNone result (self.new ≡ self.old) };
 
     /// The summary of `place`, `None` where it is stale. O(1).
     fn fresh(&self, place: Place) -> Option<Self::Summary>

@@ -1,14 +1,24 @@
-use Rattle.std.proofs.Common.{rules, sym, ap, ◌∙◌, Some}
+use Rattle.std.proofs.Common.{rules, arith, sym, ap, ◌∙◌, Some}
 use Rattle.ic_link_ops.proofs.SequenceLemmas.{some_same}
 use Rattle.ic_link_ops.proofs.Walks.{is_end_yes, is_end_no}
-use Rattle.ic_augmented.proofs.ChangeLemmas.{climbed_ends, climbed_on, climbed_stale, climbed_edge}
+use Rattle.ic_augmented.proofs.ChangeLemmas.{climbed_ends, climbed_on, climbed_there}
 use Rattle.ic_augmented.proofs.PathLemmas.{others_here, others_on}
 use Rattle.ic_augmented.proofs.SubtreeLemmas.{subtree_parent, subtree_up}
 use Rattle.ic_augmented.proofs.climb.+climb.Goals as goal
 
+pub returns-then-is_at-clause-consistent : goal.returns-then-is_at-clause-consistent
+returns-then-is_at-clause-consistent g t c =
+    climbed_there g.N.Nodes.node (g.N.Nodes.table c.args.links.now) (g.M.Sums.sums c.args.sums.now) (g.M.Sums.sums c.climb_on.new.sums) c.args.place c.args.edge c.args.turns
+    (some_same (is_end_yes (Some c.args.place) c.args.edge (sym c.is_at.ensures ∙ c.if-is_at.true))) (omega (arith, c.if-turns-eq0.false)) c.climb_on.ensures.consistent
+
+pub returns-in_default-clause-others : goal.returns-in_default-clause-others
+returns-in_default-clause-others g t c =
+    others_here g.N.Nodes.node (g.N.Nodes.table c.args.links.now) (g.M.Sums.sums c.args.sums.now) (g.M.Sums.sums c.renew.new.sums) c.args.place c.parent-upper.result c.renew.ensures.refreshed
+    (λ fs u h e. c.parent-upper.ensures ∙ subtree_parent g.N.Nodes.node (g.N.Nodes.table c.args.links.now) fs u c.args.place h e)
+
 pub returns-in_default-clause-consistent : goal.returns-in_default-clause-consistent
 returns-in_default-clause-consistent g t c =
-    climbed_ends g.N.Nodes.node (g.N.Nodes.table c.args.links.now) (g.M.Sums.sums c.args.sums.now) (g.M.Sums.sums c.renew-is.new.sums) c.args.place c.args.edge c.renew-is.result c.parent-upper.result (sym c.parent-upper.ensures) c.renew-is.ensures.summary c.renew-is.ensures.refreshed c.args.turns c.in_default.is
+    climbed_ends g.N.Nodes.node (g.N.Nodes.table c.args.links.now) (g.M.Sums.sums c.args.sums.now) (g.M.Sums.sums c.renew.new.sums) c.args.place c.args.edge c.renew.result c.parent-upper.result (sym c.parent-upper.ensures) c.renew.ensures.summary c.renew.ensures.refreshed c.args.turns c.in_default.is
 
 pub climb-requires : goal.climb-requires
 climb-requires g t c κs within =
@@ -18,39 +28,12 @@ climb-requires g t c κs within =
     let up = subtree_up n v r.0 r.1 c.in-Some.above r.2 (sym (subtree_parent n v r.0 r.1 c.args.place r.2 r.3) ∙ (sym c.parent-upper.ensures ∙ c.in-Some.is)) in
     search rules
 
-pub returns-then-not-is_at-clause-others : goal.returns-then-not-is_at-clause-others
-returns-then-not-is_at-clause-others g t c =
-    others_on g.N.Nodes.node (g.N.Nodes.table c.args.links.now) (g.M.Sums.sums c.args.sums.now) (g.M.Sums.sums c.renew-is.new.sums) c.args.place c.parent-upper.result c.renew-is.ensures.refreshed
-    (λ fs u h e. c.parent-upper.ensures ∙ subtree_parent g.N.Nodes.node (g.N.Nodes.table c.args.links.now) fs u c.args.place h e) (g.M.Sums.sums c.climb.new.sums) c.in-Some.above c.in-Some.is c.climb.ensures.others
-
-pub returns-then-not-is_at-clause-consistent : goal.returns-then-not-is_at-clause-consistent
-returns-then-not-is_at-clause-consistent g t c =
-    climbed_on g.N.Nodes.node (g.N.Nodes.table c.args.links.now) (g.M.Sums.sums c.args.sums.now) (g.M.Sums.sums c.renew-is.new.sums) c.args.place c.args.edge c.renew-is.result c.parent-upper.result (sym c.parent-upper.ensures) c.renew-is.ensures.summary c.renew-is.ensures.refreshed
-    (g.M.Sums.sums c.climb.new.sums) c.in-Some.above c.args.turns c.in-Some.is (λ e. is_end_no (Some c.args.place) c.args.edge (sym c.is_at.ensures ∙ c.if-not-is_at.true) (ap Some e)) c.climb.ensures.consistent
-
-pub returns-in_default-was-clause-others : goal.returns-in_default-was-clause-others
-returns-in_default-was-clause-others g t c =
-    others_here g.N.Nodes.node (g.N.Nodes.table c.args.links.now) (g.M.Sums.sums c.args.sums.now) (g.M.Sums.sums c.renew-is.new.sums) c.args.place c.parent-upper.result c.renew-is.ensures.refreshed
-    (λ fs u h e. c.parent-upper.ensures ∙ subtree_parent g.N.Nodes.node (g.N.Nodes.table c.args.links.now) fs u c.args.place h e)
-
-pub returns-in_default-was-clause-consistent : goal.returns-in_default-was-clause-consistent
-returns-in_default-was-clause-consistent g t c =
-    climbed_stale g.N.Nodes.node (g.N.Nodes.table c.args.links.now) (g.M.Sums.sums c.args.sums.now) (g.M.Sums.sums c.renew-is.new.sums) c.args.place c.args.edge c.renew-is.result c.parent-upper.result (sym c.parent-upper.ensures) c.renew-is.ensures.summary c.renew-is.ensures.refreshed
-    c.args.turns (some_same (is_end_yes (Some c.args.place) c.args.edge (sym c.is_at.ensures ∙ c.if-not-is_at.false))) (sym c.fresh-was.ensures ∙ c.in_default-was.is)
-
-pub pass_on-requires-clause-subtree : goal.pass_on-requires-clause-subtree
-pass_on-requires-clause-subtree g t c =
-    let n = g.N.Nodes.node in
-    let v = g.N.Nodes.table c.args.links.now in
-    let r = c.requires.subtree in
-    subtree_up n v r.0 r.1 c.in-Some.above r.2 (sym (subtree_parent n v r.0 r.1 c.args.place r.2 r.3) ∙ (sym c.parent-upper.ensures ∙ c.in-Some.is))
-
 pub returns-clause-others : goal.returns-clause-others
 returns-clause-others g t c =
-    others_on g.N.Nodes.node (g.N.Nodes.table c.args.links.now) (g.M.Sums.sums c.args.sums.now) (g.M.Sums.sums c.renew-is.new.sums) c.args.place c.parent-upper.result c.renew-is.ensures.refreshed
-    (λ fs u h e. c.parent-upper.ensures ∙ subtree_parent g.N.Nodes.node (g.N.Nodes.table c.args.links.now) fs u c.args.place h e) (g.M.Sums.sums c.pass_on.new.sums) c.in-Some.above c.in-Some.is c.pass_on.ensures.others
+    others_on g.N.Nodes.node (g.N.Nodes.table c.args.links.now) (g.M.Sums.sums c.args.sums.now) (g.M.Sums.sums c.renew.new.sums) c.args.place c.parent-upper.result c.renew.ensures.refreshed
+    (λ fs u h e. c.parent-upper.ensures ∙ subtree_parent g.N.Nodes.node (g.N.Nodes.table c.args.links.now) fs u c.args.place h e) (g.M.Sums.sums c.climb.new.sums) c.in-Some.above c.in-Some.is c.climb.ensures.others
 
 pub returns-clause-consistent : goal.returns-clause-consistent
 returns-clause-consistent g t c =
-    climbed_edge g.N.Nodes.node (g.N.Nodes.table c.args.links.now) (g.M.Sums.sums c.args.sums.now) (g.M.Sums.sums c.renew-is.new.sums) c.args.place c.args.edge c.renew-is.result c.parent-upper.result (sym c.parent-upper.ensures) c.renew-is.ensures.summary c.renew-is.ensures.refreshed
-    (g.M.Sums.sums c.pass_on.new.sums) c.in-Some.above c.in-Some-was.was c.args.turns (some_same (is_end_yes (Some c.args.place) c.args.edge (sym c.is_at.ensures ∙ c.if-not-is_at.false))) (sym c.fresh-was.ensures ∙ c.in-Some-was.is) c.in-Some.is c.pass_on.ensures.consistent
+    climbed_on g.N.Nodes.node (g.N.Nodes.table c.args.links.now) (g.M.Sums.sums c.args.sums.now) (g.M.Sums.sums c.renew.new.sums) c.args.place c.args.edge c.renew.result c.parent-upper.result (sym c.parent-upper.ensures) c.renew.ensures.summary c.renew.ensures.refreshed
+    (g.M.Sums.sums c.climb.new.sums) c.in-Some.above c.args.turns c.in-Some.is (λ e. is_end_no (Some c.args.place) c.args.edge (sym c.is_at.ensures ∙ c.if-is_at.false) (ap Some e)) c.climb.ensures.consistent

@@ -11,6 +11,6 @@ pub returns-clause-renewed : goal.returns-clause-renewed
 returns-clause-renewed g c =
     let n = g.N.Nodes.node in
     let v = g.N.Nodes.table c.args.links.now in
-    let y = g.M.Sums.sums c.renew.new.sums in
+    let y = g.M.Sums.sums c.renew_whole.new.sums in
     subst (λ (m : g.row.M.Denot). RenewsAt n v (g.M.Sums.sums m) y c.args.place c.args.from c.args.to c.args.upper) c.in_default.ensures.kept
-    (renewed_at n v (g.M.Sums.sums c.rejoin.new.self) y c.args.place c.args.from c.args.to c.args.upper c.renew.ensures.refreshed)
+    (renewed_at n v (g.M.Sums.sums c.rejoin.new.self) y c.args.place c.args.from c.args.to c.args.upper c.renew_whole.ensures.refreshed)

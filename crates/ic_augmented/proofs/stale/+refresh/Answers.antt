@@ -1,15 +1,18 @@
-use Rattle.std.proofs.Common.{rules, arith, ap, sym, ◌∙◌}
+use Rattle.std.proofs.Common.{rules, arith, ap, sym, subst, ◌∙◌}
 use Rattle.ic_augmented.specs.Sums.{is_fresh}
+use Rattle.ic_augmented.specs.Consistent.{IsConsistentTree, Refreshes}
 use Rattle.ic_augmented.proofs.ConsistencyLemmas.{refreshes_fresh, refreshes_below, refreshes_more, refreshes_joined, tree_right}
 use Rattle.ic_augmented.proofs.stale.+refresh.Goals as goal
 
 pub refresh_below-returns-clause-refreshed : goal.refresh_below-returns-clause-refreshed
 refresh_below-returns-clause-refreshed g t c u tree h e =
-    refreshes_fresh _ _ c.args.upper c.in_ok-here.here tree c.args.turns (sym c.in_ok-here.was ∙ e) (ap is_fresh (sym c.fresh.ensures ∙ c.in-Some.is)) c.set_upper.ensures.written
+    refreshes_fresh _ _ c.args.upper c.in_ok-here.here tree c.args.turns (sym c.in_ok-here.was ∙ e) (ap is_fresh (sym c.adopt.ensures.summary ∙ c.in-Some.is)) c.in-Some.ensures.written
 
 pub refresh_below-returns-in_default-clause-refreshed : goal.refresh_below-returns-in_default-clause-refreshed
 refresh_below-returns-in_default-clause-refreshed g t c u tree h e =
-    refreshes_below _ _ c.args.upper tree c.args.turns (c.refresh_at.ensures.refreshed u tree h (sym c.in_ok-here.was ∙ e))
+    let w = g.M.Sums.sums c.refresh_at.new.sums in
+    subst (λ (m : g.row.M.Denot). Refreshes IsConsistentTree (g.M.Sums.sums m) w c.args.upper tree c.args.turns) c.in_default.ensures.kept
+    (refreshes_below (g.M.Sums.sums c.adopt.new.self) w c.args.upper tree c.args.turns (c.refresh_at.ensures.refreshed u tree h (sym c.in_ok-here.was ∙ e)))
 
 pub refresh_at-returns-clause-refreshed : goal.refresh_at-returns-clause-refreshed
 refresh_at-returns-clause-refreshed g t c u tree h e =

@@ -1,16 +1,35 @@
-use Rattle.std.proofs.Common.{Option, sym, subst, ◌∙◌}
+use Rattle.std.proofs.Common.{Option, Some, refl, sym, subst, ◌∙◌, inl, inr}
 use Rattle.ic_unsafe_ref.specs.declared.place.Place.{Place}
+use Rattle.ic_link_ops.proofs.Walks.{is_end_yes}
 use Rattle.ic_augmented.specs.Consistent.{IsConsistentBut}
-use Rattle.ic_augmented.proofs.ConsistencyLemmas.{invalidated_on, marks_next}
+use Rattle.ic_augmented.specs.MarkLaws.{marks_still}
+use Rattle.ic_augmented.proofs.ConsistencyLemmas.{stale_none, invalidated_none, invalidated_starts}
 use Rattle.ic_augmented.proofs.stale.invalidate_from.Goals as goal
+
+pub returns-then-is_at-clause-writable : goal.returns-then-is_at-clause-writable
+returns-then-is_at-clause-writable g c = inr (is_end_yes c.args.edge c.args.place (sym c.is_at.ensures ∙ c.if-is_at.true))
+
+pub returns-then-not-is_fresh-clause-writable : goal.returns-then-not-is_fresh-clause-writable
+returns-then-not-is_fresh-clause-writable g c = inl (stale_none _ (sym c.is_fresh.ensures ∙ c.if-not-is_fresh.true))
+
+pub returns-in_default-clause-edge : goal.returns-in_default-clause-edge
+returns-in_default-clause-edge g c =
+    let n = g.N.Nodes.node in
+    let v = g.N.Nodes.table c.args.links.now in
+    let z = g.M.Sums.sums c.args.sums.now in
+    record {
+      consistent = λ s h. invalidated_starts n v z s (Some c.args.place) (invalidated_none n v z s c.args.edge c.in_default.is h);
+      marks = marks_still z;
+      join = refl;
+    }
 
 pub returns-clause-edge : goal.returns-clause-edge
 returns-clause-edge g c =
     let n = g.N.Nodes.node in
     let v = g.N.Nodes.table c.args.links.now in
-    let y = g.M.Sums.sums c.invalidate.new.self in
+    let z = g.M.Sums.sums c.args.sums.now in
     record {
-      consistent = λ s h. subst (λ (o : Option Place). IsConsistentBut n v y s o) (sym c.upper.ensures) (invalidated_on n v _ y s c.args.place c.invalidate.ensures.invalidated (c.invalidate_up_to.ensures.edge.consistent s h));
-      marks = marks_next _ _ y c.args.place c.invalidate.ensures.invalidated c.invalidate_up_to.ensures.edge.marks;
-      join = c.invalidate.ensures.invalidated.join ∙ c.invalidate_up_to.ensures.edge.join;
+      consistent = λ s h. c.invalidate_up_to.ensures.edge.consistent s (subst (λ (o : Option Place). IsConsistentBut n v z s o) c.in-Some.is h);
+      marks = c.invalidate_up_to.ensures.edge.marks;
+      join = c.invalidate_up_to.ensures.edge.join;
     }

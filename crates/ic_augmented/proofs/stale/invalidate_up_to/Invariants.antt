@@ -1,4 +1,4 @@
-use Rattle.std.proofs.Common.{◌≡◌, List}
+use Rattle.std.proofs.Common.{◌≡◌, Some, List}
 use Rattle.ic_unsafe_ref.specs.declared.place.Place.{Place}
 use Rattle.ic_augmented.specs.Consistent.{IsConsistentBut}
 use Rattle.ic_augmented.specs.Sums.{MarksAlone}
@@ -10,7 +10,7 @@ invariant-loop-from g l =
     let v = g.N.Nodes.table l._links in
     let z = g.M.Sums.sums l.sums in
     record {
-      consistent : (s : List Place) → IsConsistentBut n v (g.M.Sums.sums l.fn.sums) s l.fn.edge → IsConsistentBut n v z s l.from;
+      consistent : (s : List Place) → IsConsistentBut n v (g.M.Sums.sums l.fn.sums) s (Some l.fn.edge) → IsConsistentBut n v z s l.from;
       marks : MarksAlone (g.M.Sums.sums l.fn.sums) z;
       covers : (q : Place) → g.M.Sums.Covers l.fn.sums q → g.M.Sums.Covers l.sums q;
       join : z.join ≡ (g.M.Sums.sums l.fn.sums).join;
