@@ -1,5 +1,5 @@
 -- A summary that has changed, passed on to those above it.
-use Rattle.std.proofs.Common.{◌≡◌, ◌≢◌, ◌≤◌, ◌+◌, ◌-◌, ℕ, suc, true, false, Option, Some, None, List, [], ◌∷◌, ◌++◌, refl, sym, ap, ◌∙◌, subst, arith, inl, inr}
+use Rattle.std.proofs.Common.{◌≡◌, ◌≢◌, ◌≤◌, ◌+◌, ◌-◌, ℕ, true, false, Option, Some, None, List, [], ◌∷◌, ◌++◌, refl, sym, ap, ◌∙◌, subst, arith, inl, inr}
 use Rattle.ic_unsafe_ref.specs.declared.place.Place.{Place}
 use Rattle.ic_link_ops.specs.declared.color.Color.{Color}
 use Rattle.ic_link_ops.specs.declared.side.Side.{Side}
@@ -20,7 +20,7 @@ use Rattle.ic_augmented.specs.Subtrees.{IsSubtree}
 use Rattle.ic_augmented.proofs.ConsistencyLemmas.{times_top, apart_left, apart_right, seen_same, under_same, joined_same, consistent_kept, same_on, writes_same, summed_consistent_tree}
 use Rattle.ic_augmented.proofs.EditLemmas.{others_consistent}
 use Rattle.ic_augmented.proofs.PathLemmas.{OthersStay}
-use Rattle.ic_augmented.proofs.SubtreeLemmas.{lower, member_subtree, subtree_left, subtree_right, subtree_parent}
+use Rattle.ic_augmented.proofs.SubtreeLemmas.{lower, no_longer, member_subtree, subtree_left, subtree_right, subtree_parent}
 
 top_put : (d : Side) (c : Color) (p : Place) (b t : Tree) → top (put_in (frame d c p b) t) ≡ Some p
 top_put Left c p b t = refl
@@ -304,9 +304,9 @@ module _ {E S : Type 0} (n : E → Node) (v : Table E) where
         (subst (λ (o : Option S). IsConsistentAbove y o (z.upper p) (frame d c q b ∷ fs)) fresh (above_there (frame d c q b ∷ fs) t h e (at_edge (frame d c q b ∷ fs) t i h e at)))
 
   -- the place is the edge itself
-  pub climbed_there : (z y : Sums S) (p edge : Place) (turns : ℕ) → p ≡ edge → 1 ≤ turns → ClimbsTo n v z y p p (suc (turns - 1)) → ClimbsTo n v z y p edge turns
-  climbed_there z y p edge turns i more climbs fs t h e low below at =
-      climbs fs t h e (omega (arith, low, more)) below (subst (λ (q : Place). IsEdgeAt z q p fs) (sym i) at)
+  pub climbed_there : (z y : Sums S) (p edge : Place) (turns : ℕ) → p ≡ edge → ClimbsTo n v z y p p 68 → ClimbsTo n v z y p edge turns
+  climbed_there z y p edge turns i climbs fs t h e low below at =
+      climbs fs t h e (omega (arith, h.low, no_longer fs t)) below (subst (λ (q : Place). IsEdgeAt z q p fs) (sym i) at)
 
   pub climbed_out : (z y : Sums S) (p edge : Place) (turns : ℕ) → turns ≡ 0 → ClimbsTo n v z y p edge turns
   climbed_out z y p edge turns none fs t h e low below at = absurd (omega (arith, low, none))

@@ -1,5 +1,5 @@
 -- A subtree of a shown tree: found by the sequence, read at its root, and left upward.
-use Rattle.std.proofs.Common.{◌≡◌, ◌≤◌, true, Option, Some, None, List, [], ◌∷◌, ◌++◌, length, sym, ◌∙◌, subst, arith, append-nil}
+use Rattle.std.proofs.Common.{◌≡◌, ◌≤◌, ◌+◌, true, Option, Some, None, List, [], ◌∷◌, ◌++◌, length, sym, ◌∙◌, subst, arith, append-nil}
 use Rattle.std.proofs.Math.Nat.{le-max_left, le-max_right}
 use Rattle.ic_unsafe_ref.specs.declared.place.Place.{Place}
 use Rattle.ic_link_ops.specs.declared.color.Color.{Color}
@@ -19,6 +19,12 @@ use Rattle.ic_rbtree.proofs.Climbed.{path_few}
 use Rattle.ic_augmented.specs.Subtrees.{IsSubtree}
 
 -- a subtree is no higher than all
+-- and so is a way down
+pub no_longer : (fs : List Frame) (t : Tree) → length fs + height t ≤ height (plug fs t)
+no_longer [] t = omega arith
+no_longer (frame Left c p b ∷ fs) t = omega (arith, no_longer fs (fork c t p b), le-max_left (height t) (height b))
+no_longer (frame Right c p b ∷ fs) t = omega (arith, no_longer fs (fork c b p t), le-max_right (height b) (height t))
+
 pub lower : (fs : List Frame) (t : Tree) → height t ≤ height (plug fs t)
 lower [] t = omega arith
 lower (frame Left c p b ∷ fs) t = omega (arith, lower fs (fork c t p b), le-max_left (height t) (height b))

