@@ -1,5 +1,5 @@
 -- A summary that has changed, passed on to those above it.
-use Rattle.std.proofs.Common.{◌≡◌, ◌≢◌, ◌≤◌, ◌+◌, ◌-◌, ℕ, true, false, Option, Some, None, List, [], ◌∷◌, ◌++◌, refl, sym, ap, ◌∙◌, subst, arith, inl, inr}
+use Rattle.std.proofs.Common.{◌≡◌, ◌≢◌, ◌≤◌, ◌+◌, true, false, Option, Some, None, List, [], ◌∷◌, ◌++◌, refl, sym, ap, ◌∙◌, subst, arith, inl, inr}
 use Rattle.ic_unsafe_ref.specs.declared.place.Place.{Place}
 use Rattle.ic_link_ops.specs.declared.color.Color.{Color}
 use Rattle.ic_link_ops.specs.declared.side.Side.{Side}
@@ -20,7 +20,7 @@ use Rattle.ic_augmented.specs.Subtrees.{IsSubtree}
 use Rattle.ic_augmented.proofs.ConsistencyLemmas.{times_top, apart_left, apart_right, seen_same, under_same, joined_same, consistent_kept, same_on, writes_same, summed_consistent_tree}
 use Rattle.ic_augmented.proofs.EditLemmas.{others_consistent}
 use Rattle.ic_augmented.proofs.PathLemmas.{OthersStay}
-use Rattle.ic_augmented.proofs.SubtreeLemmas.{lower, no_longer, member_subtree, subtree_left, subtree_right, subtree_parent}
+use Rattle.ic_augmented.proofs.SubtreeLemmas.{lower, member_subtree, subtree_left, subtree_right, subtree_parent}
 
 top_put : (d : Side) (c : Color) (p : Place) (b t : Tree) → top (put_in (frame d c p b) t) ≡ Some p
 top_put Left c p b t = refl
@@ -207,36 +207,33 @@ module _ {E S : Type 0} (n : E → Node) (v : Table E) where
         ap (seen_upper y) (top_put d c p b t) ∙ (upper_at ∙ (sym parent_is ∙ subtree_parent n v fs (put_in (frame d c p b) t) p (subtree_put n v d c p b fs t h) (top_put d c p b t)))
 
     -- it is as it was
-    pub passed_same : (turns : ℕ) → was ≡ is → PassesOn n v z y p from to turns
-    passed_same turns same d c b fs t up h low ht s u a =
+    pub passed_same : was ≡ is → PassesOn n v z y p from to
+    passed_same same d c b fs t up h ht s u a =
         closes y (Some was) (above fs) fs (put_in (frame d c p b) t) (λ f. seen_now d c b t ∙ ap Some (sym same)) (λ f. upper_now d c b fs t h (at d c b fs t up h ht s u a).1) (at d c b fs t up h ht s u a).0 (above_now d c b fs t up h a)
 
     -- it is the root
-    pub passed_ends : (turns : ℕ) → parent ≡ None → PassesOn n v z y p from to turns
-    passed_ends turns none d c b [] t up h low ht s u a = (at d c b [] t up h ht s u a).0
-    passed_ends turns none d c b (frame e g q m ∷ fs) t up h low ht s u a =
+    pub passed_ends : parent ≡ None → PassesOn n v z y p from to
+    passed_ends none d c b [] t up h ht s u a = (at d c b [] t up h ht s u a).0
+    passed_ends none d c b (frame e g q m ∷ fs) t up h ht s u a =
         absurd (none_not q (sym none ∙ (sym parent_is ∙ subtree_parent n v (frame e g q m ∷ fs) (put_in (frame d c p b) t) p (subtree_put n v d c p b (frame e g q m ∷ fs) t h) (top_put d c p b t))))
 
     -- it has a parent, from which the change is passed on
-    pub passed_on : (w : Sums S) (next : Place) (turns : ℕ) → parent ≡ Some next → PassesOn n v y w next was is (turns - 1) → PassesOn n v z w p from to turns
-    passed_on w next turns on passes d c b [] t up h low ht s u a =
+    pub passed_on : (w : Sums S) (next : Place) → parent ≡ Some next → PassesOn n v y w next was is → PassesOn n v z w p from to
+    passed_on w next on passes d c b [] t up h ht s u a =
         absurd (none_not next (sym (subtree_parent n v [] (put_in (frame d c p b) t) p (subtree_put n v d c p b [] t h) (top_put d c p b t)) ∙ (parent_is ∙ on)))
-    passed_on w next turns on passes d c b (frame e g q m ∷ fs) t up h low ht s u a =
+    passed_on w next on passes d c b (frame e g q m ∷ fs) t up h ht s u a =
         let i = subtree_put n v d c p b (frame e g q m ∷ fs) t h in
         let x : Tree = put_in (frame d c p b) t in
         let same : q ≡ next = some_same (sym (subtree_parent n v (frame e g q m ∷ fs) x p i (top_put d c p b t)) ∙ (parent_is ∙ on)) in
-        let passes_q : PassesOn n v y w q was is (turns - 1) = subst (λ (r : Place). PassesOn n v y w r was is (turns - 1)) (sym same) passes in
+        let passes_q : PassesOn n v y w q was is = subst (λ (r : Place). PassesOn n v y w r was is) (sym same) passes in
         let done = at d c b (frame e g q m ∷ fs) t up h ht s u a in
-        passes_q e g m fs x (Some q) i (omega (arith, low)) done.0 (seen_now d c b t) (upper_now d c b (frame e g q m ∷ fs) t h done.1)
+        passes_q e g m fs x (Some q) i done.0 (seen_now d c b t) (upper_now d c b (frame e g q m ∷ fs) t h done.1)
         (above_now d c b (frame e g q m ∷ fs) t up h a)
 
   -- a stale one ends it
-  pub passed_stale : (z : Sums S) (p : Place) (from to : S) (turns : ℕ) → z.fresh p ≡ None → PassesOn n v z z p from to turns
-  passed_stale z p from to turns none d c b fs t up h low ht s u a =
+  pub passed_stale : (z : Sums S) (p : Place) (from to : S) → z.fresh p ≡ None → PassesOn n v z z p from to
+  passed_stale z p from to none d c b fs t up h ht s u a =
       closes z (z.fresh p) (z.upper p) fs (put_in (frame d c p b) t) (λ f. ap (seen z) (top_put d c p b t)) (λ f. ap (seen_upper z) (top_put d c p b t)) (stale_put z d c p b t none ht a.1) a.2
-
-  pub passed_out : (z y : Sums S) (p : Place) (from to : S) (turns : ℕ) → turns ≡ 0 → PassesOn n v z y p from to turns
-  passed_out z y p from to turns none d c b fs t up h low ht s u a = absurd (omega (arith, low, none))
 
   -- THE CLIMB, from a place that was renewed
   module _ (z y : Sums S) (p edge : Place) (is : S) (parent : Option Place) (parent_is : (n (v.entry p)).parent ≡ parent) (is_there : Some is ≡ y.fresh p)
@@ -263,53 +260,50 @@ module _ {E S : Type 0} (n : E → Node) (v : Table E) where
     above_there : (fs : List Frame) (t : Tree) → IsSubtree n v fs t → top t ≡ Some p → IsConsistentAbove z (z.fresh p) (z.upper p) fs → IsConsistentAbove y (z.fresh p) (z.upper p) fs
     above_there fs t h e a = above_kept z y (z.fresh p) (z.upper p) fs (join_here fs t h e) (around fs t h e) a
 
-    pub climbed_ends : (turns : ℕ) → parent ≡ None → ClimbsTo n v z y p edge turns
-    climbed_ends turns none [] t h e low below at = summed_consistent_tree y parent t (climbed_tree [] t h e below)
-    climbed_ends turns none (frame d c q b ∷ fs) t h e low below at = absurd (none_not q (sym none ∙ parent_above (frame d c q b ∷ fs) t h e))
+    pub climbed_ends : parent ≡ None → ClimbsTo n v z y p edge
+    climbed_ends none [] t h e below at = summed_consistent_tree y parent t (climbed_tree [] t h e below)
+    climbed_ends none (frame d c q b ∷ fs) t h e below at = absurd (none_not q (sym none ∙ parent_above (frame d c q b ∷ fs) t h e))
 
     -- not yet at the edge
-    pub climbed_on : (w : Sums S) (next : Place) (turns : ℕ) → parent ≡ Some next → p ≢ edge → ClimbsTo n v y w next edge (turns - 1) → ClimbsTo n v z w p edge turns
-    climbed_on w next turns on other climbs [] t h e low below at = absurd (none_not next (sym (parent_above [] t h e) ∙ on))
-    climbed_on w next turns on other climbs (frame d c q b ∷ fs) t h e low below (inl x) = absurd (other x.0)
-    climbed_on w next turns on other climbs (frame d c q b ∷ fs) t h e low below (inr x) =
+    pub climbed_on : (w : Sums S) (next : Place) → parent ≡ Some next → p ≢ edge → ClimbsTo n v y w next edge → ClimbsTo n v z w p edge
+    climbed_on w next on other climbs [] t h e below at = absurd (none_not next (sym (parent_above [] t h e) ∙ on))
+    climbed_on w next on other climbs (frame d c q b ∷ fs) t h e below (inl x) = absurd (other x.0)
+    climbed_on w next on other climbs (frame d c q b ∷ fs) t h e below (inr x) =
         let same : q ≡ next = some_same (sym (parent_above (frame d c q b ∷ fs) t h e) ∙ on) in
-        let climbs_q : ClimbsTo n v y w q edge (turns - 1) = subst (λ (r : Place). ClimbsTo n v y w r edge (turns - 1)) (sym same) climbs in
+        let climbs_q : ClimbsTo n v y w q edge = subst (λ (r : Place). ClimbsTo n v y w r edge) (sym same) climbs in
         let k = edge_above_kept z y edge (frame d c q b ∷ fs) (join_here (frame d c q b ∷ fs) t h e) (around (frame d c q b ∷ fs) t h e) x in
-        climbs_q fs (put_in (frame d c q b) t) (subtree_put n v d c q b fs t h) (top_put d c q b t) (omega (arith, low))
+        climbs_q fs (put_in (frame d c q b) t) (subtree_put n v d c q b fs t h) (top_put d c q b t)
         (below_put y d c q b t (summed_consistent_tree y parent t (climbed_tree (frame d c q b ∷ fs) t h e below)) k.0) k.1
 
     -- at the edge, which was stale
-    pub climbed_stale : (turns : ℕ) → p ≡ edge → z.fresh p ≡ None → ClimbsTo n v z y p edge turns
-    climbed_stale turns i none fs t h e low below at =
+    pub climbed_stale : p ≡ edge → z.fresh p ≡ None → ClimbsTo n v z y p edge
+    climbed_stale i none fs t h e below at =
         closes y None (z.upper p) fs t (λ f. let k : false ≡ true = f in cc) (λ f. let k : false ≡ true = f in cc) (summed_consistent_tree y parent t (climbed_tree fs t h e below))
         (subst (λ (o : Option S). IsConsistentAbove y o (z.upper p) fs) none (above_there fs t h e (at_edge fs t i h e at)))
 
     -- at the edge, whose summary is as it was
-    pub climbed_same : (was : S) (turns : ℕ) → p ≡ edge → z.fresh p ≡ Some was → was ≡ is → ClimbsTo n v z y p edge turns
-    climbed_same was turns i fresh same fs t h e low below at =
+    pub climbed_same : (was : S) → p ≡ edge → z.fresh p ≡ Some was → was ≡ is → ClimbsTo n v z y p edge
+    climbed_same was i fresh same fs t h e below at =
         let tree = climbed_tree fs t h e below in
         closes y (Some was) (above fs) fs t (λ f. ap (seen y) e ∙ (sym is_there ∙ ap Some (sym same)))
         (λ f. ap (seen_upper y) e ∙ (summed_upper y parent p t e tree ∙ parent_above fs t h e)) (summed_consistent_tree y parent t tree)
         (under_now y (Some was) (z.upper p) fs (subst (λ (o : Option S). IsConsistentAbove y o (z.upper p) fs) fresh (above_there fs t h e (at_edge fs t i h e at))))
 
     -- at the edge, from which the change is passed on
-    pub climbed_edge : (w : Sums S) (next : Place) (was : S) (turns : ℕ) → p ≡ edge → z.fresh p ≡ Some was → parent ≡ Some next → PassesOn n v y w next was is (turns - 1) → ClimbsTo n v z w p edge turns
-    climbed_edge w next was turns i fresh on passes [] t h e low below at = absurd (none_not next (sym (parent_above [] t h e) ∙ on))
-    climbed_edge w next was turns i fresh on passes (frame d c q b ∷ fs) t h e low below at =
+    pub climbed_edge : (w : Sums S) (next : Place) (was : S) → p ≡ edge → z.fresh p ≡ Some was → parent ≡ Some next → PassesOn n v y w next was is → ClimbsTo n v z w p edge
+    climbed_edge w next was i fresh on passes [] t h e below at = absurd (none_not next (sym (parent_above [] t h e) ∙ on))
+    climbed_edge w next was i fresh on passes (frame d c q b ∷ fs) t h e below at =
         let same : q ≡ next = some_same (sym (parent_above (frame d c q b ∷ fs) t h e) ∙ on) in
-        let passes_q : PassesOn n v y w q was is (turns - 1) = subst (λ (r : Place). PassesOn n v y w r was is (turns - 1)) (sym same) passes in
+        let passes_q : PassesOn n v y w q was is = subst (λ (r : Place). PassesOn n v y w r was is) (sym same) passes in
         let tree = climbed_tree (frame d c q b ∷ fs) t h e below in
-        passes_q d c b fs t (z.upper p) h (omega (arith, low)) (summed_consistent_tree y parent t tree) (ap (seen y) e ∙ sym is_there)
+        passes_q d c b fs t (z.upper p) h (summed_consistent_tree y parent t tree) (ap (seen y) e ∙ sym is_there)
         (ap (seen_upper y) e ∙ (summed_upper y parent p t e tree ∙ parent_above (frame d c q b ∷ fs) t h e))
         (subst (λ (o : Option S). IsConsistentAbove y o (z.upper p) (frame d c q b ∷ fs)) fresh (above_there (frame d c q b ∷ fs) t h e (at_edge (frame d c q b ∷ fs) t i h e at)))
 
   -- the place is the edge itself
-  pub climbed_there : (z y : Sums S) (p edge : Place) (turns : ℕ) → p ≡ edge → ClimbsTo n v z y p p 68 → ClimbsTo n v z y p edge turns
-  climbed_there z y p edge turns i climbs fs t h e low below at =
-      climbs fs t h e (omega (arith, h.low, no_longer fs t)) below (subst (λ (q : Place). IsEdgeAt z q p fs) (sym i) at)
-
-  pub climbed_out : (z y : Sums S) (p edge : Place) (turns : ℕ) → turns ≡ 0 → ClimbsTo n v z y p edge turns
-  climbed_out z y p edge turns none fs t h e low below at = absurd (omega (arith, low, none))
+  pub climbed_there : (z y : Sums S) (p edge : Place) → p ≡ edge → ClimbsTo n v z y p p → ClimbsTo n v z y p edge
+  climbed_there z y p edge i climbs fs t h e below at =
+      climbs fs t h e below (subst (λ (q : Place). IsEdgeAt z q p fs) (sym i) at)
 
 -- FROM THE SEQUENCE, in which each fresh summary is right but maybe at the edge
 module _ {E S : Type 0} (n : E → Node) (v : Table E) (z : Sums S) (s : List Place) (edge : Place) (h : IsConsistentBut n v z s (Some edge)) where
@@ -388,7 +382,7 @@ module _ {E : Type 0} (n : E → Node) (v : Table E) where
 
 module _ {E S : Type 0} (n : E → Node) (v : Table E) where
   -- THE EDGE SETTLED: each fresh summary of the shown tree is right
-  pub settled : (z y : Sums S) (root : Option Place) (front : List Place) (p edge : Place) (back : List Place) → ClimbsTo n v z y p edge 67
+  pub settled : (z y : Sums S) (root : Option Place) (front : List Place) (p edge : Place) (back : List Place) → ClimbsTo n v z y p edge
       → ((fs : List Frame) (t : Tree) → IsSubtree n v fs t → top t ≡ Some p → IsAmong edge fs) → (h : Shows n v root (front ++ p ∷ back))
       → IsConsistentBut n v z (front ++ p ∷ back) (Some edge) → IsConsistentTree y h.tree
   settled z y root front p edge back climbs among h k =
@@ -397,7 +391,7 @@ module _ {E S : Type 0} (n : E → Node) (v : Table E) where
       let members : (q : Place) → times q (plug x.fs t) ≤ times_in q (front ++ p ∷ back) =
       (λ q. let e : times_in q (in_order h.tree) ≡ times_in q (front ++ p ∷ back) = ap (times_in q) h.held.order in omega (arith, e, times_order q h.tree, ap (times q) x.same)) in
       let r = below_edge n v z (front ++ p ∷ back) edge k x.fs x.c x.a p x.b x.subtree members (among x.fs t x.subtree refl) in
-      subst (λ (u : Tree). IsConsistentTree y u) x.same (climbs x.fs t x.subtree refl (omega (arith, x.low)) r.0 r.1)
+      subst (λ (u : Tree). IsConsistentTree y u) x.same (climbs x.fs t x.subtree refl r.0 r.1)
 
   -- and each of another tree
   pub others_settled : (z y : Sums S) (root other : Option Place) (front : List Place) (p edge : Place) (back t : List Place) → y.join ≡ z.join → OthersStay n v z y p

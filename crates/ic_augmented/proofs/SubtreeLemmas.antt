@@ -1,5 +1,5 @@
 -- A subtree of a shown tree: found by the sequence, read at its root, and left upward.
-use Rattle.std.proofs.Common.{◌≡◌, ◌≤◌, ◌+◌, true, Option, Some, None, List, [], ◌∷◌, ◌++◌, length, sym, ◌∙◌, subst, arith, append-nil}
+use Rattle.std.proofs.Common.{◌≡◌, ◌≤◌, ◌<◌, ◌+◌, ℕ, suc, zero, true, Option, Some, None, List, [], ◌∷◌, ◌++◌, length, refl, sym, ap, ◌∙◌, subst, arith, append-nil}
 use Rattle.std.proofs.Math.Nat.{le-max_left, le-max_right}
 use Rattle.ic_unsafe_ref.specs.declared.place.Place.{Place}
 use Rattle.ic_link_ops.specs.declared.color.Color.{Color}
@@ -19,6 +19,15 @@ use Rattle.ic_rbtree.proofs.Climbed.{path_few}
 use Rattle.ic_augmented.specs.Subtrees.{IsSubtree}
 
 -- a subtree is no higher than all
+-- how many places stand at an end and above it, if these are no more than k
+abbrev pub above_end : {E : Type 0} (n : E → Node) (v : Table E) → ℕ → Option Place → ℕ
+above_end n v zero o = 0
+above_end n v (suc k) None = 0
+above_end n v (suc k) (Some p) = suc (above_end n v k (n (v.entry p)).parent)
+
+pred_same : {a b : ℕ} → suc a ≡ suc b → a ≡ b
+pred_same e = omega (arith, e)
+
 -- and so is a way down
 pub no_longer : (fs : List Frame) (t : Tree) → length fs + height t ≤ height (plug fs t)
 no_longer [] t = omega arith
@@ -93,3 +102,27 @@ module _ {E : Type 0} (n : E → Node) where
     subtree_up [] t up h e = absurd (none_not up e)
     subtree_up (frame Left c p b ∷ fs) t up h e = (fs, fork c t p b, subtree_left c p b fs t h, e)
     subtree_up (frame Right c p b ∷ fs) t up h e = (fs, fork c b p t, subtree_right c p b fs t h, e)
+
+    none_above : (k : ℕ) → above_end n v k None ≡ 0
+    none_above zero = refl
+    none_above (suc k) = refl
+
+    -- how many stand above it
+    above_length : (fs : List Frame) (t : Tree) (p : Place) (k : ℕ) → IsSubtree n v fs t → top t ≡ Some p → length fs < k → above_end n v k (Some p) ≡ suc (length fs)
+    above_length fs t p zero h e less = absurd (omega (arith, less))
+    above_length [] t p (suc k) h e less = ap suc (ap (above_end n v k) (subtree_parent [] t p h e) ∙ none_above k)
+    above_length (frame Left c q b ∷ fs) t p (suc k) h e less =
+        ap suc (ap (above_end n v k) (subtree_parent (frame Left c q b ∷ fs) t p h e) ∙ above_length fs (fork c t q b) q k (subtree_left c q b fs t h) refl (omega (arith, less)))
+    above_length (frame Right c q b ∷ fs) t p (suc k) h e less =
+        ap suc (ap (above_end n v k) (subtree_parent (frame Right c q b ∷ fs) t p h e) ∙ above_length fs (fork c b q t) q k (subtree_right c q b fs t h) refl (omega (arith, less)))
+
+    -- and above its parent there are fewer
+    pub fewer_above : (fs : List Frame) (t : Tree) (p up : Place) → IsSubtree n v fs t → top t ≡ Some p → above fs ≡ Some up → above_end n v 68 (Some up) < above_end n v 68 (Some p)
+    fewer_above fs t p up h e is =
+        let u = subtree_up fs t up h is in
+        let here : above_end n v 68 (Some p) ≡ suc (length fs) = above_length fs t p 68 h e (omega (arith, h.low, no_longer fs t)) in
+        let there : above_end n v 67 (Some up) ≡ length fs = pred_same (ap (λ (o : Option Place). suc (above_end n v 67 o)) (sym (subtree_parent fs t p h e ∙ is)) ∙ here) in
+        let low : length u.0 ≤ 66 = omega (arith, u.2.low, no_longer u.0 u.1) in
+        let less : above_end n v 68 (Some up) ≡ suc (length u.0) = above_length u.0 u.1 up 68 u.2 u.3 (omega (arith, low)) in
+        let same : above_end n v 67 (Some up) ≡ suc (length u.0) = above_length u.0 u.1 up 67 u.2 u.3 (omega (arith, low)) in
+        omega (arith, here, there, less, same)

@@ -1,5 +1,5 @@
 -- A summary that has changed, and those above it that were made of it.
-use Rattle.std.specs.Prelude.{◌≡◌, ◌<◌, ◌⊎◌, ℕ, true, Option, Some, None, List, [], ◌∷◌, length}
+use Rattle.std.specs.Prelude.{◌≡◌, ◌⊎◌, true, Option, Some, None, List, [], ◌∷◌}
 use Rattle.ic_unsafe_ref.specs.declared.place.Place.{Place}
 use Rattle.ic_link_ops.specs.declared.color.Color.{Color}
 use Rattle.ic_link_ops.specs.declared.side.Side.{Side}
@@ -64,12 +64,12 @@ module _ {E S : Type 0} (n : E → Node) (v : Table E) where
       → IsConsistentAbove z (Some from) up (frame d c p b ∷ fs) → IsConsistentTree y (put_in (frame d c p b) t) × (y.upper p ≡ parent)
 
   -- and those above it, so that each fresh one is right
-  abbrev pub PassesOn : Sums S → Sums S → Place → S → S → ℕ → Type 0
-  PassesOn z y p from to turns = (d : Side) (c : Color) (b : Tree) (fs : List Frame) (t : Tree) (up : Option Place)
-      → IsSubtree n v (frame d c p b ∷ fs) t → length fs < turns → IsConsistentTree z t → seen z (top t) ≡ Some to → seen_upper z (top t) ≡ Some p
+  abbrev pub PassesOn : Sums S → Sums S → Place → S → S → Type 0
+  PassesOn z y p from to = (d : Side) (c : Color) (b : Tree) (fs : List Frame) (t : Tree) (up : Option Place)
+      → IsSubtree n v (frame d c p b ∷ fs) t → IsConsistentTree z t → seen z (top t) ≡ Some to → seen_upper z (top t) ≡ Some p
       → IsConsistentAbove z (Some from) up (frame d c p b ∷ fs) → IsConsistentTree y (plug (frame d c p b ∷ fs) t)
 
   -- from z to y the summaries from p up to the edge were renewed, and those above, so that each fresh one is right
-  abbrev pub ClimbsTo : Sums S → Sums S → Place → Place → ℕ → Type 0
-  ClimbsTo z y p edge turns = (fs : List Frame) (t : Tree)
-      → IsSubtree n v fs t → top t ≡ Some p → length fs < turns → IsConsistentBelow z t → IsEdgeAt z edge p fs → IsConsistentTree y (plug fs t)
+  abbrev pub ClimbsTo : Sums S → Sums S → Place → Place → Type 0
+  ClimbsTo z y p edge = (fs : List Frame) (t : Tree)
+      → IsSubtree n v fs t → top t ≡ Some p → IsConsistentBelow z t → IsEdgeAt z edge p fs → IsConsistentTree y (plug fs t)

@@ -25,20 +25,17 @@ use ic_rbtree::Nodes;
 use ic_unsafe_ref::Place;
 
 // Whether the edge stands above the place.
-fn is_above<N: Nodes>(links: &N, place: Place, edge: Place, turns: u32) -> bool
+fn is_above<N: Nodes>(links: &N, place: Place, edge: Place) -> bool
     requires { (fs : List Frame) × (t : Tree) × IsSubtree N.node (N.table links.now) fs t × (top t ≡ Some place) }
     ensures { IsTrue result → (fs : List Frame) (t : Tree) → IsSubtree N.node (N.table links.now) fs t → top t ≡ Some place → IsAmong edge fs }
 {
-    if turns == 0 {
-        return false;
-    }
     let Some(above) = links.parent(place) else {
         return false;
     };
     if is_at(Some(above), edge) {
         return true;
     }
-    is_above(links, above, edge, turns - 1)
+    is_above(links, above, edge)
 }
 
 // Writes the summary of a place, after the stale ones below it, in code of its own.
@@ -95,7 +92,6 @@ fn pass_on<N: Nodes, M: RenewSums>(
     place: Place,
     from: M::Summary,
     to: M::Summary,
-    turns: u32,
 )
     requires covered { (q : Place) → IsNode N.node (N.table links.now) q → M.Covers sums.old q }
     requires subtree { (fs : List Frame) × (t : Tree) × IsSubtree N.node (N.table links.now) fs t × (top t ≡ Some place) }
@@ -103,11 +99,8 @@ fn pass_on<N: Nodes, M: RenewSums>(
     ensures join { (M.sums sums.new).join ≡ (M.sums sums.old).join }
     ensures others { (fs : List Frame) (t : Tree) → IsSubtree N.node (N.table links.now) fs t → top t ≡ Some place
         → (q : Place) → times q (plug fs t) ≡ 0 → IsSameAt (M.sums sums.old) (M.sums sums.new) q }
-    ensures consistent { PassesOn N.node (N.table links.now) (M.sums sums.old) (M.sums sums.new) place from to turns }
+    ensures consistent { PassesOn N.node (N.table links.now) (M.sums sums.old) (M.sums sums.new) place from to }
 {
-    if turns == 0 {
-        return;
-    }
     let upper = links.parent(place);
     let Some(change) = renew_at(links, sums, place, from, to, upper) else {
         return;
@@ -119,7 +112,7 @@ fn pass_on<N: Nodes, M: RenewSums>(
     let Some(above) = upper else {
         return;
     };
-    pass_on(links, sums, above, was, is, turns - 1);
+    pass_on(links, sums, above, was, is);
 }
 
 // Renews the summary of the edge, and those above as far as they change.
@@ -131,7 +124,7 @@ fn climb_on<N: Nodes, M: RenewSums>(links: &N, sums: &mut M, edge: Place)
     ensures join { (M.sums sums.new).join ≡ (M.sums sums.old).join }
     ensures others { (fs : List Frame) (t : Tree) → IsSubtree N.node (N.table links.now) fs t → top t ≡ Some edge
         → (q : Place) → times q (plug fs t) ≡ 0 → IsSameAt (M.sums sums.old) (M.sums sums.new) q }
-    ensures consistent { ClimbsTo N.node (N.table links.now) (M.sums sums.old) (M.sums sums.new) edge edge 68 }
+    ensures consistent { ClimbsTo N.node (N.table links.now) (M.sums sums.old) (M.sums sums.new) edge edge }
 {
     let upper = links.parent(edge);
     let was = sums.fresh(edge);
@@ -145,22 +138,19 @@ fn climb_on<N: Nodes, M: RenewSums>(links: &N, sums: &mut M, edge: Place)
     if M::is_same(&was, &is) {
         return;
     }
-    pass_on(links, sums, above, was, is, 67);
+    pass_on(links, sums, above, was, is);
 }
 
 // Renews the summaries from a place up to the edge, and those above as far as they change.
-fn climb<N: Nodes, M: RenewSums>(links: &N, sums: &mut M, place: Place, edge: Place, turns: u32)
+fn climb<N: Nodes, M: RenewSums>(links: &N, sums: &mut M, place: Place, edge: Place)
     requires covered { (q : Place) → IsNode N.node (N.table links.now) q → M.Covers sums.old q }
     requires subtree { (fs : List Frame) × (t : Tree) × IsSubtree N.node (N.table links.now) fs t × (top t ≡ Some place) }
     ensures covers { (q : Place) → M.Covers sums.old q → M.Covers sums.new q }
     ensures join { (M.sums sums.new).join ≡ (M.sums sums.old).join }
     ensures others { (fs : List Frame) (t : Tree) → IsSubtree N.node (N.table links.now) fs t → top t ≡ Some place
         → (q : Place) → times q (plug fs t) ≡ 0 → IsSameAt (M.sums sums.old) (M.sums sums.new) q }
-    ensures consistent { ClimbsTo N.node (N.table links.now) (M.sums sums.old) (M.sums sums.new) place edge turns }
+    ensures consistent { ClimbsTo N.node (N.table links.now) (M.sums sums.old) (M.sums sums.new) place edge }
 {
-    if turns == 0 {
-        return;
-    }
     if is_at(Some(place), edge) {
         climb_on(links, sums, place);
         return;
@@ -170,7 +160,7 @@ fn climb<N: Nodes, M: RenewSums>(links: &N, sums: &mut M, place: Place, edge: Pl
     let Some(above) = upper else {
         return;
     };
-    climb(links, sums, above, edge, turns - 1);
+    climb(links, sums, above, edge);
 }
 
 // Renews what an insert of the place has left stale below the edge, and what changes above. If the edge is not above the place, the
@@ -194,9 +184,9 @@ pub(crate) fn settle<N: Nodes, M: RenewSums>(
     let Some(edge) = edge else {
         return;
     };
-    if !is_above(links, place, edge, 67) {
+    if !is_above(links, place, edge) {
         invalidate_up(links, sums, edge);
         return;
     }
-    climb(links, sums, place, edge, 67);
+    climb(links, sums, place, edge);
 }

@@ -3,12 +3,12 @@ use Rattle.ic_link_ops.proofs.SequenceLemmas.{some_same}
 use Rattle.ic_link_ops.proofs.Walks.{is_end_yes, is_end_no}
 use Rattle.ic_augmented.proofs.ChangeLemmas.{climbed_ends, climbed_on, climbed_there}
 use Rattle.ic_augmented.proofs.PathLemmas.{others_here, others_on}
-use Rattle.ic_augmented.proofs.SubtreeLemmas.{subtree_parent, subtree_up}
+use Rattle.ic_augmented.proofs.SubtreeLemmas.{subtree_parent, subtree_up, fewer_above}
 use Rattle.ic_augmented.proofs.climb.+climb.Goals as goal
 
 pub returns-then-is_at-clause-consistent : goal.returns-then-is_at-clause-consistent
 returns-then-is_at-clause-consistent g t c =
-    climbed_there g.N.Nodes.node (g.N.Nodes.table c.args.links.now) (g.M.Sums.sums c.args.sums.now) (g.M.Sums.sums c.climb_on.new.sums) c.args.place c.args.edge c.args.turns
+    climbed_there g.N.Nodes.node (g.N.Nodes.table c.args.links.now) (g.M.Sums.sums c.args.sums.now) (g.M.Sums.sums c.climb_on.new.sums) c.args.place c.args.edge
     (some_same (is_end_yes (Some c.args.place) c.args.edge (sym c.is_at.ensures ∙ c.if-is_at.true))) c.climb_on.ensures.consistent
 
 pub returns-in_default-clause-others : goal.returns-in_default-clause-others
@@ -18,7 +18,7 @@ returns-in_default-clause-others g t c =
 
 pub returns-in_default-clause-consistent : goal.returns-in_default-clause-consistent
 returns-in_default-clause-consistent g t c =
-    climbed_ends g.N.Nodes.node (g.N.Nodes.table c.args.links.now) (g.M.Sums.sums c.args.sums.now) (g.M.Sums.sums c.renew.new.sums) c.args.place c.args.edge c.renew.result c.parent-upper.result (sym c.parent-upper.ensures) c.renew.ensures.summary c.renew.ensures.refreshed c.args.turns c.in_default.is
+    climbed_ends g.N.Nodes.node (g.N.Nodes.table c.args.links.now) (g.M.Sums.sums c.args.sums.now) (g.M.Sums.sums c.renew.new.sums) c.args.place c.args.edge c.renew.result c.parent-upper.result (sym c.parent-upper.ensures) c.renew.ensures.summary c.renew.ensures.refreshed c.in_default.is
 
 pub climb-requires : goal.climb-requires
 climb-requires g t c κs within =
@@ -26,6 +26,7 @@ climb-requires g t c κs within =
     let v = g.N.Nodes.table c.args.links.now in
     let r = c.requires.subtree in
     let up = subtree_up n v r.0 r.1 c.in-Some.above r.2 (sym (subtree_parent n v r.0 r.1 c.args.place r.2 r.3) ∙ (sym c.parent-upper.ensures ∙ c.in-Some.is)) in
+    let less = fewer_above n v r.0 r.1 c.args.place c.in-Some.above r.2 r.3 (sym (subtree_parent n v r.0 r.1 c.args.place r.2 r.3) ∙ (sym c.parent-upper.ensures ∙ c.in-Some.is)) in
     search rules
 
 pub returns-clause-others : goal.returns-clause-others
@@ -36,4 +37,4 @@ returns-clause-others g t c =
 pub returns-clause-consistent : goal.returns-clause-consistent
 returns-clause-consistent g t c =
     climbed_on g.N.Nodes.node (g.N.Nodes.table c.args.links.now) (g.M.Sums.sums c.args.sums.now) (g.M.Sums.sums c.renew.new.sums) c.args.place c.args.edge c.renew.result c.parent-upper.result (sym c.parent-upper.ensures) c.renew.ensures.summary c.renew.ensures.refreshed
-    (g.M.Sums.sums c.climb.new.sums) c.in-Some.above c.args.turns c.in-Some.is (λ e. is_end_no (Some c.args.place) c.args.edge (sym c.is_at.ensures ∙ c.if-is_at.false) (ap Some e)) c.climb.ensures.consistent
+    (g.M.Sums.sums c.climb.new.sums) c.in-Some.above c.in-Some.is (λ e. is_end_no (Some c.args.place) c.args.edge (sym c.is_at.ensures ∙ c.if-is_at.false) (ap Some e)) c.climb.ensures.consistent

@@ -1,4 +1,6 @@
+use Rattle.std.proofs.Common.{Some}
+use Rattle.ic_augmented.proofs.SubtreeLemmas.{above_end}
 use Rattle.ic_augmented.proofs.climb.+climb.Given as goal
 
 abbrev pub decreases-climb : goal.decreases-climb
-decreases-climb g l = l.turns
+decreases-climb g l = above_end g.N.Nodes.node (g.N.Nodes.table l.links.now) 68 (Some l.place)

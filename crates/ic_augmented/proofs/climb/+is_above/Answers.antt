@@ -2,7 +2,7 @@ use Rattle.std.proofs.Common.{rules, sym, ◌∙◌, Some}
 use Rattle.ic_link_ops.proofs.SequenceLemmas.{some_same}
 use Rattle.ic_link_ops.proofs.Walks.{is_end_yes}
 use Rattle.ic_augmented.proofs.ChangeLemmas.{among_here, among_up}
-use Rattle.ic_augmented.proofs.SubtreeLemmas.{subtree_parent, subtree_up}
+use Rattle.ic_augmented.proofs.SubtreeLemmas.{subtree_parent, subtree_up, fewer_above}
 use Rattle.ic_augmented.proofs.climb.+is_above.Goals as goal
 
 pub returns-then-is_at : goal.returns-then-is_at
@@ -16,6 +16,7 @@ is_above-requires g t c κs within =
     let v = g.N.Nodes.table c.args.links.now in
     let r = c.requires in
     let up = subtree_up n v r.0 r.1 c.in-Some.above r.2 (sym (subtree_parent n v r.0 r.1 c.args.place r.2 r.3) ∙ (sym c.parent.ensures ∙ c.in-Some.is)) in
+    let less = fewer_above n v r.0 r.1 c.args.place c.in-Some.above r.2 r.3 (sym (subtree_parent n v r.0 r.1 c.args.place r.2 r.3) ∙ (sym c.parent.ensures ∙ c.in-Some.is)) in
     search rules
 
 pub returns : goal.returns

@@ -1,12 +1,12 @@
 use Rattle.std.proofs.Common.{rules, arith, sym, ◌∙◌}
 use Rattle.ic_link_ops.proofs.Times.{times_plug}
 use Rattle.ic_augmented.proofs.ChangeLemmas.{passed_stale, passed_same, passed_ends, passed_on, others_up}
-use Rattle.ic_augmented.proofs.SubtreeLemmas.{subtree_parent, subtree_up}
+use Rattle.ic_augmented.proofs.SubtreeLemmas.{subtree_parent, subtree_up, fewer_above}
 use Rattle.ic_augmented.proofs.climb.+pass_on.Goals as goal
 
 pub returns-in_default-clause-consistent : goal.returns-in_default-clause-consistent
 returns-in_default-clause-consistent g t c =
-    rw c.in_default.ensures.stale.1 (passed_stale g.N.Nodes.node (g.N.Nodes.table c.args.links.now) (g.M.Sums.sums c.args.sums.now) c.args.place c.args.from c.args.to c.args.turns c.in_default.ensures.stale.0)
+    rw c.in_default.ensures.stale.1 (passed_stale g.N.Nodes.node (g.N.Nodes.table c.args.links.now) (g.M.Sums.sums c.args.sums.now) c.args.place c.args.from c.args.to c.in_default.ensures.stale.0)
 
 pub returns-then-is_same-clause-others : goal.returns-then-is_same-clause-others
 returns-then-is_same-clause-others g t c fs u h e q out = c.renew_at.ensures.frame fs u h e q (omega (arith, out, times_plug q fs u))
@@ -14,7 +14,7 @@ returns-then-is_same-clause-others g t c fs u h e q out = c.renew_at.ensures.fra
 pub returns-then-is_same-clause-consistent : goal.returns-then-is_same-clause-consistent
 returns-then-is_same-clause-consistent g t c =
     passed_same g.N.Nodes.node (g.N.Nodes.table c.args.links.now) (g.M.Sums.sums c.args.sums.now) (g.M.Sums.sums c.renew_at.new.sums) c.args.place c.args.from c.args.to c.in-Some.change.0 c.in-Some.change.1 c.parent-upper.result
-    (sym c.parent-upper.ensures) c.renew_at.ensures.join c.in-Some.ensures.renewed c.in-Some.ensures.was c.in-Some.ensures.is c.renew_at.ensures.frame c.args.turns (c.is_same.ensures c.if-is_same.true)
+    (sym c.parent-upper.ensures) c.renew_at.ensures.join c.in-Some.ensures.renewed c.in-Some.ensures.was c.in-Some.ensures.is c.renew_at.ensures.frame (c.is_same.ensures c.if-is_same.true)
 
 pub returns-in_default-upper-clause-others : goal.returns-in_default-upper-clause-others
 returns-in_default-upper-clause-others g t c fs u h e q out = c.renew_at.ensures.frame fs u h e q (omega (arith, out, times_plug q fs u))
@@ -22,7 +22,7 @@ returns-in_default-upper-clause-others g t c fs u h e q out = c.renew_at.ensures
 pub returns-in_default-upper-clause-consistent : goal.returns-in_default-upper-clause-consistent
 returns-in_default-upper-clause-consistent g t c =
     passed_ends g.N.Nodes.node (g.N.Nodes.table c.args.links.now) (g.M.Sums.sums c.args.sums.now) (g.M.Sums.sums c.renew_at.new.sums) c.args.place c.args.from c.args.to c.in-Some.change.0 c.in-Some.change.1 c.parent-upper.result
-    (sym c.parent-upper.ensures) c.renew_at.ensures.join c.in-Some.ensures.renewed c.in-Some.ensures.was c.in-Some.ensures.is c.renew_at.ensures.frame c.args.turns c.in_default-upper.is
+    (sym c.parent-upper.ensures) c.renew_at.ensures.join c.in-Some.ensures.renewed c.in-Some.ensures.was c.in-Some.ensures.is c.renew_at.ensures.frame c.in_default-upper.is
 
 pub pass_on-requires : goal.pass_on-requires
 pass_on-requires g t c κs within =
@@ -30,6 +30,7 @@ pass_on-requires g t c κs within =
     let v = g.N.Nodes.table c.args.links.now in
     let r = c.requires.subtree in
     let up = subtree_up n v r.0 r.1 c.in-Some-upper.above r.2 (sym (subtree_parent n v r.0 r.1 c.args.place r.2 r.3) ∙ (sym c.parent-upper.ensures ∙ c.in-Some-upper.is)) in
+    let less = fewer_above n v r.0 r.1 c.args.place c.in-Some-upper.above r.2 r.3 (sym (subtree_parent n v r.0 r.1 c.args.place r.2 r.3) ∙ (sym c.parent-upper.ensures ∙ c.in-Some-upper.is)) in
     search rules
 
 pub returns-clause-others : goal.returns-clause-others
@@ -41,4 +42,4 @@ pub returns-clause-consistent : goal.returns-clause-consistent
 returns-clause-consistent g t c =
     passed_on g.N.Nodes.node (g.N.Nodes.table c.args.links.now) (g.M.Sums.sums c.args.sums.now) (g.M.Sums.sums c.renew_at.new.sums) c.args.place c.args.from c.args.to c.in-Some.change.0 c.in-Some.change.1 c.parent-upper.result
     (sym c.parent-upper.ensures) c.renew_at.ensures.join c.in-Some.ensures.renewed c.in-Some.ensures.was c.in-Some.ensures.is c.renew_at.ensures.frame
-    (g.M.Sums.sums c.pass_on.new.sums) c.in-Some-upper.above c.args.turns c.in-Some-upper.is c.pass_on.ensures.consistent
+    (g.M.Sums.sums c.pass_on.new.sums) c.in-Some-upper.above c.in-Some-upper.is c.pass_on.ensures.consistent

@@ -1,4 +1,4 @@
-use Rattle.std.proofs.Common.{refl, sym, arith, ◌∙◌}
+use Rattle.std.proofs.Common.{refl, sym, ◌∙◌}
 use Rattle.ic_augmented.proofs.ChangeLemmas.{climbed_ends, climbed_stale, climbed_same, climbed_edge}
 use Rattle.ic_augmented.proofs.PathLemmas.{others_here, others_on}
 use Rattle.ic_augmented.proofs.SubtreeLemmas.{subtree_parent, subtree_up}
@@ -7,7 +7,7 @@ use Rattle.ic_augmented.proofs.climb.climb_on.Goals as goal
 pub returns-in_default-clause-consistent : goal.returns-in_default-clause-consistent
 returns-in_default-clause-consistent g c =
     climbed_ends g.N.Nodes.node (g.N.Nodes.table c.args.links.now) (g.M.Sums.sums c.args.sums.now) (g.M.Sums.sums c.renew-is.new.sums) c.args.edge c.args.edge c.renew-is.result c.parent-upper.result (sym c.parent-upper.ensures)
-    c.renew-is.ensures.summary c.renew-is.ensures.refreshed 68 c.in_default.is
+    c.renew-is.ensures.summary c.renew-is.ensures.refreshed c.in_default.is
 
 pub returns-in_default-was-clause-others : goal.returns-in_default-was-clause-others
 returns-in_default-was-clause-others g c =
@@ -17,7 +17,7 @@ returns-in_default-was-clause-others g c =
 pub returns-in_default-was-clause-consistent : goal.returns-in_default-was-clause-consistent
 returns-in_default-was-clause-consistent g c =
     climbed_stale g.N.Nodes.node (g.N.Nodes.table c.args.links.now) (g.M.Sums.sums c.args.sums.now) (g.M.Sums.sums c.renew-is.new.sums) c.args.edge c.args.edge c.renew-is.result c.parent-upper.result (sym c.parent-upper.ensures)
-    c.renew-is.ensures.summary c.renew-is.ensures.refreshed 68 refl (sym c.fresh-was.ensures ∙ c.in_default-was.is)
+    c.renew-is.ensures.summary c.renew-is.ensures.refreshed refl (sym c.fresh-was.ensures ∙ c.in_default-was.is)
 
 pub returns-then-is_same-clause-others : goal.returns-then-is_same-clause-others
 returns-then-is_same-clause-others g c =
@@ -27,7 +27,7 @@ returns-then-is_same-clause-others g c =
 pub returns-then-is_same-clause-consistent : goal.returns-then-is_same-clause-consistent
 returns-then-is_same-clause-consistent g c =
     climbed_same g.N.Nodes.node (g.N.Nodes.table c.args.links.now) (g.M.Sums.sums c.args.sums.now) (g.M.Sums.sums c.renew-is.new.sums) c.args.edge c.args.edge c.renew-is.result c.parent-upper.result (sym c.parent-upper.ensures)
-    c.renew-is.ensures.summary c.renew-is.ensures.refreshed c.in-Some-was.was 68 refl (sym c.fresh-was.ensures ∙ c.in-Some-was.is) (c.is_same.ensures c.if-is_same.true)
+    c.renew-is.ensures.summary c.renew-is.ensures.refreshed c.in-Some-was.was refl (sym c.fresh-was.ensures ∙ c.in-Some-was.is) (c.is_same.ensures c.if-is_same.true)
 
 pub pass_on-requires-clause-subtree : goal.pass_on-requires-clause-subtree
 pass_on-requires-clause-subtree g c =
@@ -44,5 +44,4 @@ returns-clause-others g c =
 pub returns-clause-consistent : goal.returns-clause-consistent
 returns-clause-consistent g c =
     climbed_edge g.N.Nodes.node (g.N.Nodes.table c.args.links.now) (g.M.Sums.sums c.args.sums.now) (g.M.Sums.sums c.renew-is.new.sums) c.args.edge c.args.edge c.renew-is.result c.parent-upper.result (sym c.parent-upper.ensures)
-    c.renew-is.ensures.summary c.renew-is.ensures.refreshed (g.M.Sums.sums c.pass_on.new.sums) c.in-Some.above c.in-Some-was.was 68 refl (sym c.fresh-was.ensures ∙ c.in-Some-was.is) c.in-Some.is
-    (λ d r b fs u up h low. c.pass_on.ensures.consistent d r b fs u up h (omega (arith, low)))
+    c.renew-is.ensures.summary c.renew-is.ensures.refreshed (g.M.Sums.sums c.pass_on.new.sums) c.in-Some.above c.in-Some-was.was refl (sym c.fresh-was.ensures ∙ c.in-Some-was.is) c.in-Some.is c.pass_on.ensures.consistent
