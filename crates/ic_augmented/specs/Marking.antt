@@ -20,7 +20,7 @@ module _ {N M : Type 0} where
   abbrev pub Borrows : MutBor (Summed N M) → Marking N M → Type 0
   Borrows summed t = (t.summed.ghost_name ≡ summed.ghost_name) × (t.summed.now ≡ summed.now)
 
-  -- the place whose summary was made of stale ones, and left as it was
+  -- the place whose child was written, and whose summary was left as it was
   abbrev pub edge_in : Marking N M → Option Place
   edge_in t = t.edge
 

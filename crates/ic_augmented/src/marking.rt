@@ -19,7 +19,7 @@ use ic_link_ops::Side;
 use ic_rbtree::{Color, Nodes, RBTree};
 use ic_unsafe_ref::Place;
 
-/// Links and summaries, and the place whose summary was made of stale ones and left as it was, if there is one.
+/// Links and summaries, and the place whose child was written and whose summary was left as it was, if there is one.
 pub(crate) struct Marking<'a, N, M> {
     summed: &'a mut Summed<N, M>,
     edge: Option<Place>,
@@ -53,7 +53,7 @@ fn invalidate_in<N: Nodes, M: Sums>(
     invalidate_from(&summed.links, &mut summed.sums, edge, place)
 }
 
-/// Each write of a child makes the summary of its place stale, and those between it and the edge place.
+/// Each write of a child below a fresh summary moves the edge to its place, and makes the summaries from the old edge up to there stale.
 impl<N: Nodes, M: Sums> Nodes for Marking<'_, N, M> {
     ghost use Rattle.ic_augmented.specs.Marking.{links_in, sums_in, QuietlyMarks};
     ghost use Rattle.ic_augmented.specs.MarkLaws.{marks_still, marks_on};
@@ -121,7 +121,7 @@ impl<N: Nodes, M: Sums> Nodes for Marking<'_, N, M> {
     ghost quiet_keeps = { λ old new x. N.quiet_keeps (links_in old) (links_in new) x.quiet };
 }
 
-// Puts the place in, as `RBTree::attach` does, and tells the place above the stale summaries, whose own is as it was.
+// Puts the place in, as `RBTree::attach` does, and tells the edge: above the stale summaries, with one that is as it was and may be wrong.
 pub(crate) fn attach_marking<A, N: Nodes, M: Sums>(
     tree: &mut RBTree<A>,
     summed: &mut Summed<N, M>,

@@ -62,7 +62,7 @@ fn invalidate_up_to<N: Nodes, M: Sums>(_links: &N, sums: &mut M, edge: Place, pl
     }
 }
 
-// The place of a summary may be written to, since it is stale or the edge: those from the edge before up to it are stale now.
+// Makes a place ready for the write of a child: its summary is stale, or the place is the edge, and those from the old edge up to it are stale.
 #[inline]
 pub(crate) fn invalidate_from<N: Nodes, M: Sums>(
     links: &N,
