@@ -154,7 +154,7 @@ fn first_overlapping<L: RBTreeOps + LinkValues<u64>>(
     first_overlap(tree, summed, &summed.links, from, to)
 }
 
-// Inserts three objects, in the order of their keys.
+// Inserts the objects at the places 0, 1 and 2.
 fn put_three<L: RBTreeOps + LinkValues<u64>, M: RenewSums>(
     tree: &mut RBTree<OwnKey>,
     summed: &mut Summed<L, M>,
@@ -169,7 +169,8 @@ fn put_three<L: RBTreeOps + LinkValues<u64>, M: RenewSums>(
     }
 }
 
-// Members by their position, and those that leave by it.
+// Members by their position, and those that leave by it. The keys at the places 0 to 3 are 40, 10, 30 and 20, so the places 1, 3, 2 and 0 have the
+// positions 0 to 3.
 fn play_positions<L: RBTreeOps + LinkValues<u64>>(
     rt: &impl Abort,
     tree: &mut RBTree<OwnKey>,
@@ -188,7 +189,8 @@ fn play_positions<L: RBTreeOps + LinkValues<u64>>(
     assert_same(rt, take_nth(tree, summed, 1), Some(place_at(2)));
 }
 
-// The first member with a number above a bound, before and after one is raised, and the first interval that overlaps another.
+// The first member with a number above a bound, before and after one is raised, and the first interval that overlaps another. The keys at the
+// places 0 to 2 are 10, 20 and 30.
 fn play_above<L: RBTreeOps + LinkValues<u64>>(
     rt: &impl Abort,
     tree: &mut RBTree<OwnKey>,
