@@ -12,7 +12,7 @@ use Rattle.ic_program.specs.Number.{IsLeading, leading_digits}
 use Rattle.ic_program.proofs.Digits.{all_leading}
 use Rattle.ic_program.proofs.WordLemmas.{number_is}
 use Rattle.ic_program.specs.Grammar.{number_in}
-use Rattle.ic_program.specs.Text.{words_in, behind_line, ends_word, word_in, before_words, ReadsWord, first_says, Reads, is_name, without_last, ReadsName, IsNoName}
+use Rattle.ic_program.specs.Text.{words_in, behind_line, ends_word, word_in, before_words, ReadsWord, first_says, Reads, BeginsWithNumber, is_name, without_last, ReadsName, IsNoName}
 use Rattle.ic_program.proofs.TextLemmas.{behind_word, behind_end, behind_more, behind_stops, word_end, word_more, words_are, words_end, word_or_end, behind_line_word, word_then_behind}
 
 -- what the first word says
@@ -52,6 +52,22 @@ word_says says text (c ∷ cs) rest x reads none is = record { first = ap (first
 pub word_says_not : {A : Type 0} (says : List ℕ → Option A) (text word rest : List ℕ) → ReadsWord text word rest → says word ≡ None → first_says says (words_in text) ≡ None
 word_says_not says text [] rest reads is = ap (first_says says) (reads.none refl)
 word_says_not says text (c ∷ cs) rest reads is = ap (first_says says) reads.words ∙ first_none says (c ∷ cs) (words_in rest) is
+
+-- a number was read, and the text behind it was found by itself
+pub number_begins : (text word rest : List ℕ) (result : Option ℕ) → ReadsWord text word rest → result ≡ number_in word → BeginsWithNumber text result
+number_begins text word rest None reads is = word_says_not number_in text word rest reads (sym is)
+number_begins text word rest (Some n) reads is = (words_in rest, (word_says number_in text word rest n reads refl (sym is)).first)
+
+pub number_behind : (text rest : List ℕ) (n : ℕ) (begins : (words : List (List ℕ)) × (first_says number_in (words_in text) ≡ Some (n, words))) (reads : (word : List ℕ) × ReadsWord text word rest)
+    → Reads number_in text n rest
+number_behind text rest n begins reads = at reads.0 reads.1
+  where
+    at : (word : List ℕ) → ReadsWord text word rest → Reads number_in text n rest
+    at [] r = absurd (cc (begins.1, ap (first_says number_in) (r.none refl)))
+    at (c ∷ cs) r =
+        let p = first_parts number_in (words_in text) n begins.0 begins.1 in
+        let same : c ∷ cs ≡ p.0 = cc (r.words, p.1) in
+        word_says number_in text (c ∷ cs) rest n r refl (ap number_in same ∙ p.2)
 
 -- what it says is taken for another thing, if that can be
 module _ {A B : Type 0} (says : List ℕ → Option A) (f : A → Option B) where

@@ -5,7 +5,7 @@ use denote.Ref.{Bor}
 use Rattle.ic_world.specs.declared.call.Command.{Command}
 use Rattle.ic_program.specs.declared.line.Line.{Line}
 use Rattle.ic_program.specs.declared.line.Line.TheVariants.{NoCommand}
-use Rattle.ic_program.specs.Grammar.{words_of}
+use Rattle.ic_program.specs.Grammar.{words_of, number_in}
 
 -- the text begins with that byte
 abbrev pub begins_with : ℕ → List ℕ → Bool
@@ -70,6 +70,11 @@ pub record Reads {A : Type 0} (says : List ℕ → Option A) (text : List ℕ) (
 
 abbrev pub ReadsFirst : {A : Type 0} → (List ℕ → Option A) → List ℕ → Option (A × Bor (List ℕ)) → Type 0
 ReadsFirst says text result = MatchOption result (first_says says (words_in text) ≡ None) (λ read. Reads says text read.0 read.1.now)
+
+-- the first word is that number, or it is none
+abbrev pub BeginsWithNumber : List ℕ → Option ℕ → Type 0
+BeginsWithNumber text result =
+    MatchOption result (first_says number_in (words_in text) ≡ None) (λ number. (words : List (List ℕ)) × (first_says number_in (words_in text) ≡ Some (number, words)))
 
 -- the name of a call, with the space behind it: letters, and then the space
 abbrev pub is_name : List ℕ → Bool

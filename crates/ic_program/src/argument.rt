@@ -8,9 +8,9 @@
 
 ghost use Rattle.std.specs.Prelude.{ℕ, List, Option};
 ghost use Rattle.ic_program.specs.Grammar.{bound_in, kind_in, neighbor_in, number_in, place_in};
-ghost use Rattle.ic_program.specs.Text.{ReadsFirst};
+ghost use Rattle.ic_program.specs.Text.{BeginsWithNumber, ReadsFirst};
 
-use crate::text::first_word;
+use crate::text::{behind_word, first_word};
 use crate::word::{bound, kind, neighbor, number, place_of, small_number};
 use ic_any_collection::Kind;
 use ic_rbtree::Bound;
@@ -35,18 +35,19 @@ impl Argument for u64 {
         if let Some((number, rest)) = small_number(text) {
             return Some((number, rest));
         }
-        any_number(text)
+        let number = any_number(text)?;
+        Some((number, behind_word(text)))
     }
 }
 
-// The same of a number with any count of digits.
+// The number that the first word of the line is, with any count of digits. It returns no text beside it, since both would go through memory.
 #[cold]
 #[inline(never)]
-fn any_number<'l>(text: &'l [u8]) -> Option<(u64, &'l [u8])>
-    ensures { ReadsFirst number_in text.now result }
+fn any_number(text: &[u8]) -> Option<u64>
+    ensures { BeginsWithNumber text.now result }
 {
-    let (word, rest) = first_word(text);
-    Some((number(word)?, rest))
+    let (word, _) = first_word(text);
+    number(word)
 }
 
 /// The number of a field or of a collection, which need not exist.

@@ -5,7 +5,7 @@
 //! behind_line(b" \r\npop_front 0\n") // Some(`pop_front 0\n`): the line has no more words
 //! ```
 
-ghost use Rattle.std.specs.Prelude.{◌≡◌, ◌≢◌, ◌≤◌, true, false, [], MatchOption, length};
+ghost use Rattle.std.specs.Prelude.{◌≡◌, ◌≢◌, ◌≤◌, ℕ, true, false, List, [], IfSome, MatchOption, drop, length};
 ghost use Rattle.std.specs.Bool.{OnTrue};
 ghost use Rattle.ic_program.specs.Text.{behind_line as behind_first_line, behind_spaces, ends_word, ends_line as is_line_end, line_in, word_in, words_in, ReadsWord};
 
@@ -41,8 +41,18 @@ pub(crate) fn behind_space<'l>(text: &'l [u8]) -> &'l [u8]
 {
     match text {
         [b' ', rest @ ..] => rest,
-        _ => text,
+        _ => without_space(text),
     }
+}
+
+// The same of a text that does not begin with a space. It is a call, so that the processor foresees that there is a space, and waits for no
+// choice.
+#[cold]
+#[inline(never)]
+fn without_space<'l>(text: &'l [u8]) -> &'l [u8]
+    ensures { result.now ≡ text.now }
+{
+    text
 }
 
 /// The text behind the line, if the line has no more words. It ends by `\n`, by `\r\n` or at the end of the text.
@@ -52,17 +62,24 @@ pub(crate) fn behind_line<'l>(text: &'l [u8]) -> Option<&'l [u8]>
 {
     match text {
         [b'\n', rest @ ..] => Some(rest),
-        _ => behind_other_line(text),
+        _ => {
+            let taken = other_line(text)?;
+            Some(&text[taken..])
+        }
     }
 }
 
-// The same of a line that does not begin with `\n`.
+// How many bytes such a line has that does not begin with `\n`. It returns a number and no text, since a number stays in a register.
 #[cold]
 #[inline(never)]
-fn behind_other_line<'l>(text: &'l [u8]) -> Option<&'l [u8]>
-    ensures { MatchOption result (words_in text.now ≢ []) (λ rest. (words_in text.now ≡ []) × (rest.now ≡ behind_first_line text.now)) }
+fn other_line(text: &[u8]) -> Option<usize>
+    ensures end { MatchOption result (words_in text.now ≢ []) (λ taken. (words_in text.now ≡ []) × (drop taken text.now ≡ behind_first_line text.now)) }
+    ensures within { IfSome result (λ taken. taken ≤ length text.now) }
 {
-    behind_end(without_spaces(text))
+    match behind_end(without_spaces(text)) {
+        Some(rest) => Some(text.len().saturating_sub(rest.len())),
+        None => None,
+    }
 }
 
 // The text behind the end of a line, if it begins with one.
@@ -98,6 +115,16 @@ pub(crate) fn first_word<'l>(text: &'l [u8]) -> (&'l [u8], &'l [u8])
     let start = without_spaces(text);
     let length = word_length(start);
     (&start[..length], &start[length..])
+}
+
+/// The text behind the first word of the line. O(bytes).
+#[cold]
+#[inline(never)]
+pub(crate) fn behind_word<'l>(text: &'l [u8]) -> &'l [u8]
+    ensures { (word : List ℕ) × ReadsWord text.now word result.now }
+{
+    let (_, rest) = first_word(text);
+    rest
 }
 
 // How many of the first bytes are a word: those in front of a space and of the line's end.

@@ -146,7 +146,9 @@ fn few_digits(text: &[u8]) -> Option<(u64, usize)>
     if text.len() < 5 {
         return None;
     }
-    let first = digit(text[0])?;
+    let Some(first) = digit(text[0]) else {
+        return None;
+    };
     let Some(second) = digit(text[1]) else {
         return Some((first, 1));
     };
