@@ -280,6 +280,12 @@ call_first text rest command read before old new output now some call behind cou
 pub reading_first : (all : Option (List (List ℕ))) (before : ℕ) (w : Family OwnKey ℕ) (output : Option (List ℕ)) → AnsweredFirst all (λ count others. before ≡ before + count) w w output output
 reading_first all before w output = none_first all (λ count others. before ≡ before + count) w output (λ others is. omega arith)
 
+pub none_taken : (text : List ℕ) (read : ℕ) (old new : Family OwnKey ℕ) (output : Option (List ℕ)) → new ≡ old
+    → AnsweredFirst (Some (lines text)) (λ count others. (read ≡ read + count) × (others ≡ lines text)) old new output output
+none_taken text read old new output same =
+    subst (λ w. AnsweredFirst (Some (lines text)) (λ count others. (read ≡ read + count) × (others ≡ lines text)) old w output output) (sym same)
+    (none_first (Some (lines text)) (λ count others. (read ≡ read + count) × (others ≡ lines text)) old output (λ others is. (omega arith, sym (same_Some (lines text) others is))))
+
 -- ONE LINE MORE is answered behind others, and what waits may be written
 pub then_first : (text mid rest : List ℕ) (before at after last : ℕ) (old then_old new same : Family OwnKey ℕ) (output known then_known : Option (List ℕ)) (waits then_waits now : List ℕ)
     → AnsweredFirst (Some (lines text)) (λ count others. (at ≡ before + count) × (others ≡ lines mid)) old then_old output (append_known known waits)
@@ -326,6 +332,21 @@ pub then_short : (text mid : List ℕ) (before at : ℕ) (old then_old : Family 
 then_short text mid before at old then_old output known waits then_waits a s =
     short_then (Some (lines text)) (Some (lines mid)) (λ count others. (at ≡ before + count) × (others ≡ lines mid)) old then_old output (append_known known waits) (append_known known then_waits)
     a (short_behind (Some (lines mid)) then_old known waits then_waits s) (λ count others next. ap (λ (l : List (List ℕ)). Some l) (sym next.1))
+
+-- or whatever the result says
+pub then_far : {T : Type 0} (r : Result T Stop) (text : List ℕ) (before at after : ℕ) (IsLeft : T → List (List ℕ) → Type 0) (old mid new : Family OwnKey ℕ) (output waits now : List ℕ)
+    → AnsweredFirst (Some (lines text)) (λ count others. (at ≡ before + count) × (others ≡ lines text)) old mid (Some output) (Some waits)
+    → HowFar r at after IsLeft (Some (lines text)) mid new (Some waits) (Some now)
+    → HowFar r before after IsLeft (Some (lines text)) old new (Some output) (Some now)
+then_far (Ok x) text before at after IsLeft old mid new output waits now a far =
+    and_then (Some (lines text)) (Some (lines text)) (λ count others. (at ≡ before + count) × (others ≡ lines text)) (λ count others. (after ≡ at + count) × IsLeft x others)
+    (λ count others. (after ≡ before + count) × IsLeft x others) old mid new (Some output) (Some waits) (Some now)
+    a far (λ count others next. ap (λ (l : List (List ℕ)). Some l) (sym next.1)) (λ count count2 others others2 next then. (omega (arith, next.0, then.0), then.1))
+then_far (Err stop) text before at after IsLeft old mid new output waits now a far =
+    unless_loss_map stop
+    (λ short. then_short text text before at old mid (Some output) (Some []) waits now a short)
+    (λ stopped. then_stop text text stop before at after old mid new (Some output) (Some []) waits now a stopped)
+    far
 
 -- or the line was answered, but what waits could not be written
 pub then_room : (text mid rest : List ℕ) (before at after : ℕ) (old then_old new : Family OwnKey ℕ) (output known then_known : Option (List ℕ)) (waits then_waits now : List ℕ)

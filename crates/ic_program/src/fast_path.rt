@@ -15,7 +15,7 @@ ghost use Rattle.ic_program.specs.ShortAnswers.{reply_of_short};
 ghost use Rattle.ic_program.specs.Slots.{is_fast, IsNoCallAt};
 ghost use Rattle.ic_program.specs.Text.{behind_line, begins_with, words_in};
 
-use crate::line::{one, slot_of, two};
+use crate::line::{one, two};
 use crate::own_key::OwnKey;
 use crate::short_answer::{ShortAnswer, done, found, replaced};
 use ic_world::{Command, World};
@@ -55,23 +55,34 @@ macro_rules! row {
     };
 }
 
-// THE TABLE: the slot of each call, what it is as a command and as a method of a world, its arguments, its name, and the kind of its answer.
+// The slot by which a row is found, to be read or to be made.
+macro_rules! slot {
+    ((read $text:ident) $slot:pat, $fast:pat) => {
+        $slot
+    };
+    ((make $world:ident $text:ident) $slot:pat, $fast:pat) => {
+        $fast
+    };
+}
+
+// THE TABLE: the slot of each call by `slot_of` and by `fast_slot_of`, what it is as a command and as a method of a world, its arguments, its
+// name, and the kind of its answer.
 macro_rules! fast_calls {
     ($slot:expr, $way:tt) => {
         match $slot {
-            13 => row!($way PushFront push_front(collection, object) = b"push_front ", done),
-            47 => row!($way PushBack push_back(collection, object) = b"push_back ", done),
-            6 => row!($way PopFront pop_front(collection) = b"pop_front ", found),
-            11 => row!($way PopBack pop_back(collection) = b"pop_back ", found),
-            39 => row!($way MoveNext move_next(collection) = b"move_next ", found),
-            53 => row!($way MovePrev move_prev(collection) = b"move_prev ", found),
-            49 => row!($way GoNull go_null(collection) = b"go_null ", done),
-            20 => row!($way Current current(collection) = b"current ", found),
-            45 => row!($way InsertAfter insert_after(collection, object) = b"insert_after ", done),
-            41 => row!($way InsertBefore insert_before(collection, object) = b"insert_before ", done),
-            48 => row!($way Remove remove(collection) = b"remove ", found),
-            61 => row!($way RemoveNext remove_next(collection) = b"remove_next ", found),
-            38 => row!($way ReplaceWith replace_with(collection, object) = b"replace_with ", replaced;
+            slot!($way 13, 0) => row!($way PushFront push_front(collection, object) = b"push_front ", done),
+            slot!($way 47, 6) => row!($way PushBack push_back(collection, object) = b"push_back ", done),
+            slot!($way 6, 15) => row!($way PopFront pop_front(collection) = b"pop_front ", found),
+            slot!($way 11, 14) => row!($way PopBack pop_back(collection) = b"pop_back ", found),
+            slot!($way 39, 7) => row!($way MoveNext move_next(collection) = b"move_next ", found),
+            slot!($way 53, 1) => row!($way MovePrev move_prev(collection) = b"move_prev ", found),
+            slot!($way 49, 9) => row!($way GoNull go_null(collection) = b"go_null ", done),
+            slot!($way 20, 2) => row!($way Current current(collection) = b"current ", found),
+            slot!($way 45, 13) => row!($way InsertAfter insert_after(collection, object) = b"insert_after ", done),
+            slot!($way 41, 5) => row!($way InsertBefore insert_before(collection, object) = b"insert_before ", done),
+            slot!($way 48, 3 | 11) => row!($way Remove remove(collection) = b"remove ", found),
+            slot!($way 61, 4) => row!($way RemoveNext remove_next(collection) = b"remove_next ", found),
+            slot!($way 38, 8) => row!($way ReplaceWith replace_with(collection, object) = b"replace_with ", replaced;
                 ReplaceNextWith replace_next_with(collection, object) = b"replace_next_with ", replaced),
             _ => None,
         }
@@ -96,6 +107,19 @@ pub(crate) fn answer_fast<M: Allocator + Copy>(
     Some((answer, text.len().saturating_sub(rest.len())))
 }
 
+// The slot of a text that is shorter than any call.
+const NO_SLOT: u64 = 12;
+
+// Which of 16 slots the first eight bytes of a text have. Two names that begin alike share one, and `remove`, behind which the eighth byte is a
+// digit, has two. Nothing rests on that: a call in another slot would be found all the same, but later.
+#[inline(always)]
+fn fast_slot_of(text: &[u8]) -> u64 {
+    let Some(bytes) = text.first_chunk::<8>() else {
+        return NO_SLOT;
+    };
+    u64::from_le_bytes(*bytes).wrapping_mul(0x4696_eecd_d99b_1280) >> 60
+}
+
 // The same, with the text behind the line. The first letters choose the one call that the line may be.
 #[inline(always)]
 fn make_call<'l, M: Allocator + Copy>(
@@ -107,7 +131,7 @@ fn make_call<'l, M: Allocator + Copy>(
     ensures none { IfNone result (world.new ≡ world.old) }
 {
     world.family_is_sound();
-    fast_calls!(slot_of(text), (make world text))
+    fast_calls!(fast_slot_of(text), (make world text))
 }
 
 /// Reads the call that the first line of a text is, if it is in the table and has that slot, and returns it with the text behind the line.

@@ -90,7 +90,7 @@ impl<M: Allocator + Copy> Session<M> {
     {
         let mut rest = text;
         while !rest.is_empty() {
-            let taken = self.answer_first(rest)?;
+            let taken = self.answer_some(rest)?;
             rest = &rest[taken..];
             self.make_room(writer)?;
         }
@@ -132,8 +132,70 @@ impl<M: Allocator + Copy> Session<M> {
         }
     }
 
-    // Answers the first line of a text, and gives how many bytes are before the next one.
+    // Answers the first lines of a text, and gives how many bytes are before the next one: as many as are calls that most lines make, or one
+    // line if the first is none of these.
     #[inline(always)]
+    fn answer_some(&mut self, text: &[u8]) -> Result<usize, Stop>
+        requires { 0 < length text.now }
+        ensures answered { HowFar result self.old.lines self.new.lines (λ taken others. others ≡ lines (drop taken text.now))
+            (Some (lines text.now)) self.old.world self.new.world
+            (Some self.old.answers.items) (Some self.new.answers.items) }
+        ensures within { IfOk result (λ taken. taken ≤ length text.now) }
+        ensures some { IfOk result (λ taken. 0 < taken) }
+    {
+        let taken = self.answer_usual(text)?;
+        if taken == 0 {
+            return self.answer_first(text);
+        }
+        Ok(taken)
+    }
+
+    // Answers lines as long as they are calls that most lines make, and not too many answers wait. It gives how many bytes these lines have.
+    //
+    // Nothing that it calls for such a line returns its result through memory, so no slot of that is cleared for each line.
+    #[inline(always)]
+    fn answer_usual(&mut self, text: &[u8]) -> Result<usize, Stop>
+        ensures answered { HowFar result self.old.lines self.new.lines (λ taken others. others ≡ lines (drop taken text.now))
+            (Some (lines text.now)) self.old.world self.new.world
+            (Some self.old.answers.items) (Some self.new.answers.items) }
+        ensures within { IfOk result (λ taken. taken ≤ length text.now) }
+    {
+        let mut taken = 0;
+        while taken < text.len() && self.answers.len() <= ROOM {
+            let more = self.answer_if_usual(&text[taken..])?;
+            if more == 0 {
+                return Ok(taken);
+            }
+            taken += more;
+        }
+        Ok(taken)
+    }
+
+    // Answers the first line of a text, if it is a call that most lines make, and gives how many bytes it has. If it is another it gives 0.
+    #[inline(always)]
+    fn answer_if_usual(&mut self, text: &[u8]) -> Result<usize, Stop>
+        requires { 0 < length text.now }
+        ensures answered { HowFar result self.old.lines self.new.lines (λ taken others. others ≡ lines (drop taken text.now))
+            (Some (lines text.now)) self.old.world self.new.world
+            (Some self.old.answers.items) (Some self.new.answers.items) }
+        ensures within { IfOk result (λ taken. taken ≤ length text.now) }
+    {
+        let Some(number) = self.lines.checked_add(1) else {
+            return Ok(0);
+        };
+        match answer_fast(&mut self.world, text) {
+            Some((answer, taken)) => {
+                self.lines = number;
+                push_short(&mut self.answers, answer)?;
+                Ok(taken)
+            }
+            None => Ok(0),
+        }
+    }
+
+    // Answers the first line of a text, and gives how many bytes are before the next one.
+    #[cold]
+    #[inline(never)]
     fn answer_first(&mut self, text: &[u8]) -> Result<usize, Stop>
         requires { 0 < length text.now }
         ensures answered { HowFar result self.old.lines self.new.lines (λ taken others. others ≡ lines (drop taken text.now))
@@ -147,18 +209,11 @@ impl<M: Allocator + Copy> Session<M> {
             return Err(Stop::Fault(Fault::Reading(self.lines)));
         };
         self.lines = number;
-        match answer_fast(&mut self.world, text) {
-            Some((answer, taken)) => {
-                push_short(&mut self.answers, answer)?;
-                Ok(taken)
-            }
-            None => self.answer_other(text),
-        }
+        self.answer_other(text)
     }
 
-    // The same of any line, which is the line of that number.
-    #[cold]
-    #[inline(never)]
+    // The same of the line of that number.
+    #[inline]
     fn answer_other(&mut self, text: &[u8]) -> Result<usize, Stop>
         requires { (0 < length text.now) × (0 < self.old.lines) }
         ensures answered { HowFar result (self.old.lines - 1) self.new.lines (λ taken others. others ≡ lines (drop taken text.now))
