@@ -1,13 +1,11 @@
 //! How often the calls that take a key read a value: once for each look, and an insert once more, for the object's own key.
 
-ghost use Rattle.std.specs.Prelude.{◌≡◌, ◌<◌, true};
-ghost use Rattle.ic_unsafe_ref.specs.declared.place.Place.{Place};
+ghost use Rattle.std.specs.Prelude.{◌≡◌, true};
 ghost use Rattle.ic_unsafe_ref.specs.Objects.{is_placed};
-ghost use Rattle.ic_unsafe_ref.specs.Places.{index_of};
 ghost use Rattle.ic_link_ops.specs.PlacedObjects.{ShowsPlaced};
 ghost use Rattle.ic_link_ops.specs.Tables.{IsCovered};
 ghost use Rattle.ic_rbtree.specs.Kept.{ShowsKept};
-ghost use Rattle.ic_rbtree.specs.PlainTrees.{plain_table, PlainShows};
+ghost use Rattle.ic_rbtree.specs.PlainTrees.{PlainShows};
 ghost use Rattle.ic_rbtree.specs.Tree.{head_of, root_of};
 
 use crate::notes::assert_words;
@@ -83,31 +81,8 @@ fn write_entry(notes: &mut Text, fixture: &mut TreeFixture)
     counted.write_reads(notes);
 }
 
-// Takes 30 out and puts it in again, in front of the hint 40, and notes how often a value was read.
-fn write_hinted(notes: &mut Text, fixture: &mut TreeFixture)
-    requires covers { (plain_table fixture.old.links).extent.places ≡ 8 }
-    requires objects { (q : Place) → index_of q < 8 → is_placed fixture.old.objects q ≡ true }
-    requires placed { ShowsPlaced (PlainShows fixture.old.links (root_of fixture.old.tree)) fixture.old.objects }
-{
-    let TreeFixture {
-        objects,
-        links,
-        tree,
-    } = fixture;
-    let (object, hint) = (reference(2), reference(3));
-    let counted = Counted::of(objects);
-    if tree.contains(&*links, object.place()) {
-        tree.remove(links, &object);
-    }
-    if tree.contains(&*links, hint.place()) {
-        let _ = tree.insert_with_hint(links, &counted, &hint, object);
-    }
-    counted.write_reads(notes);
-}
-
-// Seven members that came in rising order have 20 at the root, and 40, 60 and 70 below each other on its right. Without 30 the members 60
-// and 40 stand on the way to it. So an insert of 80 makes four looks, and one where 70 is kept as the last member; an entry of 80 makes four;
-// and an insert of 30 with a hint makes two where a descent would make three.
+// Seven members that came in rising order have 20 at the root, and 40, 60 and 70 below each other on its right. So an insert of 80 makes four
+// looks, and one where 70 is kept as the last member, and an entry of 80 makes four.
 // Promise: looks of plain calls.
 #[test]
 fn plain_calls_look_once(rt: HostRuntime) {
@@ -131,6 +106,5 @@ fn plain_calls_look_once(rt: HostRuntime) {
         reference(7),
     );
     write_entry(&mut notes, &mut tree_of(&rt, alloc, 7));
-    write_hinted(&mut notes, &mut tree_of(&rt, alloc, 7));
-    assert_words(&rt, &notes, "5 2 4 3");
+    assert_words(&rt, &notes, "5 2 4");
 }
