@@ -44,7 +44,7 @@ def compile_kept(clang, name, room, words):
     if "-c" in words:
         text = ["-S" if word == "-c" else f"{room}/{name}.s" if before == "-o" else word for before, word in zip(["", *words], words)]
         subprocess.run([clang, *text], check=True)
-    os.execv(clang, ["clang", *words])
+    os.execv(clang, [clang, *words])
 
 
 def compile_for(machine, room):

@@ -117,7 +117,7 @@ def compile_kept(clang, name, room, words):
         text = ["-S" if word == "-c" else str(room / f"{name}.s") if before == "-o" else word for before, word in zip(["", *words], words)]
         (room / f"{name}.words").write_text("\n".join(text))
         subprocess.run([clang, *text], check=True)
-    os.execv(clang, ["clang", *words])
+    os.execv(clang, [clang, *words])
 
 
 def text_of_module(clang, module, target):

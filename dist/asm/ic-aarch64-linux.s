@@ -1407,10 +1407,10 @@ ic_raw.search.refusal:
 .Lfunc_end21:
 	.size	ic_raw.search.refusal, .Lfunc_end21-ic_raw.search.refusal
 	.cfi_endproc
-	.section	.text.ic_rbtree.tree.RBTree.attach.59aadd06171882a5,"ax",@progbits
+	.section	.text.ic_rbtree.tree.RBTree.attach.2ed1376bf3015881,"ax",@progbits
 	.p2align	2
-	.type	ic_rbtree.tree.RBTree.attach.59aadd06171882a5,@function
-ic_rbtree.tree.RBTree.attach.59aadd06171882a5:
+	.type	ic_rbtree.tree.RBTree.attach.2ed1376bf3015881,@function
+ic_rbtree.tree.RBTree.attach.2ed1376bf3015881:
 	.cfi_startproc
 	lsr	x8, x5, #2
 	ldr	x9, [x1]
@@ -1761,7 +1761,7 @@ ic_rbtree.tree.RBTree.attach.59aadd06171882a5:
 	stur	x5, [x8, #-8]
 	ret
 .Lfunc_end22:
-	.size	ic_rbtree.tree.RBTree.attach.59aadd06171882a5, .Lfunc_end22-ic_rbtree.tree.RBTree.attach.59aadd06171882a5
+	.size	ic_rbtree.tree.RBTree.attach.2ed1376bf3015881, .Lfunc_end22-ic_rbtree.tree.RBTree.attach.2ed1376bf3015881
 	.cfi_endproc
 	.section	.text.unlikely.ic_raw.search.refusal_of,"ax",@progbits
 	.p2align	2
@@ -6239,7 +6239,7 @@ ic_tree_insert:
 	mov	x5, x8
 	stp	x11, xzr, [x10, #-24]
 	stur	xzr, [x10, #-8]
-	bl	ic_rbtree.tree.RBTree.attach.59aadd06171882a5
+	bl	ic_rbtree.tree.RBTree.attach.2ed1376bf3015881
 	ldr	x8, [x29, #24]
 	mov	w0, wzr
 	str	x8, [x19]
@@ -6335,7 +6335,7 @@ ic_tree_insert_left:
 	mov	w4, wzr
 	stp	x11, xzr, [x9, #-24]
 	stur	xzr, [x9, #-8]
-	bl	ic_rbtree.tree.RBTree.attach.59aadd06171882a5
+	bl	ic_rbtree.tree.RBTree.attach.2ed1376bf3015881
 	ldr	x8, [x29, #24]
 	mov	w0, wzr
 	str	x8, [x19]
@@ -6432,7 +6432,7 @@ ic_tree_insert_right:
 	mov	w4, #1
 	stp	x11, xzr, [x9, #-24]
 	stur	xzr, [x9, #-8]
-	bl	ic_rbtree.tree.RBTree.attach.59aadd06171882a5
+	bl	ic_rbtree.tree.RBTree.attach.2ed1376bf3015881
 	ldr	x8, [x29, #24]
 	mov	w0, wzr
 	str	x8, [x19]

@@ -1264,7 +1264,7 @@ _ic_raw.search.refusal:
 	ret
 	.cfi_endproc
 	.p2align	2
-_ic_rbtree.tree.RBTree.attach.59aadd06171882a5:
+_ic_rbtree.tree.RBTree.attach.2ed1376bf3015881:
 	.cfi_startproc
 	lsr	x8, x5, #2
 	ldr	x9, [x1]
@@ -5806,7 +5806,7 @@ LBB79_16:
 	mov	x5, x8
 	stp	x11, xzr, [x10, #-24]
 	stur	xzr, [x10, #-8]
-	bl	_ic_rbtree.tree.RBTree.attach.59aadd06171882a5
+	bl	_ic_rbtree.tree.RBTree.attach.2ed1376bf3015881
 	ldr	x8, [sp, #8]
 	mov	w0, wzr
 	str	x8, [x19]
@@ -5890,7 +5890,7 @@ LBB80_7:
 	mov	w4, wzr
 	stp	x11, xzr, [x9, #-24]
 	stur	xzr, [x9, #-8]
-	bl	_ic_rbtree.tree.RBTree.attach.59aadd06171882a5
+	bl	_ic_rbtree.tree.RBTree.attach.2ed1376bf3015881
 	ldr	x8, [sp, #8]
 	mov	w0, wzr
 	str	x8, [x19]
@@ -5975,7 +5975,7 @@ LBB81_7:
 	mov	w4, #1
 	stp	x11, xzr, [x9, #-24]
 	stur	xzr, [x9, #-8]
-	bl	_ic_rbtree.tree.RBTree.attach.59aadd06171882a5
+	bl	_ic_rbtree.tree.RBTree.attach.2ed1376bf3015881
 	ldr	x8, [sp, #8]
 	mov	w0, wzr
 	str	x8, [x19]

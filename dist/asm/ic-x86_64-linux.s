@@ -1591,10 +1591,10 @@ ic_raw.search.refusal:
 .Lfunc_end21:
 	.size	ic_raw.search.refusal, .Lfunc_end21-ic_raw.search.refusal
 	.cfi_endproc
-	.section	.text.ic_rbtree.tree.RBTree.attach.59aadd06171882a5,"ax",@progbits
+	.section	.text.ic_rbtree.tree.RBTree.attach.2ed1376bf3015881,"ax",@progbits
 	.p2align	4
-	.type	ic_rbtree.tree.RBTree.attach.59aadd06171882a5,@function
-ic_rbtree.tree.RBTree.attach.59aadd06171882a5:
+	.type	ic_rbtree.tree.RBTree.attach.2ed1376bf3015881,@function
+ic_rbtree.tree.RBTree.attach.2ed1376bf3015881:
 	.cfi_startproc
 	pushq	%rbp
 	.cfi_def_cfa_offset 16
@@ -1964,7 +1964,7 @@ ic_rbtree.tree.RBTree.attach.59aadd06171882a5:
 	.cfi_def_cfa_offset 8
 	retq
 .Lfunc_end22:
-	.size	ic_rbtree.tree.RBTree.attach.59aadd06171882a5, .Lfunc_end22-ic_rbtree.tree.RBTree.attach.59aadd06171882a5
+	.size	ic_rbtree.tree.RBTree.attach.2ed1376bf3015881, .Lfunc_end22-ic_rbtree.tree.RBTree.attach.2ed1376bf3015881
 	.cfi_endproc
 	.section	.text.unlikely.ic_raw.search.refusal_of,"ax",@progbits
 	.p2align	4
@@ -7645,7 +7645,7 @@ ic_tree_insert:
 	leaq	8(%rsp), %rsi
 	movq	%r10, %rcx
 	movq	%rax, %r9
-	callq	ic_rbtree.tree.RBTree.attach.59aadd06171882a5
+	callq	ic_rbtree.tree.RBTree.attach.2ed1376bf3015881
 	movq	(%rsp), %rax
 	movq	%rax, (%rbx)
 	xorl	%eax, %eax
@@ -7757,7 +7757,7 @@ ic_tree_insert_left:
 	xorl	%ebp, %ebp
 	movq	%rax, %rcx
 	xorl	%r8d, %r8d
-	callq	ic_rbtree.tree.RBTree.attach.59aadd06171882a5
+	callq	ic_rbtree.tree.RBTree.attach.2ed1376bf3015881
 	movq	8(%rsp), %rax
 	movq	%rax, (%rbx)
 	jmp	.LBB80_12
@@ -7862,7 +7862,7 @@ ic_tree_insert_right:
 	leaq	8(%rsp), %rsi
 	movq	%rax, %rcx
 	movl	$1, %r8d
-	callq	ic_rbtree.tree.RBTree.attach.59aadd06171882a5
+	callq	ic_rbtree.tree.RBTree.attach.2ed1376bf3015881
 	movq	(%rsp), %rax
 	movq	%rax, (%rbx)
 	xorl	%eax, %eax

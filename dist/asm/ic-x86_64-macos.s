@@ -1419,7 +1419,7 @@ _ic_raw.search.refusal:
 	retq
 	.cfi_endproc
 	.p2align	4
-_ic_rbtree.tree.RBTree.attach.59aadd06171882a5:
+_ic_rbtree.tree.RBTree.attach.2ed1376bf3015881:
 	.cfi_startproc
 	pushq	%rbp
 	.cfi_def_cfa_offset 16
@@ -6909,7 +6909,7 @@ LBB79_16:
 	leaq	8(%rsp), %rsi
 	movq	%r10, %rcx
 	movq	%rax, %r9
-	callq	_ic_rbtree.tree.RBTree.attach.59aadd06171882a5
+	callq	_ic_rbtree.tree.RBTree.attach.2ed1376bf3015881
 	movq	(%rsp), %rax
 	movq	%rax, (%rbx)
 	xorl	%eax, %eax
@@ -7009,7 +7009,7 @@ LBB80_8:
 	xorl	%ebp, %ebp
 	movq	%rax, %rcx
 	xorl	%r8d, %r8d
-	callq	_ic_rbtree.tree.RBTree.attach.59aadd06171882a5
+	callq	_ic_rbtree.tree.RBTree.attach.2ed1376bf3015881
 	movq	8(%rsp), %rax
 	movq	%rax, (%rbx)
 	jmp	LBB80_12
@@ -7103,7 +7103,7 @@ LBB81_8:
 	leaq	8(%rsp), %rsi
 	movq	%rax, %rcx
 	movl	$1, %r8d
-	callq	_ic_rbtree.tree.RBTree.attach.59aadd06171882a5
+	callq	_ic_rbtree.tree.RBTree.attach.2ed1376bf3015881
 	movq	(%rsp), %rax
 	movq	%rax, (%rbx)
 	xorl	%eax, %eax

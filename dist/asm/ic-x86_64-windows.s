@@ -1432,12 +1432,12 @@ ic_raw.search.refusal:
 	setae	%al
 	leal	1(,%rax,4), %eax
 	retq
-	.def	ic_rbtree.tree.RBTree.attach.59aadd06171882a5;
+	.def	ic_rbtree.tree.RBTree.attach.2ed1376bf3015881;
 	.scl	3;
 	.type	32;
 	.endef
 	.p2align	4
-ic_rbtree.tree.RBTree.attach.59aadd06171882a5:
+ic_rbtree.tree.RBTree.attach.2ed1376bf3015881:
 	pushq	%r15
 	pushq	%r14
 	pushq	%r13
@@ -7005,7 +7005,7 @@ ic_tree_insert:
 	leaq	48(%rsp), %rcx
 	leaq	56(%rsp), %rdx
 	movq	%rax, %r9
-	callq	ic_rbtree.tree.RBTree.attach.59aadd06171882a5
+	callq	ic_rbtree.tree.RBTree.attach.2ed1376bf3015881
 	movq	48(%rsp), %rax
 	movq	%rax, (%rsi)
 	xorl	%eax, %eax
@@ -7097,7 +7097,7 @@ ic_tree_insert_left:
 	leaq	64(%rsp), %rdx
 	movl	%r10d, %r8d
 	movq	%rax, %r9
-	callq	ic_rbtree.tree.RBTree.attach.59aadd06171882a5
+	callq	ic_rbtree.tree.RBTree.attach.2ed1376bf3015881
 	movq	56(%rsp), %rax
 	movq	%rax, (%rsi)
 	xorl	%eax, %eax
@@ -7184,7 +7184,7 @@ ic_tree_insert_right:
 	leaq	64(%rsp), %rdx
 	movl	%r10d, %r8d
 	movq	%rax, %r9
-	callq	ic_rbtree.tree.RBTree.attach.59aadd06171882a5
+	callq	ic_rbtree.tree.RBTree.attach.2ed1376bf3015881
 	movq	56(%rsp), %rax
 	movq	%rax, (%rsi)
 	xorl	%eax, %eax
