@@ -33,11 +33,15 @@ impl<M: Allocator> LinkOps for TableWithPrev<M> {
     ghost use Rattle.ic_any_collection.specs.Entries.{is_linked};
     ghost use Rattle.ic_any_collection.specs.TablesWithPrev.{look, covered_where_linked};
 
+    ghost use Rattle.std.specs.Prelude.{⊤};
+
     type Entry = Entry;
 
     ghost table = { look };
 
     ghost linked = { is_linked };
+
+    ghost CanName = { λ p. ⊤ };
 
     ghost Does = { λ old new s. Replays is_linked (look old) (look new) s };
 
@@ -60,6 +64,8 @@ impl<M: Allocator> LinkOps for TableWithPrev<M> {
     }
 
     ghost linked_is_covered = { covered_where_linked };
+
+    ghost covered_has_name = { λ t p covered. tt };
 
     ghost does_nothing = { λ t q. refl };
 

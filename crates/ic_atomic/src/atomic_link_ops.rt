@@ -137,6 +137,8 @@ impl<L: PlainLinkOps, A: Allocator> LinkOps for AtomicLinkOps<'_, L, A> {
 
     ghost linked = { L.linked };
 
+    ghost CanName = { L.CanName };
+
     ghost Does = { Gains L.Does };
 
     ghost Refused = { Fails };
@@ -163,6 +165,8 @@ impl<L: PlainLinkOps, A: Allocator> LinkOps for AtomicLinkOps<'_, L, A> {
     }
 
     ghost linked_is_covered = { λ t p h. L.linked_is_covered (links_of t) p h };
+
+    ghost covered_has_name = { λ t p covered. L.covered_has_name (links_of t) p covered };
 
     ghost does_nothing = { λ t. gains_nothing L.Does t (L.does_nothing (links_of t)) };
 

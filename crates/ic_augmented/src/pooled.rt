@@ -12,14 +12,18 @@ use crate::sum_table::{Joins, SumTable};
 use crate::summed::Summed;
 use ic_link_ops::CoverError;
 use ic_pool::Tables;
+use ic_unsafe_ref::Place;
 use std::alloc::Allocator;
+use std::cmp::min;
 
 /// Links and summaries that grow together. A place that is covered has room for its link and for its summary, and it is free if it is not linked.
 impl<L: Tables, V: Joins<S>, S: Copy + Drop, A: Allocator> Tables for Summed<L, SumTable<V, S, A>> {
-    ghost use Rattle.std.specs.Prelude.{◌<◌, refl};
+    ghost use Rattle.std.specs.Prelude.{◌<◌, min, refl};
     ghost use Rattle.ic_unsafe_ref.specs.Places.{index_of};
     ghost use Rattle.ic_augmented.specs.SumTables.{room_of};
     ghost use Rattle.ic_augmented.specs.Pooled.{GrowsSummed};
+
+    ghost most = { min L.most 4294967296 };
 
     ghost Covers = { λ t place. L.Covers (links_of t) place × (index_of place < room_of (sums_of t)) };
 
@@ -27,7 +31,15 @@ impl<L: Tables, V: Joins<S>, S: Copy + Drop, A: Allocator> Tables for Summed<L, 
 
     ghost Keeps = { GrowsSummed V.join V.initial L.Keeps };
 
+    #[inline]
+    fn most_places() -> usize {
+        min(L::most_places(), Place::COUNT)
+    }
+
     fn cover(&mut self, count: usize) -> Result<(), CoverError> {
+        if count > min(L::most_places(), Place::COUNT) {
+            return Err(CoverError::TooManyPlaces);
+        }
         self.links.cover(count)?;
         self.sums.cover(count)
     }

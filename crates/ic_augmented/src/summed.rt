@@ -34,6 +34,8 @@ impl<L: RBTreeOps, M: Sums> LinkOps for Summed<L, M> {
 
     ghost linked = { L.linked };
 
+    ghost CanName = { L.CanName };
+
     ghost Does = { DoesSummed L.Does L.node L.table M.sums M.Covers };
 
     ghost Refused = { λ old new place. L.Refused (links_of old) (links_of new) place × (sums_of new ≡ sums_of old) };
@@ -54,6 +56,8 @@ impl<L: RBTreeOps, M: Sums> LinkOps for Summed<L, M> {
     }
 
     ghost linked_is_covered = { λ t place is. L.linked_is_covered (links_of t) place is };
+
+    ghost covered_has_name = { λ t place covered. L.covered_has_name (links_of t) place covered };
 
     ghost does_nothing = { λ t. record { links = L.does_nothing (links_of t); right = right_still L.node (L.table (links_of t)) (M.sums (sums_of t)); marks = marks_still (M.sums (sums_of t)); covers = λ q h. h; join = refl } };
 

@@ -12,7 +12,7 @@
 ghost use Rattle.std.specs.Prelude.{◌≡◌, ◌≢◌, Option, Bool, true, false, Some, None, [], ◌∷◌};
 ghost use Rattle.std.specs.Bool.{OnTrue, OnFalse};
 ghost use Rattle.ic_unsafe_ref.specs.declared.place.Place.{Place};
-ghost use Rattle.ic_link_ops.specs.Tables.{IsCovered, IsLinked, ChangesOnly};
+ghost use Rattle.ic_link_ops.specs.Tables.{IsCovered, IsLinked, IsNameable, ChangesOnly};
 ghost use Rattle.ic_link_ops.specs.LinkSteps.{acquires};
 ghost use Rattle.ic_link_ops.specs.Turns.{TurnsBehind, TurnsBefore};
 ghost use Rattle.ic_chain.specs.Walk.{WalkEnds};
@@ -109,6 +109,8 @@ pub trait ForwardLinks<L: LinkOps>: ListKind {
     /// Puts `to` behind `place`, where `from` stood. One write.
     fn set_next(links: &mut L, place: Place, from: Option<Place>, to: Option<Place>)
         requires linked { IsLinked L.linked (L.table links.old) place }
+        requires from { IsNameable L.CanName from }
+        requires to { IsNameable L.CanName to }
         ensures turns { TurnsBehind Between (L.table links.old).entry (L.table links.new).entry (Some place) from to }
         ensures frame { ChangesOnly (L.table links.old) (L.table links.new) place }
         ensures no_step { L.Does links.old links.new [] };
@@ -116,6 +118,8 @@ pub trait ForwardLinks<L: LinkOps>: ListKind {
     /// Puts `to` in front of `place`, where `from` stood. One write, and none where entries name no place in front.
     fn set_prev(links: &mut L, place: Place, from: Option<Place>, to: Option<Place>)
         requires linked { NamesPrev → IsLinked L.linked (L.table links.old) place }
+        requires from { IsNameable L.CanName from }
+        requires to { IsNameable L.CanName to }
         ensures turns { TurnsBefore Between (L.table links.old).entry (L.table links.new).entry (Some place) from to }
         ensures frame { ChangesOnly (L.table links.old) (L.table links.new) place }
         ensures others { (q : Place) → (NamesPrev → q ≢ place) → (L.table links.new).entry q ≡ (L.table links.old).entry q }
@@ -124,6 +128,8 @@ pub trait ForwardLinks<L: LinkOps>: ListKind {
     /// Puts a linked place between two others.
     fn set_neighbors(links: &mut L, place: Place, prev: Option<Place>, next: Option<Place>)
         requires linked { IsLinked L.linked (L.table links.old) place }
+        requires prev { IsNameable L.CanName prev }
+        requires next { IsNameable L.CanName next }
         ensures set { Between ((L.table links.new).entry place) prev next }
         ensures frame { ChangesOnly (L.table links.old) (L.table links.new) place }
         ensures no_step { L.Does links.old links.new [] };
@@ -131,6 +137,8 @@ pub trait ForwardLinks<L: LinkOps>: ListKind {
     /// Links `place` between two others, unless it is refused, and says whether it did.
     fn link_between(links: &mut L, place: Place, prev: Option<Place>, next: Option<Place>) -> bool
         requires covered { IsCovered (L.table links.old) place }
+        requires prev { IsNameable L.CanName prev }
+        requires next { IsNameable L.CanName next }
         ensures acquired { OnTrue result (L.Does links.old links.new (acquires place ∷ [])) }
         ensures set { OnTrue result (Between ((L.table links.new).entry place) prev next) }
         ensures refused { OnFalse result (L.Refused links.old links.new place) }

@@ -9,7 +9,7 @@ ghost use Rattle.std.specs.Prelude.{◌≡◌, ◌≢◌, ◌↔◌, ◌++◌, �
 ghost use Rattle.ic_unsafe_ref.specs.declared.place.Place.{Place};
 ghost use Rattle.ic_link_ops.specs.Sequences.{Cut, join, first, last, IsAbsent, IsDisjoint, IsAfter, IsBefore, at_front, at_back, insert, remove, but_last};
 ghost use Rattle.std.specs.Bool.{OnTrue, OnFalse};
-ghost use Rattle.ic_link_ops.specs.Tables.{IsCovered, IsLinked, KeepsBeside};
+ghost use Rattle.ic_link_ops.specs.Tables.{IsCovered, IsLinked, IsNameable, KeepsBeside};
 ghost use Rattle.ic_link_ops.specs.LinkSteps.{acquires, releases};
 ghost use Rattle.ic_link_ops.specs.Edits.{Inserts, Splices, Splits};
 ghost use Rattle.ic_link_ops.specs.Chains.{list_head, empty_list, ShowsChain, ShowsSomeChain};
@@ -382,6 +382,7 @@ impl<K: ListKind, T> Chain<K, T> {
         requires held { IsLinked L.linked (L.table links.old) place }
         requires before { (q : Place) → before ≡ Some q → IsLinked L.linked (L.table links.old) q }
         requires behind { K.NamesPrev → (q : Place) → behind ≡ Some q → IsLinked L.linked (L.table links.old) q }
+        requires next { IsNameable L.CanName behind }
         ensures shows { (front back : List Place) → ShowsChain K.Between K.kept (L.table links.old) self.old (front ++ back)
             → before ≡ last front → behind ≡ first back → IsAbsent place (front ++ back)
             → ShowsChain K.Between K.kept (L.table links.new) self.new (front ++ place ∷ back) }
@@ -412,6 +413,8 @@ impl<K: ListKind, T> Chain<K, T> {
         requires held { IsLinked L.linked (L.table links.old) place }
         requires before { (q : Place) → before ≡ Some q → IsLinked L.linked (L.table links.old) q }
         requires behind { K.NamesPrev → (q : Place) → behind ≡ Some q → IsLinked L.linked (L.table links.old) q }
+        requires next { IsNameable L.CanName behind }
+        requires out { IsNameable L.CanName (Some out) }
         ensures shows { (front back : List Place) → ShowsChain K.Between K.kept (L.table links.old) self.old (front ++ out ∷ back)
             → before ≡ last front → behind ≡ first back → IsAbsent place (front ++ out ∷ back)
             → ShowsChain K.Between K.kept (L.table links.new) self.new (front ++ place ∷ back) }
@@ -441,6 +444,8 @@ impl<K: ListKind, T> Chain<K, T> {
         K: ForwardLinks<L>,
         requires before { (q : Place) → before ≡ Some q → IsLinked L.linked (L.table links.old) q }
         requires behind { K.NamesPrev → (q : Place) → behind ≡ Some q → IsLinked L.linked (L.table links.old) q }
+        requires next { IsNameable L.CanName behind }
+        requires out { IsNameable L.CanName (Some out) }
         ensures shows { (front back : List Place) → ShowsChain K.Between K.kept (L.table links.old) self.old (front ++ out ∷ back)
             → before ≡ last front → behind ≡ first back
             → ShowsChain K.Between K.kept (L.table links.new) self.new (front ++ back) }
@@ -470,6 +475,8 @@ impl<K: ListKind, T> Chain<K, T> {
         K: ForwardLinks<L>,
         requires before { (q : Place) → before ≡ Some q → IsLinked L.linked (L.table links.old) q }
         requires behind { K.NamesPrev → (q : Place) → behind ≡ Some q → IsLinked L.linked (L.table links.old) q }
+        requires next { IsNameable L.CanName behind }
+        requires given { IsNameable L.CanName given.head }
         requires first { K.NamesPrev → (q : Place) → given.head ≡ Some q → IsLinked L.linked (L.table links.old) q }
         requires end { (q : Place) → end ≡ Some q → IsLinked L.linked (L.table links.old) q }
         ensures spliced { (gap : Cut) (t : List Place) → ShowsChain K.Between K.kept (L.table links.old) self.old (join gap)
@@ -508,6 +515,7 @@ impl<K: ListKind, T> Chain<K, T> {
         K: ForwardLinks<L>,
         requires before { (q : Place) → before ≡ Some q → IsLinked L.linked (L.table links.old) q }
         requires behind { K.NamesPrev → (q : Place) → behind ≡ Some q → IsLinked L.linked (L.table links.old) q }
+        requires next { IsNameable L.CanName behind }
         ensures split { (gap : Cut) → ShowsChain K.Between K.kept (L.table links.old) self.old (join gap)
             → IsAfter gap before → IsBefore gap behind → Splits (ShowsChain K.Between K.kept)
             (L.table links.old) (L.table links.new) self.new result gap.front gap.back }

@@ -3,7 +3,7 @@
 ghost use Rattle.std.specs.Prelude.{◌≡◌, ◌≢◌, Option, Some, None, List, []};
 ghost use Rattle.ic_unsafe_ref.specs.declared.place.Place.{Place};
 ghost use Rattle.ic_link_ops.specs.Sequences.{last};
-ghost use Rattle.ic_link_ops.specs.Tables.{IsLinked};
+ghost use Rattle.ic_link_ops.specs.Tables.{IsLinked, IsNameable};
 ghost use Rattle.ic_link_ops.specs.Chains.{end_of, TurnsTail, IsStretch};
 ghost use Rattle.ic_link_ops.specs.Turns.{TurnsBehind, TurnsBefore};
 
@@ -20,7 +20,9 @@ pub(crate) fn set_next_or_head<K: ForwardLinks<L>, L: LinkOps>(
     from: Option<Place>,
     next: Option<Place>,
 )
-    requires { (q : Place) → place ≡ Some q → IsLinked L.linked (L.table links.old) q }
+    requires linked { (q : Place) → place ≡ Some q → IsLinked L.linked (L.table links.old) q }
+    requires from { IsNameable L.CanName from }
+    requires to { IsNameable L.CanName next }
     ensures turns { TurnsBehind K.Between (L.table links.old).entry (L.table links.new).entry place from next }
     ensures extent { (L.table links.new).extent ≡ (L.table links.old).extent }
     ensures no_step { L.Does links.old links.new [] }
@@ -41,7 +43,9 @@ pub(crate) fn set_prev_or_tail<K: ForwardLinks<L>, L: LinkOps>(
     from: Option<Place>,
     prev: Option<Place>,
 )
-    requires { K.NamesPrev → (q : Place) → place ≡ Some q → IsLinked L.linked (L.table links.old) q }
+    requires linked { K.NamesPrev → (q : Place) → place ≡ Some q → IsLinked L.linked (L.table links.old) q }
+    requires from { IsNameable L.CanName from }
+    requires to { IsNameable L.CanName prev }
     ensures turns { TurnsBefore K.Between (L.table links.old).entry (L.table links.new).entry place from prev }
     ensures others { (q : Place) → (K.NamesPrev → place ≢ Some q) → (L.table links.new).entry q ≡ (L.table links.old).entry q }
     ensures extent { (L.table links.new).extent ≡ (L.table links.old).extent }

@@ -1,6 +1,6 @@
 -- Words that are always those of places, of none, or the exclusive or of two of these.
 use Rattle.std.specs.Prelude.{◌≡◌, ℕ, true, not, bit_xor, Option}
-use Rattle.std.proofs.Common.{sym, ap, ◌∙◌, eq-eqb, true≢false}
+use Rattle.std.proofs.Common.{sym, ap, ◌∙◌, eq-eqb, true≢false, arith}
 use Rattle.std.proofs.lemmas.Nat.{xor_comm}
 use Rattle.ic_unsafe_ref.specs.declared.place.Place.{Place}
 use Rattle.ic_unsafe_ref.specs.PlaceWords.{IsWord}
@@ -9,6 +9,12 @@ use Rattle.ic_unsafe_ref.proofs.PlaceLemmas.{word_at, word_fits, xor_fits}
 use Rattle.ic_link_ops.specs.declared.linked_list.TwoWords.{TwoWords}
 use Rattle.ic_link_ops.specs.declared.marked_word.MarkedWord.{MarkedWord}
 use Rattle.ic_link_ops.specs.declared.one_word.OneWord.{OneWord}
+use Rattle.ic_link_ops.specs.declared.narrow_word.NarrowMarkedWord.{NarrowMarkedWord}
+use Rattle.ic_link_ops.specs.declared.one_narrow_word.OneNarrowWord.{OneNarrowWord}
+use Rattle.ic_link_ops.specs.declared.two_narrow_words.TwoNarrowWords.{TwoNarrowWords}
+use Rattle.ic_link_ops.specs.NarrowWords.{is_half, marked_narrow_bits_of}
+use Rattle.ic_link_ops.specs.OneNarrowWord as narrow
+use Rattle.ic_link_ops.specs.TwoNarrowWords as narrow_doubly
 use Rattle.ic_link_ops.specs.OneWord.{has_word, next_word_of}
 use Rattle.ic_link_ops.specs.TwoWords as doubly
 use Rattle.ic_link_ops.specs.XorLaws.{xor_back}
@@ -23,6 +29,16 @@ one_word w is = marked_word w.word is
 
 pub two_words : (w : TwoWords) → doubly.has_words w ≡ true → IsWord (doubly.next_word_of w)
 two_words w is = marked_word w.next is
+
+-- the same of words of 4 bytes
+narrow_word : (w : NarrowMarkedWord) → is_half w ≡ true → IsWord (marked_narrow_bits_of w)
+narrow_word w is = let h = w.mark_or_word (λ e. true≢false (sym is ∙ ap not (eq-eqb _ _ e))) in (omega (arith, h.0), h.1)
+
+pub one_narrow_word : {K : Type 0} (w : OneNarrowWord K) → narrow.has_word w ≡ true → IsWord (narrow.next_word_of w)
+one_narrow_word w is = narrow_word w.word is
+
+pub two_narrow_words : (w : TwoNarrowWords) → narrow_doubly.has_words w ≡ true → IsWord (narrow_doubly.next_word_of w)
+two_narrow_words w is = narrow_word w.next is
 
 -- A WORD STANDS BESIDE EACH PLACE: it is the exclusive or of that place's word and of what it tells then
 pub joins_told : (n : ℕ) (a : Option Place) → IsWord n → n ≡ bit_xor (word_of a) (word_of (place_at (bit_xor n (word_of a))))

@@ -8,13 +8,13 @@
 ghost use Rattle.std.specs.Prelude.{◌≡◌, true, Option};
 ghost use Rattle.ic_unsafe_ref.specs.declared.place.Place.{Place};
 ghost use Rattle.ic_unsafe_ref.specs.PlaceWords.{IsWord};
-ghost use Rattle.ic_check.specs.Joined.{one_word, two_words, joins_told};
+ghost use Rattle.ic_check.specs.Joined.{one_word, two_words, one_narrow_word, two_narrow_words, joins_told};
 ghost use Rattle.ic_link_ops.specs.Links.{words_of};
 
 use ic_atomic::{AtomicLinkOps, PlainLinkOps};
 use ic_link_ops::linked_list::TwoWords;
 use ic_link_ops::xor_linked_list::XorLinkedListOps;
-use ic_link_ops::{LentTable, LinkValue, NextWord, OneWord, PlainTable};
+use ic_link_ops::{LentTable, LinkValue, NextWord, OneNarrowWord, OneWord, PlainTable, TwoNarrowWords};
 use std::alloc::Allocator;
 
 /// Words whose next word is that of a place, of none, or the exclusive or of two of these, where their place is linked.
@@ -29,6 +29,14 @@ impl<K> KeepsWord for OneWord<K> {
 
 impl KeepsWord for TwoWords {
     ghost keeps_word = { λ w is. two_words w is };
+}
+
+impl<K> KeepsWord for OneNarrowWord<K> {
+    ghost keeps_word = { λ w is. one_narrow_word w is };
+}
+
+impl KeepsWord for TwoNarrowWords {
+    ghost keeps_word = { λ w is. two_narrow_words w is };
 }
 
 /// A table of XOR links whose entry of a linked place stands between any place, or none, and what it tells then.

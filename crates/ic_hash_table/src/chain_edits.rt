@@ -7,7 +7,7 @@
 ghost use Rattle.std.specs.Prelude.{◌≡◌, ◌≢◌, Option, List, [], ◌∷◌, ◌++◌};
 ghost use Rattle.ic_unsafe_ref.specs.declared.place.Place.{Place};
 ghost use Rattle.ic_link_ops.specs.Sequences.{IsAbsent, IsDisjoint, last};
-ghost use Rattle.ic_link_ops.specs.Tables.{IsLinked, KeepsBeside};
+ghost use Rattle.ic_link_ops.specs.Tables.{IsLinked, IsNameable, KeepsBeside};
 ghost use Rattle.ic_link_ops.specs.LinkSteps.{releases};
 ghost use Rattle.ic_hash_table.specs.Chains.{ShowsFrom, ShowsFromSome};
 
@@ -48,6 +48,7 @@ pub(crate) fn link_front<L: SinglyLinkedListOps>(
     front: Option<Place>,
 ) -> Option<Place>
     requires linked { IsLinked L.linked (L.table links.old) place }
+    requires front { IsNameable L.CanName front }
     ensures shows { (s : List Place) → ShowsFrom L.successor (L.table links.old) front s → IsAbsent place s
         → ShowsFrom L.successor (L.table links.new) result (place ∷ s) }
     ensures others { (q : Place) → q ≢ place → (L.table links.new).entry q ≡ (L.table links.old).entry q }

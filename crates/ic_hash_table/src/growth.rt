@@ -14,7 +14,7 @@ ghost use Rattle.ic_unsafe_ref.specs.declared.place.Place.{Place};
 ghost use Rattle.ic_unsafe_ref.specs.Objects.{is_placed};
 ghost use Rattle.ic_link_ops.specs.PlacedObjects.{ShowsPlaced};
 ghost use Rattle.ic_link_ops.specs.Sequences.{IsAbsent};
-ghost use Rattle.ic_link_ops.specs.Tables.{IsLinked, KeepsBeside};
+ghost use Rattle.ic_link_ops.specs.Tables.{IsLinked, IsNameable, KeepsBeside};
 ghost use Rattle.ic_hash_table.specs.HashTable.{number};
 ghost use Rattle.ic_hash_table.specs.Searches.{matches};
 ghost use Rattle.ic_hash_table.specs.Slots.{slot_of, IsWellFormed};
@@ -53,6 +53,8 @@ fn link_either<L: SinglyLinkedListOps>(
     halves: (Option<Place>, Option<Place>),
 ) -> (Option<Place>, Option<Place>)
     requires linked { IsLinked L.linked (L.table links.old) place }
+    requires first { IsNameable L.CanName halves.0 }
+    requires second { IsNameable L.CanName halves.1 }
     ensures stays { moves ≡ false → (result.1 ≡ halves.1)
         × ((s : List Place) → ShowsFrom L.successor (L.table links.old) halves.0 s → IsAbsent place s → ShowsFrom L.successor (L.table links.new) result.0 (place ∷ s)) }
     ensures moves { moves ≡ true → (result.0 ≡ halves.0)

@@ -4,6 +4,8 @@ pub mod Counting
 pub mod Chains
 pub mod ShownLists
 pub mod Covering
+pub mod Naming
+pub mod WidthLemmas
 pub mod CollectionLaws
 pub mod Positions
 pub mod TwoLists
@@ -26,6 +28,7 @@ pub mod ShownTrees
 pub mod Times
 pub mod Frames
 pub mod EntryLemmas
+pub mod SeenEntries
 pub mod ValuesBeside
 pub mod LentTables
 pub mod TreeWordLemmas

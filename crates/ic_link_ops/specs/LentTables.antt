@@ -4,7 +4,8 @@ use Rattle.std.specs.Borrow.{Lends, Fml, RattleType, MutBor, Array}
 use Rattle.std.specs.declared.alloc.Allocator.{Ghosts}
 use Rattle.ic_link_ops.specs.Tables.{Table}
 use Rattle.ic_link_ops.specs.Links.{link_with}
-use Rattle.ic_link_ops.specs.PlainTables.{table_with, values_beside, with_entries}
+use Rattle.ic_link_ops.specs.Widths.{Width}
+use Rattle.ic_link_ops.specs.PlainTables.{nameable_table, with_entries}
 use Rattle.ic_link_ops.specs.declared.link.Link.{Link}
 use Rattle.ic_link_ops.specs.declared.table.PlainTable.{PlainTable}
 use Rattle.ic_link_ops.specs.contracts.table.PlainTable.{the_row}
@@ -21,8 +22,8 @@ module _ {W V : Type 0} where
   lent_entries t = t.entries.now
 
   -- as a table: the name of the borrow tells it from other tables that are lent
-  abbrev pub lent_table : W → V → (List V → List ℕ) → LentTable W V → Table (Link W V)
-  lent_table unlinked initial told t = table_with (link_with unlinked initial) (t.entries.ghost_name ∷ told (values_beside (lent_entries t))) (lent_entries t)
+  abbrev pub lent_table : Width → W → V → (List V → List ℕ) → LentTable W V → Table (Link W V)
+  lent_table w unlinked initial told t = nameable_table w (link_with unlinked initial) (λ vs. t.entries.ghost_name ∷ told vs) (lent_entries t)
 
 -- once the borrow of its links ends, the table has those that stand there last
 abbrev pub LendsLinks : (W A V : RattleType) → Ghosts A.Denot → MutBor (PlainTable W.Denot A.Denot V.Denot) → MutBor (List (Link W.Denot V.Denot)) → Fml

@@ -22,6 +22,11 @@ pub mod RedBlackTree
 pub mod Frames
 pub mod Times
 pub mod Words
+pub mod Widths
+pub mod NarrowWords
+pub mod OneNarrowWord
+pub mod TwoNarrowWords
+pub mod ThreeNarrowWords
 pub mod XorLaws
 pub mod TreeWords
 pub mod Links

@@ -4,6 +4,7 @@ use Rattle.std.specs.Prelude.{ℕ, List, [], length, slice_index_or, map, Bool, 
 use Rattle.ic_unsafe_ref.specs.declared.place.Place.{Place}
 use Rattle.ic_unsafe_ref.specs.Places.{index_of}
 use Rattle.ic_link_ops.specs.Tables.{Table}
+use Rattle.ic_link_ops.specs.Widths.{Width, nameable}
 use Rattle.ic_link_ops.specs.Links.{link_of, link_with, words_of, value_of}
 use Rattle.ic_link_ops.specs.declared.link.Link.{Link}
 use Rattle.ic_link_ops.specs.declared.table.PlainTable.{PlainTable}
@@ -35,9 +36,13 @@ module _ {W V : Type 0} where
   abbrev pub values_beside : List (Link W V) → List V
   values_beside es = map value_of es
 
-  -- what clauses see of a table whose new links have these words and this value, and whose values are told so
-  abbrev pub table_beside : {A : Type 0} → W → V → (List V → List ℕ) → PlainTable W A V → Table (Link W V)
-  table_beside unlinked initial told t = table_with (link_with unlinked initial) (told (values_beside (entries t))) (entries t)
+  -- links as a table, for whose values there are such numbers beside these: those of places for which words of this width have room
+  abbrev pub nameable_table : Width → Link W V → (List V → List ℕ) → List (Link W V) → Table (Link W V)
+  nameable_table w unlinked told es = table_with unlinked (told (values_beside (nameable w es))) (nameable w es)
+
+  -- what clauses see of a table of this width whose new links have these words and this value, and whose values are told so
+  abbrev pub table_beside : {A : Type 0} → Width → W → V → (List V → List ℕ) → PlainTable W A V → Table (Link W V)
+  table_beside w unlinked initial told t = nameable_table w (link_with unlinked initial) told (entries t)
 
   -- whether a link is that of a linked place, by its words
   abbrev pub linked_by : (W → Bool) → Link W V → Bool

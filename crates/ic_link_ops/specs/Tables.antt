@@ -1,5 +1,5 @@
 -- What clauses see of a table of links at one moment, and how it may change.
-use Rattle.std.specs.Prelude.{◌≡◌, ◌≢◌, ℕ, ◌<◌, Bool, true, false, List}
+use Rattle.std.specs.Prelude.{◌≡◌, ◌≢◌, ℕ, ◌<◌, Bool, true, false, Option, Some, None, List, ⊤}
 use Rattle.ic_unsafe_ref.specs.declared.place.Place.{Place}
 use Rattle.ic_unsafe_ref.specs.Places.{index_of}
 use Rattle.ic_link_ops.specs.Sequences.{IsAbsent}
@@ -15,6 +15,11 @@ pub record Extent : Type 0 where
 pub record Table (E : Type 0) : Type 0 where
   pub extent : Extent
   pub entry : Place → E
+
+-- `can p`: the words of a table have room for the name of p. So it is of this end, or the end is none
+abbrev pub IsNameable : (Place → Type 0) → Option Place → Type 0
+IsNameable can None = ⊤
+IsNameable can (Some p) = can p
 
 module _ {E : Type 0} where
   -- the same entries in another extent

@@ -25,14 +25,17 @@ abbrev pub right_word_of : ThreeWords → ℕ
 right_word_of w = bits_of w.right
 
 -- what the words say of a tree
-abbrev pub node_of : {V : Type 0} → Link ThreeWords V → Node
-node_of l = record {
-  linked = (words_of l).third.linked;
-  left = (words_of l).left;
-  right = place_at (bits_of (words_of l).right);
-  parent = (words_of l).third.parent;
-  color = (words_of l).third.color;
+abbrev pub node_in : ThreeWords → Node
+node_in w = record {
+  linked = w.third.linked;
+  left = w.left;
+  right = place_at (bits_of w.right);
+  parent = w.third.parent;
+  color = w.third.color;
 }
+
+abbrev pub node_of : {V : Type 0} → Link ThreeWords V → Node
+node_of l = node_in (words_of l)
 
 -- the words as they are told, the flags of the third one beside twice the parent's
 abbrev pub told_in_order : ThreeWords → List ℕ

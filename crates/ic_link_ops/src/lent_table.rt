@@ -8,7 +8,7 @@
 //! pop_all(&mut list, table.lend());
 //! ```
 
-ghost use Rattle.std.specs.Prelude.{◌≡◌};
+ghost use Rattle.std.specs.Prelude.{◌≡◌, ◌<◌, length};
 ghost use Rattle.ic_unsafe_ref.specs.declared.place.Place.{Place};
 ghost use Rattle.ic_link_ops.specs.Tables.{IsCovered, IsLinked, IsUnlinked, ChangesOnly};
 
@@ -47,22 +47,36 @@ impl<'a, W, V> LentTable<'a, W, V> {
 }
 
 impl<W: Words, V: LinkValue> LentTable<'_, W, V> {
+    ghost use Rattle.ic_unsafe_ref.specs.Places.{index_of};
     ghost use Rattle.ic_link_ops.specs.PlainTables.{linked_by};
-    ghost use Rattle.ic_link_ops.specs.LentTables.{lent_table};
+    ghost use Rattle.ic_link_ops.specs.LentTables.{lent_entries, lent_table};
 
     /// How many places are covered: those with a smaller index.
     #[inline]
+    #[tactic(auto, using(crate::proofs::WidthLemmas::nameable_count, crate::proofs::WidthLemmas::nameable_fits, crate::proofs::WidthLemmas::nameable_read))]
     pub fn covers(&self) -> usize
-        ensures { result ≡ (lent_table W.unlinked V.initial V.told self.now).extent.places }
+        ensures { result ≡ (lent_table W.width W.unlinked V.initial V.told self.now).extent.places }
     {
-        self.entries.len()
+        W::count_nameable(self.entries.len())
+    }
+
+    // The index of the link of a place.
+    #[inline]
+    #[tactic(auto, using(crate::proofs::WidthLemmas::nameable_fits))]
+    pub(crate) fn slot(&self, place: Place) -> usize
+        requires covered { IsCovered (lent_table W.width W.unlinked V.initial V.told self.now) place }
+        ensures value { result ≡ index_of place }
+        ensures within { result < length (lent_entries self.now) }
+    {
+        place.index()
     }
 
     /// The link of `place`. It requires that the place is covered. O(1).
     #[inline]
+    #[tactic(auto, using(crate::proofs::WidthLemmas::nameable_count, crate::proofs::WidthLemmas::nameable_fits, crate::proofs::WidthLemmas::nameable_read))]
     pub fn link(&self, place: Place) -> &Link<W, V>
-        requires covered { IsCovered (lent_table W.unlinked V.initial V.told self.now) place }
-        ensures { result.now ≡ (lent_table W.unlinked V.initial V.told self.now).entry place }
+        requires covered { IsCovered (lent_table W.width W.unlinked V.initial V.told self.now) place }
+        ensures { result.now ≡ (lent_table W.width W.unlinked V.initial V.told self.now).entry place }
     {
         let entries = &*self.entries;
         &entries[place.index()]
@@ -71,8 +85,8 @@ impl<W: Words, V: LinkValue> LentTable<'_, W, V> {
     /// Whether `place` is linked. It requires that the place is covered. O(1).
     #[inline]
     pub fn is_linked(&self, place: Place) -> bool
-        requires covered { IsCovered (lent_table W.unlinked V.initial V.told self.now) place }
-        ensures { result ≡ linked_by W.is_linked ((lent_table W.unlinked V.initial V.told self.now).entry place) }
+        requires covered { IsCovered (lent_table W.width W.unlinked V.initial V.told self.now) place }
+        ensures { result ≡ linked_by W.is_linked ((lent_table W.width W.unlinked V.initial V.told self.now).entry place) }
     {
         self.link(place).is_linked()
     }
@@ -80,11 +94,12 @@ impl<W: Words, V: LinkValue> LentTable<'_, W, V> {
     /// Unlinks `place`, whoever linked it, as [`PlainTable::force_unlink`](crate::PlainTable::force_unlink) does. O(1).
     #[inline]
     pub fn force_unlink(&mut self, place: Place)
-        requires covered { IsCovered (lent_table W.unlinked V.initial V.told self.old) place }
-        ensures unlinked { IsUnlinked (linked_by W.is_linked) (lent_table W.unlinked V.initial V.told self.new) place }
-        ensures frame { ChangesOnly (lent_table W.unlinked V.initial V.told self.old) (lent_table W.unlinked V.initial V.told self.new) place }
+        requires covered { IsCovered (lent_table W.width W.unlinked V.initial V.told self.old) place }
+        ensures unlinked { IsUnlinked (linked_by W.is_linked) (lent_table W.width W.unlinked V.initial V.told self.new) place }
+        ensures frame { ChangesOnly (lent_table W.width W.unlinked V.initial V.told self.old) (lent_table W.width W.unlinked V.initial V.told self.new) place }
     {
-        let link = &mut self.entries[place.index()];
+        let index = self.slot(place);
+        let link = &mut self.entries[index];
         link.words.unlink();
     }
 }
@@ -98,20 +113,23 @@ impl<W: Words, V: LinkValue> LinkOps for LentTable<'_, W, V> {
     ghost use Rattle.ic_link_ops.specs.LinkSteps.{Replays};
     ghost use Rattle.ic_link_ops.specs.StepLaws.{replays_on};
     ghost use Rattle.std.proofs.Common.{ap, refl};
+    ghost use Rattle.ic_link_ops.specs.Widths.{HasRoom, nameable, nameable_has_room};
 
     type Entry = Link<W, V>;
 
-    ghost table = { lent_table W.unlinked V.initial V.told };
+    ghost table = { lent_table W.width W.unlinked V.initial V.told };
 
     ghost linked = { linked_by W.is_linked };
 
-    ghost Does = { λ old new s. Replays (linked_by W.is_linked) (lent_table W.unlinked V.initial V.told old) (lent_table W.unlinked V.initial V.told new) s };
+    ghost CanName = { HasRoom W.width };
 
-    ghost Refused = { λ old new p. IsLinked (linked_by W.is_linked) (lent_table W.unlinked V.initial V.told old) p × (new ≡ old) };
+    ghost Does = { λ old new s. Replays (linked_by W.is_linked) (lent_table W.width W.unlinked V.initial V.told old) (lent_table W.width W.unlinked V.initial V.told new) s };
+
+    ghost Refused = { λ old new p. IsLinked (linked_by W.is_linked) (lent_table W.width W.unlinked V.initial V.told old) p × (new ≡ old) };
 
     #[inline]
     fn acquire_link(&mut self, place: Place) -> bool {
-        let index = place.index();
+        let index = self.slot(place);
         if self.entries[index].is_linked() {
             return false;
         }
@@ -125,13 +143,15 @@ impl<W: Words, V: LinkValue> LinkOps for LentTable<'_, W, V> {
         self.force_unlink(place);
     }
 
-    ghost linked_is_covered = { λ t p h. linked_in_range (linked_by W.is_linked) (link_with W.unlinked V.initial) W.starts_unlinked (lent_entries t) (index_of p) h };
+    ghost linked_is_covered = { λ t p h. linked_in_range (linked_by W.is_linked) (link_with W.unlinked V.initial) W.starts_unlinked (nameable W.width (lent_entries t)) (index_of p) h };
+
+    ghost covered_has_name = { λ t p covered. nameable_has_room W.width (lent_entries t) p covered };
 
     ghost does_nothing = { λ t q. refl };
 
-    ghost does_on = { λ a b c s t h k. replays_on (linked_by W.is_linked) s t (lent_table W.unlinked V.initial V.told a) (lent_table W.unlinked V.initial V.told b) (lent_table W.unlinked V.initial V.told c) h k };
+    ghost does_on = { λ a b c s t h k. replays_on (linked_by W.is_linked) s t (lent_table W.width W.unlinked V.initial V.told a) (lent_table W.width W.unlinked V.initial V.told b) (lent_table W.width W.unlinked V.initial V.told c) h k };
 
     ghost does_replay = { λ old new s h. h };
 
-    ghost refused_keeps = { λ old new p h. ap (lent_table W.unlinked V.initial V.told) h.1 };
+    ghost refused_keeps = { λ old new p h. ap (lent_table W.width W.unlinked V.initial V.told) h.1 };
 }

@@ -7,6 +7,8 @@
 
 ghost use Rattle.std.specs.Prelude.{◌≡◌, ℕ, Bool, true, false, Option, ⊤};
 ghost use Rattle.ic_unsafe_ref.specs.declared.place.Place.{Place};
+ghost use Rattle.ic_link_ops.specs.Tables.{IsNameable};
+ghost use Rattle.ic_link_ops.specs.Widths.{Width, HasRoom, CanKeep, most_places, count_nameable};
 
 use crate::link_value::LinkValue;
 use crate::word::Word;
@@ -22,6 +24,9 @@ pub trait Words: Drop {
     // Whether the words are those of a linked place.
     ghost is_linked: { Self → Bool };
 
+    // How wide a word is that names a place.
+    ghost width: { Width };
+
     /// The words with which a table covers a place: those of an unlinked one.
     fn unlinked() -> Self
         ensures { result ≡ unlinked };
@@ -29,6 +34,14 @@ pub trait Words: Drop {
     /// Whether the words say that their place is linked. One comparison.
     fn is_linked(&self) -> bool
         ensures { result ≡ is_linked self.now };
+
+    /// How many places a table of such words covers at most.
+    fn most_places() -> usize
+        ensures { result ≡ most_places width };
+
+    /// Of so many places, how many the words have room for.
+    fn count_nameable(places: usize) -> usize
+        ensures { result ≡ count_nameable width places };
 
     /// Makes the words those of a linked place. What they say of neighbors then is left open.
     fn link(&mut self)
@@ -60,9 +73,13 @@ pub trait NextWord: Words {
     /// Replaces the word for what follows. It requires that the place is linked, and leaves it so.
     fn set_next_word(&mut self, word: Word)
         requires linked { Self.is_linked self.old ≡ true }
+        requires kept { CanKeep Self.width (bits_of word) }
         ensures set { next_word self.new ≡ bits_of word }
         ensures linked { Self.is_linked self.new ≡ Self.is_linked self.old }
         ensures others { KeepsOthers self.old self.new };
+
+    // The law: there is room for the word that is kept.
+    ghost next_word_kept: { (w : Self) → Self.is_linked w ≡ true → CanKeep Self.width (next_word w) };
 }
 
 /// Words with a place before as well.
@@ -76,6 +93,7 @@ pub trait PrevPlace: NextWord {
 
     /// Replaces the place before, and leaves the word for what follows.
     fn set_prev(&mut self, place: Option<Place>)
+        requires named { IsNameable (HasRoom Self.width) place }
         ensures set { prev self.new ≡ place }
         ensures linked { Self.is_linked self.new ≡ Self.is_linked self.old }
         ensures next_word { Self.next_word self.new ≡ Self.next_word self.old };
@@ -123,6 +141,7 @@ impl<W: NextWord, V> Link<W, V> {
     // Makes the link that of a linked place, with this word for what follows.
     #[inline]
     pub(crate) fn link_to(&mut self, word: Word)
+        requires kept { CanKeep W.width (bits_of word) }
         ensures linked { W.is_linked (words_of self.new) ≡ true }
         ensures next_word { W.next_word (words_of self.new) ≡ bits_of word }
         ensures value { value_of self.new ≡ value_of self.old }

@@ -36,6 +36,9 @@ pub trait LinkOps {
     // Whether an entry is that of a linked place.
     ghost linked: { Self.Entry → Bool };
 
+    // The words of such a table have room for the name of this place, whatever they say now.
+    ghost CanName: { Place → Type 0 };
+
     // THE STEPS: from the one state to the other the table made these steps, in this order, and no other.
     ghost Does: { Self → Self → List LinkStep → Type 0 };
 
@@ -57,9 +60,11 @@ pub trait LinkOps {
         ensures released { Does self.old self.new (releases place ∷ []) }
         ensures frame { ChangesOnly (table self.old) (table self.new) place };
 
-    // The laws: only covered places are linked; what stays took no step; steps and then more steps are all of them; the
+    // The laws: only covered places are linked, and there is room for their names; what stays took no step; steps and then more steps are all of them; the
     // linked places are what the steps lead to; a refusal changes no entry.
     ghost linked_is_covered: { (t : Self) (p : Place) → IsLinked linked (table t) p → IsCovered (table t) p };
+
+    ghost covered_has_name: { (t : Self) (p : Place) → IsCovered (table t) p → CanName p };
 
     ghost does_nothing: { (t : Self) → Does t t [] };
 

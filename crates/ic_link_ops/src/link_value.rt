@@ -20,7 +20,7 @@ use crate::table::PlainTable;
 use ic_unsafe_ref::{Place, Values};
 use std::alloc::Allocator;
 
-/// What stands beside each link of a table: nothing, which is `()`, a `u64`, or a type of your own.
+/// What stands beside each link of a table: nothing, which is `()`, a `u64`, a `u32`, or a type of your own.
 pub trait LinkValue: Drop {
     // What stands beside a link until a value is set.
     ghost initial: { Self };
@@ -62,6 +62,19 @@ impl LinkValue for u64 {
     ghost tells = { λ s t _ e. e };
 }
 
+/// A number of 4 bytes beside each link: 0 at first.
+impl LinkValue for u32 {
+    ghost initial = { 0 };
+
+    ghost told = { λ s. s };
+
+    fn initial() -> u32 {
+        0
+    }
+
+    ghost tells = { λ s t _ e. e };
+}
+
 /// A table that keeps a value beside each link. A look at a member reads one entry, which has the value and the links.
 ///
 /// A value stands at each covered place, and no call of a collection changes one.
@@ -89,8 +102,9 @@ pub trait LinkValues<V>: LinkOps + Values<V> {
 impl<W: Words, A: Allocator, V: LinkValue> Values<V> for PlainTable<W, A, V> {
     ghost use Rattle.ic_unsafe_ref.specs.Objects.{at_indexes};
     ghost use Rattle.ic_link_ops.specs.PlainTables.{entries, values_beside};
+    ghost use Rattle.ic_link_ops.specs.Widths.{nameable};
 
-    ghost values = { λ t. at_indexes (values_beside (entries t)) };
+    ghost values = { λ t. at_indexes (values_beside (nameable W.width (entries t))) };
 
     #[inline]
     fn value(&self, place: Place) -> &V {
@@ -102,26 +116,29 @@ impl<W: Words, A: Allocator, V: LinkValue> LinkValues<V> for PlainTable<W, A, V>
     ghost use Rattle.ic_link_ops.specs.Links.{words_of};
     ghost use Rattle.ic_link_ops.specs.PlainTables.{entries};
     ghost use Rattle.ic_link_ops.specs.ValuesBeside.{placed_where_covered, values_kept};
+    ghost use Rattle.ic_link_ops.specs.Widths.{nameable};
 
     ghost LinksAlike = { λ e f. words_of f ≡ words_of e };
 
     #[inline]
     fn set_value(&mut self, place: Place, value: V) {
-        let entry = &mut self.entries[place.index()];
+        let index = self.slot(place);
+        let entry = &mut self.entries[index];
         entry.value = value;
     }
 
-    ghost covered_has_value = { λ t p covered. placed_where_covered (entries t) p covered };
+    ghost covered_has_value = { λ t p covered. placed_where_covered (nameable W.width (entries t)) p covered };
 
-    ghost values_stay = { λ old new e. values_kept V.told V.tells (entries old) (entries new) e };
+    ghost values_stay = { λ old new e. values_kept V.told V.tells (nameable W.width (entries old)) (nameable W.width (entries new)) e };
 }
 
 impl<W: Words, V: LinkValue> Values<V> for LentTable<'_, W, V> {
     ghost use Rattle.ic_unsafe_ref.specs.Objects.{at_indexes};
     ghost use Rattle.ic_link_ops.specs.PlainTables.{values_beside};
     ghost use Rattle.ic_link_ops.specs.LentTables.{lent_entries};
+    ghost use Rattle.ic_link_ops.specs.Widths.{nameable};
 
-    ghost values = { λ t. at_indexes (values_beside (lent_entries t)) };
+    ghost values = { λ t. at_indexes (values_beside (nameable W.width (lent_entries t))) };
 
     #[inline]
     fn value(&self, place: Place) -> &V {
@@ -134,16 +151,18 @@ impl<W: Words, V: LinkValue> LinkValues<V> for LentTable<'_, W, V> {
     ghost use Rattle.ic_link_ops.specs.Links.{words_of};
     ghost use Rattle.ic_link_ops.specs.LentTables.{lent_entries};
     ghost use Rattle.ic_link_ops.specs.ValuesBeside.{placed_where_covered, lent_kept};
+    ghost use Rattle.ic_link_ops.specs.Widths.{nameable};
 
     ghost LinksAlike = { λ e f. words_of f ≡ words_of e };
 
     #[inline]
     fn set_value(&mut self, place: Place, value: V) {
-        let link = &mut self.entries[place.index()];
+        let index = self.slot(place);
+        let link = &mut self.entries[index];
         link.value = value;
     }
 
-    ghost covered_has_value = { λ t p covered. placed_where_covered (lent_entries t) p covered };
+    ghost covered_has_value = { λ t p covered. placed_where_covered (nameable W.width (lent_entries t)) p covered };
 
-    ghost values_stay = { λ old new e. lent_kept V.told V.tells (lent_entries old) (lent_entries new) e };
+    ghost values_stay = { λ old new e. lent_kept V.told V.tells (nameable W.width (lent_entries old)) (nameable W.width (lent_entries new)) e };
 }

@@ -9,7 +9,7 @@
 ghost use Rattle.std.specs.Prelude.{◌≡◌, Option, [], ◌∷◌};
 ghost use Rattle.std.specs.Bool.{OnTrue, OnFalse};
 ghost use Rattle.ic_unsafe_ref.specs.declared.place.Place.{Place};
-ghost use Rattle.ic_link_ops.specs.Tables.{IsCovered, IsLinked, ChangesOnly};
+ghost use Rattle.ic_link_ops.specs.Tables.{IsCovered, IsLinked, IsNameable, ChangesOnly};
 ghost use Rattle.ic_link_ops.specs.LinkSteps.{acquires};
 ghost use Rattle.ic_link_ops.specs.LinkedList.{Neighbors, neighbors_at, IsBetween};
 
@@ -20,6 +20,7 @@ use crate::link_value::LinkValue;
 use crate::marked_word::MarkedWord;
 use crate::place_word::PlaceWord;
 use crate::table::PlainTable;
+use crate::two_narrow_words::TwoNarrowWords;
 use crate::word::Word;
 use ic_unsafe_ref::Place;
 use std::alloc::{Allocator, Global};
@@ -42,6 +43,7 @@ pub trait LinkedListOps: link_ops::LinkOps {
     /// Sets the place behind `place`. It requires that the place is linked. O(1).
     fn set_next(&mut self, place: Place, next: Option<Place>)
         requires linked { IsLinked Self.linked (Self.table self.old) place }
+        requires next { IsNameable Self.CanName next }
         ensures set { neighbors_at neighbors (Self.table self.new) place
             ≡ record (neighbors_at neighbors (Self.table self.old) place) { next = next } }
         ensures frame { ChangesOnly (Self.table self.old) (Self.table self.new) place }
@@ -50,6 +52,7 @@ pub trait LinkedListOps: link_ops::LinkOps {
     /// Sets the place before `place`. It requires that the place is linked. O(1).
     fn set_prev(&mut self, place: Place, prev: Option<Place>)
         requires linked { IsLinked Self.linked (Self.table self.old) place }
+        requires prev { IsNameable Self.CanName prev }
         ensures set { neighbors_at neighbors (Self.table self.new) place
             ≡ record (neighbors_at neighbors (Self.table self.old) place) { prev = prev } }
         ensures frame { ChangesOnly (Self.table self.old) (Self.table self.new) place }
@@ -61,6 +64,8 @@ pub trait LinkedListOps: link_ops::LinkOps {
     #[inline]
     fn link_between(&mut self, place: Place, prev: Option<Place>, next: Option<Place>) -> bool
         requires covered { IsCovered (Self.table self.old) place }
+        requires prev { IsNameable Self.CanName prev }
+        requires next { IsNameable Self.CanName next }
         ensures acquired { OnTrue result (Self.Does self.old self.new (acquires place ∷ [])) }
         ensures set { OnTrue result (IsBetween neighbors ((Self.table self.new).entry place) prev next) }
         ensures refused { OnFalse result (Self.Refused self.old self.new place) }
@@ -96,13 +101,25 @@ pub type LinkOps<A = Global> = PlainTable<TwoWords, A>;
 /// The plain table of doubly links with a value beside each.
 pub type LinkOpsWith<V, A = Global> = PlainTable<TwoWords, A, V>;
 
+/// What the table of narrow links keeps at a place, in half the bytes of a `Link`.
+pub type NarrowLink = link::Link<TwoNarrowWords>;
+
+/// The plain table of doubly links whose words have 4 bytes: half as large, and with room for 536,870,911 places.
+pub type NarrowLinkOps<A = Global> = PlainTable<TwoNarrowWords, A>;
+
+/// The plain table of narrow links with a value beside each.
+pub type NarrowLinkOpsWith<V, A = Global> = PlainTable<TwoNarrowWords, A, V>;
+
 impl Words for TwoWords {
     ghost use Rattle.ic_link_ops.specs.TwoWords.{no_words, has_words};
     ghost use Rattle.std.specs.Prelude.{refl};
+    ghost use Rattle.ic_link_ops.specs.Widths.{wide};
 
     ghost unlinked = { no_words };
 
     ghost is_linked = { has_words };
+
+    ghost width = { wide };
 
     #[inline]
     fn unlinked() -> Self {
@@ -110,6 +127,16 @@ impl Words for TwoWords {
             next: MarkedWord::mark(),
             prev: PlaceWord::of(None),
         }
+    }
+
+    #[inline]
+    fn most_places() -> usize {
+        Place::COUNT
+    }
+
+    #[inline]
+    fn count_nameable(places: usize) -> usize {
+        places
     }
 
     #[inline]
@@ -146,6 +173,8 @@ impl NextWord for TwoWords {
     fn set_next_word(&mut self, word: Word) {
         self.next = MarkedWord::of(word);
     }
+
+    ghost next_word_kept = { λ w linked. tt };
 }
 
 impl PrevPlace for TwoWords {
@@ -174,29 +203,31 @@ impl<W: PrevPlace, A: Allocator, V: LinkValue> LinkedListOps for PlainTable<W, A
 
     #[inline]
     fn next(&self, place: Place) -> Option<Place> {
-        self.entries[place.index()].words.next_word().place()
+        self.link(place).words.next_word().place()
     }
 
     #[inline]
     fn prev(&self, place: Place) -> Option<Place> {
-        self.entries[place.index()].words.prev()
+        self.link(place).words.prev()
     }
 
     #[inline]
     fn set_next(&mut self, place: Place, next: Option<Place>) {
-        let entry = &mut self.entries[place.index()];
+        let index = self.slot(place);
+        let entry = &mut self.entries[index];
         entry.words.set_next_word(Word::of(next));
     }
 
     #[inline]
     fn set_prev(&mut self, place: Place, prev: Option<Place>) {
-        let entry = &mut self.entries[place.index()];
+        let index = self.slot(place);
+        let entry = &mut self.entries[index];
         entry.words.set_prev(prev);
     }
 
     #[inline]
     fn link_between(&mut self, place: Place, prev: Option<Place>, next: Option<Place>) -> bool {
-        let index = place.index();
+        let index = self.slot(place);
         if self.entries[index].is_linked() {
             return false;
         }
@@ -227,19 +258,21 @@ impl<W: PrevPlace, V: LinkValue> LinkedListOps for LentTable<'_, W, V> {
 
     #[inline]
     fn set_next(&mut self, place: Place, next: Option<Place>) {
-        let link = &mut self.entries[place.index()];
+        let index = self.slot(place);
+        let link = &mut self.entries[index];
         link.words.set_next_word(Word::of(next));
     }
 
     #[inline]
     fn set_prev(&mut self, place: Place, prev: Option<Place>) {
-        let link = &mut self.entries[place.index()];
+        let index = self.slot(place);
+        let link = &mut self.entries[index];
         link.words.set_prev(prev);
     }
 
     #[inline]
     fn link_between(&mut self, place: Place, prev: Option<Place>, next: Option<Place>) -> bool {
-        let index = place.index();
+        let index = self.slot(place);
         if self.entries[index].is_linked() {
             return false;
         }

@@ -9,6 +9,7 @@ ghost use Rattle.std.specs.Prelude.{◌≡◌};
 use crate::link::{NextWord, Words};
 use crate::marked_word::MarkedWord;
 use crate::word::Word;
+use ic_unsafe_ref::Place;
 use std::marker::PhantomData;
 
 /// One word for the neighbors, or the mark 1 while the place is unlinked. `K` tells tables of two kinds apart.
@@ -21,10 +22,13 @@ pub struct OneWord<K> {
 impl<K> Words for OneWord<K> {
     ghost use Rattle.ic_link_ops.specs.OneWord.{no_word, has_word};
     ghost use Rattle.std.specs.Prelude.{refl};
+    ghost use Rattle.ic_link_ops.specs.Widths.{wide};
 
     ghost unlinked = { no_word };
 
     ghost is_linked = { has_word };
+
+    ghost width = { wide };
 
     #[inline]
     fn unlinked() -> Self {
@@ -32,6 +36,16 @@ impl<K> Words for OneWord<K> {
             word: MarkedWord::mark(),
             of: PhantomData,
         }
+    }
+
+    #[inline]
+    fn most_places() -> usize {
+        Place::COUNT
+    }
+
+    #[inline]
+    fn count_nameable(places: usize) -> usize {
+        places
     }
 
     #[inline]
@@ -69,4 +83,6 @@ impl<K> NextWord for OneWord<K> {
     fn set_next_word(&mut self, word: Word) {
         self.word = MarkedWord::of(word);
     }
+
+    ghost next_word_kept = { λ w linked. tt };
 }

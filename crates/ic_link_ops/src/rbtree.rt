@@ -7,7 +7,7 @@
 
 ghost use Rattle.std.specs.Prelude.{◌≡◌, ◌≢◌, Option, []};
 ghost use Rattle.ic_unsafe_ref.specs.declared.place.Place.{Place};
-ghost use Rattle.ic_link_ops.specs.Tables.{IsLinked, ChangesOnly};
+ghost use Rattle.ic_link_ops.specs.Tables.{IsLinked, IsNameable, ChangesOnly};
 ghost use Rattle.ic_link_ops.specs.RedBlackTree.{Node, node_at};
 ghost use Rattle.ic_link_ops.specs.declared.color.Color.{Color};
 
@@ -16,8 +16,10 @@ use crate::lent_table::LentTable;
 use crate::link::{self, NextWord, PrevPlace, Words};
 use crate::link_ops;
 use crate::link_value::LinkValue;
+use crate::node_words::NodeWords;
 use crate::place_word::PlaceWord;
 use crate::table::PlainTable;
+use crate::three_narrow_words::ThreeNarrowWords;
 use crate::tree_word::TreeWord;
 use crate::word::Word;
 use ic_unsafe_ref::Place;
@@ -53,6 +55,7 @@ pub trait RBTreeOps: link_ops::LinkOps {
     /// Sets the left child of `place`. It requires that the place is linked. O(1).
     fn set_left(&mut self, place: Place, left: Option<Place>)
         requires linked { IsLinked Self.linked (Self.table self.old) place }
+        requires left { IsNameable Self.CanName left }
         ensures set { node_at node (Self.table self.new) place
             ≡ record (node_at node (Self.table self.old) place) { left = left } }
         ensures frame { ChangesOnly (Self.table self.old) (Self.table self.new) place }
@@ -61,6 +64,7 @@ pub trait RBTreeOps: link_ops::LinkOps {
     /// Sets the right child of `place`. It requires that the place is linked. O(1).
     fn set_right(&mut self, place: Place, right: Option<Place>)
         requires linked { IsLinked Self.linked (Self.table self.old) place }
+        requires right { IsNameable Self.CanName right }
         ensures set { node_at node (Self.table self.new) place
             ≡ record (node_at node (Self.table self.old) place) { right = right } }
         ensures frame { ChangesOnly (Self.table self.old) (Self.table self.new) place }
@@ -69,6 +73,7 @@ pub trait RBTreeOps: link_ops::LinkOps {
     /// Sets the parent of `place`. It requires that the place is linked. O(1).
     fn set_parent(&mut self, place: Place, parent: Option<Place>)
         requires linked { IsLinked Self.linked (Self.table self.old) place }
+        requires parent { IsNameable Self.CanName parent }
         ensures set { node_at node (Self.table self.new) place
             ≡ record (node_at node (Self.table self.old) place) { parent = parent } }
         ensures frame { ChangesOnly (Self.table self.old) (Self.table self.new) place }
@@ -85,6 +90,7 @@ pub trait RBTreeOps: link_ops::LinkOps {
     /// Sets the parent and the color of `place`, at once. It requires that the place is linked. O(1).
     fn set_parent_and_color(&mut self, place: Place, parent: Option<Place>, color: Color)
         requires linked { IsLinked Self.linked (Self.table self.old) place }
+        requires parent { IsNameable Self.CanName parent }
         ensures set { node_at node (Self.table self.new) place
             ≡ record (node_at node (Self.table self.old) place) { parent = parent; color = color } }
         ensures frame { ChangesOnly (Self.table self.old) (Self.table self.new) place }
@@ -114,6 +120,15 @@ pub type LinkOps<A = Global> = PlainTable<ThreeWords, A>;
 /// The plain table of tree links with a value beside each, a key, say.
 pub type LinkOpsWith<V, A = Global> = PlainTable<ThreeWords, A, V>;
 
+/// What the table of narrow links keeps at a place, in half the bytes of a `Link`.
+pub type NarrowLink = link::Link<ThreeNarrowWords>;
+
+/// The plain table of tree links whose words have 4 bytes: half as large, and with room for 536,870,911 places.
+pub type NarrowLinkOps<A = Global> = PlainTable<ThreeNarrowWords, A>;
+
+/// The plain table of narrow links with a value beside each.
+pub type NarrowLinkOpsWith<V, A = Global> = PlainTable<ThreeNarrowWords, A, V>;
+
 impl link::Link<ThreeWords> {
     ghost use Rattle.ic_link_ops.specs.Links.{words_of};
     ghost use Rattle.ic_link_ops.specs.ThreeWords.{told_in_order};
@@ -138,10 +153,13 @@ impl link::Link<ThreeWords> {
 impl Words for ThreeWords {
     ghost use Rattle.ic_link_ops.specs.ThreeWords.{no_words, has_link};
     ghost use Rattle.std.specs.Prelude.{refl};
+    ghost use Rattle.ic_link_ops.specs.Widths.{wide};
 
     ghost unlinked = { no_words };
 
     ghost is_linked = { has_link };
+
+    ghost width = { wide };
 
     #[inline]
     fn unlinked() -> Self {
@@ -150,6 +168,16 @@ impl Words for ThreeWords {
             right: Word::none(),
             third: TreeWord::unlinked(),
         }
+    }
+
+    #[inline]
+    fn most_places() -> usize {
+        Place::COUNT
+    }
+
+    #[inline]
+    fn count_nameable(places: usize) -> usize {
+        places
     }
 
     #[inline]
@@ -186,6 +214,8 @@ impl NextWord for ThreeWords {
     fn set_next_word(&mut self, word: Word) {
         self.right = word;
     }
+
+    ghost next_word_kept = { λ w linked. tt };
 }
 
 impl PrevPlace for ThreeWords {
@@ -206,120 +236,182 @@ impl PrevPlace for ThreeWords {
     ghost keeps_prev = { λ old new h. h };
 }
 
-impl<A: Allocator, V: LinkValue> RBTreeOps for PlainTable<ThreeWords, A, V> {
+impl NodeWords for ThreeWords {
+    ghost use Rattle.ic_link_ops.specs.ThreeWords.{node_in};
     ghost use Rattle.std.specs.Prelude.{refl};
-    ghost use Rattle.ic_link_ops.specs.ThreeWords.{node_of};
 
-    ghost node = { node_of };
+    ghost node = { node_in };
 
     #[inline]
-    fn left(&self, place: Place) -> Option<Place> {
-        self.entries[place.index()].words.left.get()
+    fn left(&self) -> Option<Place> {
+        self.left.get()
     }
 
     #[inline]
-    fn right(&self, place: Place) -> Option<Place> {
-        self.entries[place.index()].words.right.place()
+    fn right(&self) -> Option<Place> {
+        self.right.place()
     }
 
     #[inline]
-    fn parent(&self, place: Place) -> Option<Place> {
-        self.entries[place.index()].words.third.parent()
+    fn parent(&self) -> Option<Place> {
+        self.third.parent()
     }
 
     #[inline]
-    fn color(&self, place: Place) -> Color {
-        self.entries[place.index()].words.third.color()
+    fn color(&self) -> Color {
+        self.third.color()
     }
 
     #[inline]
-    fn set_left(&mut self, place: Place, left: Option<Place>) {
-        let entry = &mut self.entries[place.index()];
-        entry.words.left = PlaceWord::of(left);
+    fn set_left(&mut self, left: Option<Place>) {
+        self.left = PlaceWord::of(left);
     }
 
     #[inline]
-    fn set_right(&mut self, place: Place, right: Option<Place>) {
-        let entry = &mut self.entries[place.index()];
-        entry.words.right = Word::of(right);
+    fn set_right(&mut self, right: Option<Place>) {
+        self.right = Word::of(right);
     }
 
     #[inline]
-    fn set_parent(&mut self, place: Place, parent: Option<Place>) {
-        let entry = &mut self.entries[place.index()];
-        entry.words.third.set_parent(parent);
+    fn set_parent(&mut self, parent: Option<Place>) {
+        self.third.set_parent(parent);
     }
 
     #[inline]
-    fn set_color(&mut self, place: Place, color: Color) {
-        let entry = &mut self.entries[place.index()];
-        entry.words.third.set_color(color);
+    fn set_color(&mut self, color: Color) {
+        self.third.set_color(color);
     }
 
     #[inline]
-    fn set_parent_and_color(&mut self, place: Place, parent: Option<Place>, color: Color) {
-        let entry = &mut self.entries[place.index()];
-        entry.words.third = TreeWord::below(parent, color);
+    fn set_parent_and_color(&mut self, parent: Option<Place>, color: Color) {
+        self.third = TreeWord::below(parent, color);
     }
 
-    ghost linked_alike = { λ e. refl };
+    ghost node_linked = { λ w. refl };
 }
 
-impl<V: LinkValue> RBTreeOps for LentTable<'_, ThreeWords, V> {
-    ghost use Rattle.std.specs.Prelude.{refl};
-    ghost use Rattle.ic_link_ops.specs.ThreeWords.{node_of};
+impl<W: NodeWords, A: Allocator, V: LinkValue> RBTreeOps for PlainTable<W, A, V> {
+    ghost use Rattle.ic_link_ops.specs.Links.{words_of};
 
-    ghost node = { node_of };
+    ghost node = { λ l. W.node (words_of l) };
 
     #[inline]
     fn left(&self, place: Place) -> Option<Place> {
-        self.link(place).words.left.get()
+        self.link(place).words.left()
     }
 
     #[inline]
     fn right(&self, place: Place) -> Option<Place> {
-        self.link(place).words.right.place()
+        self.link(place).words.right()
     }
 
     #[inline]
     fn parent(&self, place: Place) -> Option<Place> {
-        self.link(place).words.third.parent()
+        self.link(place).words.parent()
     }
 
     #[inline]
     fn color(&self, place: Place) -> Color {
-        self.link(place).words.third.color()
+        self.link(place).words.color()
     }
 
     #[inline]
     fn set_left(&mut self, place: Place, left: Option<Place>) {
-        let link = &mut self.entries[place.index()];
-        link.words.left = PlaceWord::of(left);
+        let index = self.slot(place);
+        let entry = &mut self.entries[index];
+        entry.words.set_left(left);
     }
 
     #[inline]
     fn set_right(&mut self, place: Place, right: Option<Place>) {
-        let link = &mut self.entries[place.index()];
-        link.words.right = Word::of(right);
+        let index = self.slot(place);
+        let entry = &mut self.entries[index];
+        entry.words.set_right(right);
     }
 
     #[inline]
     fn set_parent(&mut self, place: Place, parent: Option<Place>) {
-        let link = &mut self.entries[place.index()];
-        link.words.third.set_parent(parent);
+        let index = self.slot(place);
+        let entry = &mut self.entries[index];
+        entry.words.set_parent(parent);
     }
 
     #[inline]
     fn set_color(&mut self, place: Place, color: Color) {
-        let link = &mut self.entries[place.index()];
-        link.words.third.set_color(color);
+        let index = self.slot(place);
+        let entry = &mut self.entries[index];
+        entry.words.set_color(color);
     }
 
     #[inline]
     fn set_parent_and_color(&mut self, place: Place, parent: Option<Place>, color: Color) {
-        let link = &mut self.entries[place.index()];
-        link.words.third = TreeWord::below(parent, color);
+        let index = self.slot(place);
+        let entry = &mut self.entries[index];
+        entry.words.set_parent_and_color(parent, color);
     }
 
-    ghost linked_alike = { λ e. refl };
+    ghost linked_alike = { λ l. W.node_linked (words_of l) };
+}
+
+impl<W: NodeWords, V: LinkValue> RBTreeOps for LentTable<'_, W, V> {
+    ghost use Rattle.ic_link_ops.specs.Links.{words_of};
+
+    ghost node = { λ l. W.node (words_of l) };
+
+    #[inline]
+    fn left(&self, place: Place) -> Option<Place> {
+        self.link(place).words.left()
+    }
+
+    #[inline]
+    fn right(&self, place: Place) -> Option<Place> {
+        self.link(place).words.right()
+    }
+
+    #[inline]
+    fn parent(&self, place: Place) -> Option<Place> {
+        self.link(place).words.parent()
+    }
+
+    #[inline]
+    fn color(&self, place: Place) -> Color {
+        self.link(place).words.color()
+    }
+
+    #[inline]
+    fn set_left(&mut self, place: Place, left: Option<Place>) {
+        let index = self.slot(place);
+        let link = &mut self.entries[index];
+        link.words.set_left(left);
+    }
+
+    #[inline]
+    fn set_right(&mut self, place: Place, right: Option<Place>) {
+        let index = self.slot(place);
+        let link = &mut self.entries[index];
+        link.words.set_right(right);
+    }
+
+    #[inline]
+    fn set_parent(&mut self, place: Place, parent: Option<Place>) {
+        let index = self.slot(place);
+        let link = &mut self.entries[index];
+        link.words.set_parent(parent);
+    }
+
+    #[inline]
+    fn set_color(&mut self, place: Place, color: Color) {
+        let index = self.slot(place);
+        let link = &mut self.entries[index];
+        link.words.set_color(color);
+    }
+
+    #[inline]
+    fn set_parent_and_color(&mut self, place: Place, parent: Option<Place>, color: Color) {
+        let index = self.slot(place);
+        let link = &mut self.entries[index];
+        link.words.set_parent_and_color(parent, color);
+    }
+
+    ghost linked_alike = { λ l. W.node_linked (words_of l) };
 }

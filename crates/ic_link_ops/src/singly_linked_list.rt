@@ -8,7 +8,7 @@
 ghost use Rattle.std.specs.Prelude.{◌≡◌, Option, true, [], ◌∷◌};
 ghost use Rattle.std.specs.Bool.{OnTrue, OnFalse};
 ghost use Rattle.ic_unsafe_ref.specs.declared.place.Place.{Place};
-ghost use Rattle.ic_link_ops.specs.Tables.{IsCovered, IsLinked, ChangesOnly};
+ghost use Rattle.ic_link_ops.specs.Tables.{IsCovered, IsLinked, IsNameable, ChangesOnly};
 ghost use Rattle.ic_link_ops.specs.LinkSteps.{acquires};
 ghost use Rattle.ic_link_ops.specs.SinglyLinkedList.{Successor, successor_at};
 
@@ -16,6 +16,7 @@ use crate::lent_table::LentTable;
 use crate::link::{self, NextWord};
 use crate::link_ops;
 use crate::link_value::LinkValue;
+use crate::one_narrow_word::OneNarrowWord;
 use crate::one_word::OneWord;
 use crate::table::PlainTable;
 use crate::word::Word;
@@ -35,6 +36,7 @@ pub trait SinglyLinkedListOps: link_ops::LinkOps {
     /// Sets the place behind `place`. It requires that the place is linked. O(1).
     fn set_next(&mut self, place: Place, next: Option<Place>)
         requires linked { IsLinked Self.linked (Self.table self.old) place }
+        requires next { IsNameable Self.CanName next }
         ensures set { successor_at successor (Self.table self.new) place
             ≡ record (successor_at successor (Self.table self.old) place) { next = next } }
         ensures frame { ChangesOnly (Self.table self.old) (Self.table self.new) place }
@@ -46,6 +48,7 @@ pub trait SinglyLinkedListOps: link_ops::LinkOps {
     #[inline]
     fn link_before(&mut self, place: Place, next: Option<Place>) -> bool
         requires covered { IsCovered (Self.table self.old) place }
+        requires next { IsNameable Self.CanName next }
         ensures acquired { OnTrue result (Self.Does self.old self.new (acquires place ∷ [])) }
         ensures set { OnTrue result (successor_at successor (Self.table self.new) place ≡ record { linked = true; next = next }) }
         ensures refused { OnFalse result (Self.Refused self.old self.new place) }
@@ -74,6 +77,15 @@ pub type LinkOps<A = Global> = PlainTable<OneWord<Singly>, A>;
 /// The plain table of singly links with a value beside each.
 pub type LinkOpsWith<V, A = Global> = PlainTable<OneWord<Singly>, A, V>;
 
+/// What the table of narrow links keeps at a place, in half the bytes of a `Link`.
+pub type NarrowLink = link::Link<OneNarrowWord<Singly>>;
+
+/// The plain table of singly links whose words have 4 bytes: half as large, and with room for 536,870,911 places.
+pub type NarrowLinkOps<A = Global> = PlainTable<OneNarrowWord<Singly>, A>;
+
+/// The plain table of narrow links with a value beside each.
+pub type NarrowLinkOpsWith<V, A = Global> = PlainTable<OneNarrowWord<Singly>, A, V>;
+
 impl<W: NextWord, A: Allocator, V: LinkValue> SinglyLinkedListOps for PlainTable<W, A, V> {
     ghost use Rattle.std.specs.Prelude.{refl};
     ghost use Rattle.ic_link_ops.specs.Readings.{successor_of};
@@ -82,18 +94,19 @@ impl<W: NextWord, A: Allocator, V: LinkValue> SinglyLinkedListOps for PlainTable
 
     #[inline]
     fn next(&self, place: Place) -> Option<Place> {
-        self.entries[place.index()].words.next_word().place()
+        self.link(place).words.next_word().place()
     }
 
     #[inline]
     fn set_next(&mut self, place: Place, next: Option<Place>) {
-        let entry = &mut self.entries[place.index()];
+        let index = self.slot(place);
+        let entry = &mut self.entries[index];
         entry.words.set_next_word(Word::of(next));
     }
 
     #[inline]
     fn link_before(&mut self, place: Place, next: Option<Place>) -> bool {
-        let index = place.index();
+        let index = self.slot(place);
         if self.entries[index].is_linked() {
             return false;
         }
@@ -118,13 +131,14 @@ impl<W: NextWord, V: LinkValue> SinglyLinkedListOps for LentTable<'_, W, V> {
 
     #[inline]
     fn set_next(&mut self, place: Place, next: Option<Place>) {
-        let link = &mut self.entries[place.index()];
+        let index = self.slot(place);
+        let link = &mut self.entries[index];
         link.words.set_next_word(Word::of(next));
     }
 
     #[inline]
     fn link_before(&mut self, place: Place, next: Option<Place>) -> bool {
-        let index = place.index();
+        let index = self.slot(place);
         if self.entries[index].is_linked() {
             return false;
         }

@@ -6,7 +6,8 @@
 //! links.is_linked(place) // false, for each of the three places
 //! ```
 
-ghost use Rattle.std.specs.Prelude.{◌≡◌, ◌<◌, ◌≤◌, ◌↔◌, max, OnOk, OnErr, IsOk, Err};
+ghost use Rattle.std.specs.Prelude.{◌≡◌, ◌<◌, ◌≤◌, ◌↔◌, length, max, OnOk, OnErr, IsOk, Err};
+ghost use Rattle.std.specs.Bool.{OnTrue, OnFalse};
 ghost use Rattle.ic_unsafe_ref.specs.declared.place.Place.{Place};
 ghost use Rattle.ic_link_ops.specs.Tables.{IsCovered, IsLinked, IsUnlinked, ChangesOnly};
 
@@ -26,13 +27,16 @@ pub struct PlainTable<W, A: Allocator = Global, V = ()> {
 }
 
 impl<W: Words, A: Allocator, V: LinkValue> PlainTable<W, A, V> {
-    ghost use Rattle.ic_link_ops.specs.PlainTables.{entries, table_beside, linked_by};
+    ghost use Rattle.ic_unsafe_ref.specs.Places.{index_of};
+    ghost use Rattle.ic_link_ops.specs.Links.{link_with};
+    ghost use Rattle.ic_link_ops.specs.PlainTables.{entries, entry_at, table_beside, linked_by};
     ghost use Rattle.ic_link_ops.specs.LentTables.{LendsLinks};
+    ghost use Rattle.ic_link_ops.specs.Widths.{most_places};
     ghost use Rattle.std.specs.Borrow.{sem};
 
     /// A table that covers no place. It takes no memory.
     pub fn new(alloc: A) -> PlainTable<W, A, V>
-        ensures { (table_beside W.unlinked V.initial V.told result).extent.places ≡ 0 }
+        ensures { (table_beside W.width W.unlinked V.initial V.told result).extent.places ≡ 0 }
     {
         PlainTable {
             entries: Vec::new(alloc),
@@ -41,26 +45,50 @@ impl<W: Words, A: Allocator, V: LinkValue> PlainTable<W, A, V> {
 
     /// How many places are covered: those with a smaller index.
     #[inline]
+    #[tactic(auto, using(crate::proofs::WidthLemmas::nameable_count, crate::proofs::WidthLemmas::nameable_fits, crate::proofs::WidthLemmas::nameable_read, crate::proofs::WidthLemmas::nameable_written))]
     pub fn covers(&self) -> usize
-        ensures { result ≡ (table_beside W.unlinked V.initial V.told self.now).extent.places }
+        ensures { result ≡ (table_beside W.width W.unlinked V.initial V.told self.now).extent.places }
     {
-        self.entries.len()
+        W::count_nameable(self.entries.len())
+    }
+
+    // The index of the link of a place.
+    #[inline]
+    #[tactic(auto, using(crate::proofs::WidthLemmas::nameable_fits))]
+    pub(crate) fn slot(&self, place: Place) -> usize
+        requires covered { IsCovered (table_beside W.width W.unlinked V.initial V.told self.now) place }
+        ensures value { result ≡ index_of place }
+        ensures within { result < length (entries self.now) }
+    {
+        place.index()
+    }
+
+    // The index of the link of a place that is linked.
+    #[inline]
+    pub(crate) fn slot_of_linked(&self, place: Place) -> usize
+        requires linked { IsLinked (linked_by W.is_linked) (table_beside W.width W.unlinked V.initial V.told self.now) place }
+        ensures value { result ≡ index_of place }
+        ensures within { result < length (entries self.now) }
+    {
+        place.index()
     }
 
     /// The link of `place`. It requires that the place is covered. O(1).
     #[inline]
+    #[tactic(auto, using(crate::proofs::WidthLemmas::nameable_count, crate::proofs::WidthLemmas::nameable_fits, crate::proofs::WidthLemmas::nameable_read, crate::proofs::WidthLemmas::nameable_written))]
     pub fn link(&self, place: Place) -> &Link<W, V>
-        requires covered { IsCovered (table_beside W.unlinked V.initial V.told self.now) place }
-        ensures { result.now ≡ (table_beside W.unlinked V.initial V.told self.now).entry place }
+        requires covered { IsCovered (table_beside W.width W.unlinked V.initial V.told self.now) place }
+        ensures { result.now ≡ (table_beside W.width W.unlinked V.initial V.told self.now).entry place }
     {
         &self.entries[place.index()]
     }
 
     /// Whether `place` is linked. It requires that the place is covered. O(1).
     #[inline]
+    #[tactic(auto, using(crate::proofs::WidthLemmas::nameable_count, crate::proofs::WidthLemmas::nameable_fits, crate::proofs::WidthLemmas::nameable_read, crate::proofs::WidthLemmas::nameable_written))]
     pub fn is_linked(&self, place: Place) -> bool
-        requires covered { IsCovered (table_beside W.unlinked V.initial V.told self.now) place }
-        ensures { result ≡ linked_by W.is_linked ((table_beside W.unlinked V.initial V.told self.now).entry place) }
+        requires covered { IsCovered (table_beside W.width W.unlinked V.initial V.told self.now) place }
+        ensures { result ≡ linked_by W.is_linked ((table_beside W.width W.unlinked V.initial V.told self.now).entry place) }
     {
         self.entries[place.index()].is_linked()
     }
@@ -70,12 +98,14 @@ impl<W: Words, A: Allocator, V: LinkValue> PlainTable<W, A, V> {
     /// Every other entry stays, so each collection of which the place is no member keeps its sequence. For what
     /// `fast_clear` leaves; a collection of which the place is a member is broken by it.
     #[inline]
+    #[tactic(auto, using(crate::proofs::WidthLemmas::nameable_count, crate::proofs::WidthLemmas::nameable_fits, crate::proofs::WidthLemmas::nameable_read, crate::proofs::WidthLemmas::nameable_written))]
     pub fn force_unlink(&mut self, place: Place)
-        requires covered { IsCovered (table_beside W.unlinked V.initial V.told self.old) place }
-        ensures unlinked { IsUnlinked (linked_by W.is_linked) (table_beside W.unlinked V.initial V.told self.new) place }
-        ensures frame { ChangesOnly (table_beside W.unlinked V.initial V.told self.old) (table_beside W.unlinked V.initial V.told self.new) place }
+        requires covered { IsCovered (table_beside W.width W.unlinked V.initial V.told self.old) place }
+        ensures unlinked { IsUnlinked (linked_by W.is_linked) (table_beside W.width W.unlinked V.initial V.told self.new) place }
+        ensures frame { ChangesOnly (table_beside W.width W.unlinked V.initial V.told self.old) (table_beside W.width W.unlinked V.initial V.told self.new) place }
     {
-        let entry = &mut self.entries[place.index()];
+        let index = self.slot(place);
+        let entry = &mut self.entries[index];
         entry.words.unlink();
     }
 
@@ -96,24 +126,34 @@ impl<W: Words, A: Allocator, V: LinkValue> PlainTable<W, A, V> {
     /// that are there stay, and where `count` is smaller than what is covered nothing changes. At most one request
     /// for memory.
     pub fn cover(&mut self, count: usize) -> Result<(), CoverError>
-        ensures too_many { (result ≡ Err CoverError.TooManyPlaces) ↔ 4294967296 < count }
-        ensures covers { OnOk result ((table_beside W.unlinked V.initial V.told self.new).extent.places ≡ max (table_beside W.unlinked V.initial V.told self.old).extent.places count) }
-        ensures stays { (q : Place) → (table_beside W.unlinked V.initial V.told self.new).entry q
-            ≡ (table_beside W.unlinked V.initial V.told self.old).entry q }
-        ensures covered { (q : Place) → IsCovered (table_beside W.unlinked V.initial V.told self.old) q → IsCovered (table_beside W.unlinked V.initial V.told self.new) q }
-        ensures enough { count ≤ (table_beside W.unlinked V.initial V.told self.old).extent.places → count ≤ 4294967296 → IsOk result }
+        ensures too_many { (result ≡ Err CoverError.TooManyPlaces) ↔ most_places W.width < count }
+        ensures covers { OnOk result ((table_beside W.width W.unlinked V.initial V.told self.new).extent.places ≡ max (table_beside W.width W.unlinked V.initial V.told self.old).extent.places count) }
+        ensures stays { (q : Place) → (table_beside W.width W.unlinked V.initial V.told self.new).entry q
+            ≡ (table_beside W.width W.unlinked V.initial V.told self.old).entry q }
+        ensures covered { (q : Place) → IsCovered (table_beside W.width W.unlinked V.initial V.told self.old) q → IsCovered (table_beside W.width W.unlinked V.initial V.told self.new) q }
+        ensures enough { count ≤ (table_beside W.width W.unlinked V.initial V.told self.old).extent.places → count ≤ most_places W.width → IsOk result }
         ensures refused { OnErr result (entries self.new ≡ entries self.old) }
     {
-        if count > Place::COUNT {
+        if count > W::most_places() {
             return Err(CoverError::TooManyPlaces);
         }
         if count <= self.entries.len() {
             return Ok(());
         }
-        match self.entries.resize(count, Link::new()) {
-            Ok(()) => Ok(()),
-            Err(_) => Err(CoverError::OutOfMemory),
+        if !self.grow(count) {
+            return Err(CoverError::OutOfMemory);
         }
+        Ok(())
+    }
+
+    // Makes so many links, with an unlinked one for each that is new, and answers whether there was memory for them.
+    fn grow(&mut self, count: usize) -> bool
+        requires more { length (entries self.old) < count }
+        ensures grown { OnTrue result (length (entries self.new) ≡ count) }
+        ensures stays { (q : Place) → entry_at (link_with W.unlinked V.initial) (entries self.new) q ≡ entry_at (link_with W.unlinked V.initial) (entries self.old) q }
+        ensures refused { OnFalse result (entries self.new ≡ entries self.old) }
+    {
+        self.entries.resize(count, Link::new()).is_ok()
     }
 }
 
@@ -125,20 +165,23 @@ impl<W: Words, A: Allocator, V: LinkValue> LinkOps for PlainTable<W, A, V> {
     ghost use Rattle.ic_link_ops.specs.LinkSteps.{Replays};
     ghost use Rattle.ic_link_ops.specs.StepLaws.{replays_on};
     ghost use Rattle.std.proofs.Common.{ap, refl};
+    ghost use Rattle.ic_link_ops.specs.Widths.{HasRoom, nameable, nameable_has_room};
 
     type Entry = Link<W, V>;
 
-    ghost table = { table_beside W.unlinked V.initial V.told };
+    ghost table = { table_beside W.width W.unlinked V.initial V.told };
 
     ghost linked = { linked_by W.is_linked };
 
-    ghost Does = { λ old new s. Replays (linked_by W.is_linked) (table_beside W.unlinked V.initial V.told old) (table_beside W.unlinked V.initial V.told new) s };
+    ghost CanName = { HasRoom W.width };
 
-    ghost Refused = { λ old new p. IsLinked (linked_by W.is_linked) (table_beside W.unlinked V.initial V.told old) p × (new ≡ old) };
+    ghost Does = { λ old new s. Replays (linked_by W.is_linked) (table_beside W.width W.unlinked V.initial V.told old) (table_beside W.width W.unlinked V.initial V.told new) s };
+
+    ghost Refused = { λ old new p. IsLinked (linked_by W.is_linked) (table_beside W.width W.unlinked V.initial V.told old) p × (new ≡ old) };
 
     #[inline]
     fn acquire_link(&mut self, place: Place) -> bool {
-        let index = place.index();
+        let index = self.slot(place);
         if self.entries[index].is_linked() {
             return false;
         }
@@ -149,16 +192,20 @@ impl<W: Words, A: Allocator, V: LinkValue> LinkOps for PlainTable<W, A, V> {
 
     #[inline]
     fn release_link(&mut self, place: Place) {
-        self.force_unlink(place);
+        let index = self.slot_of_linked(place);
+        let entry = &mut self.entries[index];
+        entry.words.unlink();
     }
 
-    ghost linked_is_covered = { λ t p h. linked_in_range (linked_by W.is_linked) (link_with W.unlinked V.initial) W.starts_unlinked (entries t) (index_of p) h };
+    ghost linked_is_covered = { λ t p h. linked_in_range (linked_by W.is_linked) (link_with W.unlinked V.initial) W.starts_unlinked (nameable W.width (entries t)) (index_of p) h };
+
+    ghost covered_has_name = { λ t p covered. nameable_has_room W.width (entries t) p covered };
 
     ghost does_nothing = { λ t q. refl };
 
-    ghost does_on = { λ a b c s t h k. replays_on (linked_by W.is_linked) s t (table_beside W.unlinked V.initial V.told a) (table_beside W.unlinked V.initial V.told b) (table_beside W.unlinked V.initial V.told c) h k };
+    ghost does_on = { λ a b c s t h k. replays_on (linked_by W.is_linked) s t (table_beside W.width W.unlinked V.initial V.told a) (table_beside W.width W.unlinked V.initial V.told b) (table_beside W.width W.unlinked V.initial V.told c) h k };
 
     ghost does_replay = { λ old new s h. h };
 
-    ghost refused_keeps = { λ old new p h. ap (table_beside W.unlinked V.initial V.told) h.1 };
+    ghost refused_keeps = { λ old new p h. ap (table_beside W.width W.unlinked V.initial V.told) h.1 };
 }

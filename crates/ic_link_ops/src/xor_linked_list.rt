@@ -8,13 +8,14 @@
 ghost use Rattle.std.specs.Prelude.{◌≡◌, Option, [], ◌∷◌};
 ghost use Rattle.std.specs.Bool.{OnTrue, OnFalse};
 ghost use Rattle.ic_unsafe_ref.specs.declared.place.Place.{Place};
-ghost use Rattle.ic_link_ops.specs.Tables.{IsCovered, IsLinked, ChangesOnly};
+ghost use Rattle.ic_link_ops.specs.Tables.{IsCovered, IsLinked, IsNameable, ChangesOnly};
 ghost use Rattle.ic_link_ops.specs.LinkSteps.{acquires};
 
 use crate::lent_table::LentTable;
 use crate::link::{self, NextWord};
 use crate::link_ops;
 use crate::link_value::LinkValue;
+use crate::one_narrow_word::OneNarrowWord;
 use crate::one_word::OneWord;
 use crate::table::PlainTable;
 use crate::word::Word;
@@ -44,6 +45,8 @@ pub trait XorLinkedListOps: link_ops::LinkOps {
     /// Sets both neighbors of `place`. It requires that the place is linked. O(1).
     fn set(&mut self, place: Place, prev: Option<Place>, next: Option<Place>)
         requires linked { IsLinked Self.linked (Self.table self.old) place }
+        requires prev { IsNameable Self.CanName prev }
+        requires next { IsNameable Self.CanName next }
         ensures set { Joins ((Self.table self.new).entry place) prev next }
         ensures linked { IsLinked Self.linked (Self.table self.new) place }
         ensures frame { ChangesOnly (Self.table self.old) (Self.table self.new) place }
@@ -52,6 +55,8 @@ pub trait XorLinkedListOps: link_ops::LinkOps {
     /// Puts `new` where `old` stood beside `place`. It requires that the place is linked. O(1).
     fn replace_next_or_prev(&mut self, place: Place, old: Option<Place>, new: Option<Place>)
         requires linked { IsLinked Self.linked (Self.table self.old) place }
+        requires from { IsNameable Self.CanName old }
+        requires to { IsNameable Self.CanName new }
         ensures replaced { (x : Option Place) → Joins ((Self.table self.old).entry place) old x
             → Joins ((Self.table self.new).entry place) new x }
         ensures linked { IsLinked Self.linked (Self.table self.new) place }
@@ -64,6 +69,8 @@ pub trait XorLinkedListOps: link_ops::LinkOps {
     #[inline]
     fn link_between(&mut self, place: Place, prev: Option<Place>, next: Option<Place>) -> bool
         requires covered { IsCovered (Self.table self.old) place }
+        requires prev { IsNameable Self.CanName prev }
+        requires next { IsNameable Self.CanName next }
         ensures acquired { OnTrue result (Self.Does self.old self.new (acquires place ∷ [])) }
         ensures set { OnTrue result (Joins ((Self.table self.new).entry place) prev next) }
         ensures refused { OnFalse result (Self.Refused self.old self.new place) }
@@ -96,6 +103,15 @@ pub type LinkOps<A = Global> = PlainTable<OneWord<Xor>, A>;
 /// The plain table of XOR links with a value beside each.
 pub type LinkOpsWith<V, A = Global> = PlainTable<OneWord<Xor>, A, V>;
 
+/// What the table of narrow links keeps at a place, in half the bytes of a `Link`.
+pub type NarrowLink = link::Link<OneNarrowWord<Xor>>;
+
+/// The plain table of XOR links whose words have 4 bytes: half as large, and with room for 536,870,911 places.
+pub type NarrowLinkOps<A = Global> = PlainTable<OneNarrowWord<Xor>, A>;
+
+/// The plain table of narrow links with a value beside each.
+pub type NarrowLinkOpsWith<V, A = Global> = PlainTable<OneNarrowWord<Xor>, A, V>;
+
 impl link::Link<OneWord<Xor>> {
     ghost use Rattle.ic_link_ops.specs.Links.{words_of};
     ghost use Rattle.ic_link_ops.specs.OneWord.{next_word_of};
@@ -123,23 +139,24 @@ impl<W: NextWord, A: Allocator, V: LinkValue> XorLinkedListOps for PlainTable<W,
 
     #[inline]
     fn next(&self, place: Place, prev: Option<Place>) -> Option<Place> {
-        self.entries[place.index()].words.next_word().other(prev)
+        self.link(place).words.next_word().other(prev)
     }
 
     #[inline]
     fn prev(&self, place: Place, next: Option<Place>) -> Option<Place> {
-        self.entries[place.index()].words.next_word().other(next)
+        self.link(place).words.next_word().other(next)
     }
 
     #[inline]
     fn set(&mut self, place: Place, prev: Option<Place>, next: Option<Place>) {
-        let entry = &mut self.entries[place.index()];
+        let index = self.slot(place);
+        let entry = &mut self.entries[index];
         entry.words.set_next_word(Word::between(prev, next));
     }
 
     #[inline]
     fn link_between(&mut self, place: Place, prev: Option<Place>, next: Option<Place>) -> bool {
-        let index = place.index();
+        let index = self.slot(place);
         if self.entries[index].is_linked() {
             return false;
         }
@@ -150,7 +167,8 @@ impl<W: NextWord, A: Allocator, V: LinkValue> XorLinkedListOps for PlainTable<W,
 
     #[inline]
     fn replace_next_or_prev(&mut self, place: Place, old: Option<Place>, new: Option<Place>) {
-        let entry = &mut self.entries[place.index()];
+        let index = self.slot(place);
+        let entry = &mut self.entries[index];
         let word = entry.words.next_word();
         entry.words.set_next_word(word.replaced(old, new));
     }
@@ -183,13 +201,14 @@ impl<W: NextWord, V: LinkValue> XorLinkedListOps for LentTable<'_, W, V> {
 
     #[inline]
     fn set(&mut self, place: Place, prev: Option<Place>, next: Option<Place>) {
-        let link = &mut self.entries[place.index()];
+        let index = self.slot(place);
+        let link = &mut self.entries[index];
         link.words.set_next_word(Word::between(prev, next));
     }
 
     #[inline]
     fn link_between(&mut self, place: Place, prev: Option<Place>, next: Option<Place>) -> bool {
-        let index = place.index();
+        let index = self.slot(place);
         if self.entries[index].is_linked() {
             return false;
         }
@@ -200,7 +219,8 @@ impl<W: NextWord, V: LinkValue> XorLinkedListOps for LentTable<'_, W, V> {
 
     #[inline]
     fn replace_next_or_prev(&mut self, place: Place, old: Option<Place>, new: Option<Place>) {
-        let link = &mut self.entries[place.index()];
+        let index = self.slot(place);
+        let link = &mut self.entries[index];
         let word = link.words.next_word();
         link.words.set_next_word(word.replaced(old, new));
     }

@@ -5,15 +5,19 @@
 //! Tables::cover(&mut links, 1000)?; // both
 //! ```
 
-ghost use Rattle.std.specs.Prelude.{◌≡◌, ◌<◌, ◌↔◌, OnOk, Err};
+ghost use Rattle.std.specs.Prelude.{◌≡◌, ◌<◌, ◌↔◌, ℕ, min, OnOk, Err};
 ghost use Rattle.ic_unsafe_ref.specs.declared.place.Place.{Place};
 ghost use Rattle.ic_unsafe_ref.specs.Places.{index_of};
 
 use ic_link_ops::{CoverError, LinkValue, PlainTable, Words};
 use std::alloc::Allocator;
+use std::cmp::min;
 
 /// Tables of links that grow together: a plain table, or a pair of such tables.
 pub trait Tables {
+    // How many places are covered at most.
+    ghost most: { ℕ };
+
     // THE PLACE HAS ROOM for its link in each table.
     ghost Covers: { Self → Place → Type 0 };
 
@@ -23,12 +27,16 @@ pub trait Tables {
     // EACH ENTRY STAYS as it was, and what was covered is covered. The tables may have grown.
     ghost Keeps: { Self → Self → Type 0 };
 
+    /// How many places are covered at most: 4,294,967,296, or 536,870,911 if one of the tables has words of 4 bytes.
+    fn most_places() -> usize
+        ensures { result ≡ most };
+
     /// Covers the first `count` places in each table.
     ///
-    /// It is refused above 4,294,967,296 places, and where no memory is found. Then the first of two tables may have
+    /// It is refused above so many places, and where no memory is found. Then the first of two tables may have
     /// grown. Each link stays as it was. At most one request for memory a table.
     fn cover(&mut self, count: usize) -> Result<(), CoverError>
-        ensures too_many { (result ≡ Err CoverError.TooManyPlaces) ↔ 4294967296 < count }
+        ensures too_many { (result ≡ Err CoverError.TooManyPlaces) ↔ most < count }
         ensures covers { OnOk result ((place : Place) → index_of place < count → Covers self.new place) }
         ensures keeps { Keeps self.old self.new };
 
@@ -43,13 +51,21 @@ pub trait Tables {
 impl<W: Words, A: Allocator, V: LinkValue> Tables for PlainTable<W, A, V> {
     ghost use Rattle.ic_link_ops.specs.Tables.{IsCovered, IsUnlinked};
     ghost use Rattle.ic_link_ops.specs.PlainTables.{table_beside, linked_by};
+    ghost use Rattle.ic_link_ops.specs.Widths.{most_places};
     ghost use Rattle.ic_pool.specs.Pooled.{Grows, grows_room, grows_free, grows_itself};
 
-    ghost Covers = { λ t place. IsCovered (table_beside W.unlinked V.initial V.told t) place };
+    ghost most = { most_places W.width };
 
-    ghost IsFree = { λ t place. IsUnlinked (linked_by W.is_linked) (table_beside W.unlinked V.initial V.told t) place };
+    ghost Covers = { λ t place. IsCovered (table_beside W.width W.unlinked V.initial V.told t) place };
 
-    ghost Keeps = { λ old new. Grows (table_beside W.unlinked V.initial V.told old) (table_beside W.unlinked V.initial V.told new) };
+    ghost IsFree = { λ t place. IsUnlinked (linked_by W.is_linked) (table_beside W.width W.unlinked V.initial V.told t) place };
+
+    ghost Keeps = { λ old new. Grows (table_beside W.width W.unlinked V.initial V.told old) (table_beside W.width W.unlinked V.initial V.told new) };
+
+    #[inline]
+    fn most_places() -> usize {
+        W::most_places()
+    }
 
     #[inline]
     fn cover(&mut self, count: usize) -> Result<(), CoverError> {
@@ -60,18 +76,28 @@ impl<W: Words, A: Allocator, V: LinkValue> Tables for PlainTable<W, A, V> {
 
     ghost keeps_free = { λ old new place grows free. grows_free (linked_by W.is_linked) grows place free };
 
-    ghost keeps_itself = { λ tables. grows_itself (table_beside W.unlinked V.initial V.told tables) };
+    ghost keeps_itself = { λ tables. grows_itself (table_beside W.width W.unlinked V.initial V.told tables) };
 }
 
 /// Two tables, or pairs of tables: an object has a link in each.
 impl<L: Tables, M: Tables> Tables for (L, M) {
+    ghost most = { min L.most M.most };
+
     ghost Covers = { λ t place. L.Covers t.0 place × M.Covers t.1 place };
 
     ghost IsFree = { λ t place. L.IsFree t.0 place × M.IsFree t.1 place };
 
     ghost Keeps = { λ old new. L.Keeps old.0 new.0 × M.Keeps old.1 new.1 };
 
+    #[inline]
+    fn most_places() -> usize {
+        min(L::most_places(), M::most_places())
+    }
+
     fn cover(&mut self, count: usize) -> Result<(), CoverError> {
+        if count > min(L::most_places(), M::most_places()) {
+            return Err(CoverError::TooManyPlaces);
+        }
         self.0.cover(count)?;
         self.1.cover(count)
     }

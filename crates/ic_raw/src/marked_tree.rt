@@ -71,11 +71,15 @@ impl LinkOps for MarkedTree<'_> {
     ghost use Rattle.ic_raw.specs.MarkedTree.{marked_entries};
     ghost use Rattle.ic_raw.specs.Words.{no_tree_words, is_linked_three};
 
+    ghost use Rattle.std.specs.Prelude.{⊤};
+
     type Entry = RawThree;
 
     ghost table = { marked_table };
 
     ghost linked = { is_linked_three };
+
+    ghost CanName = { λ p. ⊤ };
 
     ghost Does = { λ old new s. Replays is_linked_three (marked_table old) (marked_table new) s };
 
@@ -96,6 +100,8 @@ impl LinkOps for MarkedTree<'_> {
     }
 
     ghost linked_is_covered = { λ t p h. linked_in_range is_linked_three no_tree_words refl (marked_entries t) (index_of p) h };
+
+    ghost covered_has_name = { λ t p covered. tt };
 
     ghost does_nothing = { λ t q. refl };
 

@@ -15,6 +15,7 @@ ghost use Rattle.ic_raw.specs.Answers.{refusal};
 ghost use Rattle.ic_raw.specs.Words.{place_of};
 
 use crate::number::place_of;
+use crate::words::AllPlaces;
 use crate::status::{BROKEN, LINKED, NONE, NOT_LINKED, OK, OUT_OF_RANGE};
 use ic_link_ops::linked_list::LinkedListOps;
 use ic_link_ops::singly_linked_list::SinglyLinkedListOps;
@@ -242,11 +243,15 @@ impl<W: Words> LinkOps for RawTable<'_, W> {
     ghost use Rattle.std.proofs.Common.{ap, refl};
     ghost use Rattle.ic_raw.specs.Tables.{raw_entries};
 
+    ghost use Rattle.std.specs.Prelude.{⊤};
+
     type Entry = W;
 
     ghost table = { raw_table W.unlinked };
 
     ghost linked = { W.is_linked };
+
+    ghost CanName = { λ p. ⊤ };
 
     ghost Does = { λ old new s. Replays W.is_linked (raw_table W.unlinked old) (raw_table W.unlinked new) s };
 
@@ -271,6 +276,8 @@ impl<W: Words> LinkOps for RawTable<'_, W> {
 
     ghost linked_is_covered = { λ t p h. linked_in_range W.is_linked W.unlinked W.starts_unlinked (raw_entries t) (index_of p) h };
 
+    ghost covered_has_name = { λ t p covered. tt };
+
     ghost does_nothing = { λ t q. refl };
 
     ghost does_on = { λ a b c s t h k. replays_on W.is_linked s t (raw_table W.unlinked a) (raw_table W.unlinked b) (raw_table W.unlinked c) h k };
@@ -280,7 +287,7 @@ impl<W: Words> LinkOps for RawTable<'_, W> {
     ghost refused_keeps = { λ old new p h. ap (raw_table W.unlinked) h.1 };
 }
 
-impl<W: PrevPlace> LinkedListOps for RawTable<'_, W> {
+impl<W: PrevPlace + AllPlaces> LinkedListOps for RawTable<'_, W> {
     ghost use Rattle.std.specs.Prelude.{refl};
     ghost use Rattle.ic_raw.specs.Tables.{neighbors_of};
 
@@ -311,7 +318,7 @@ impl<W: PrevPlace> LinkedListOps for RawTable<'_, W> {
     ghost linked_alike = { λ e. refl };
 }
 
-impl<W: NextWord> SinglyLinkedListOps for RawTable<'_, W> {
+impl<W: NextWord + AllPlaces> SinglyLinkedListOps for RawTable<'_, W> {
     ghost use Rattle.std.specs.Prelude.{refl};
     ghost use Rattle.ic_raw.specs.Tables.{successor_of};
 
@@ -331,7 +338,7 @@ impl<W: NextWord> SinglyLinkedListOps for RawTable<'_, W> {
     ghost linked_alike = { λ e. refl };
 }
 
-impl<W: NextWord> XorLinkedListOps for RawTable<'_, W> {
+impl<W: NextWord + AllPlaces> XorLinkedListOps for RawTable<'_, W> {
     ghost use Rattle.ic_link_ops.specs.XorLaws.{joins_symmetric, joins_one_other, joins_finds_other};
     ghost use Rattle.ic_raw.specs.Tables.{joins_of, other_of};
 

@@ -77,17 +77,42 @@ pub struct RawRoot {
     pub root: u64,
 }
 
+/// Words that have room for the name of each place.
+pub trait AllPlaces: Words {
+    ghost use Rattle.ic_link_ops.specs.Widths.{HasRoom, CanKeep};
+    ghost use Rattle.ic_unsafe_ref.specs.declared.place.Place.{Place};
+    ghost use Rattle.std.specs.Prelude.{ℕ};
+
+    // The laws.
+    ghost keeps_all: { (n : ℕ) → CanKeep Self.width n };
+
+    ghost names_all: { (p : Place) → HasRoom Self.width p };
+}
+
 impl Words for RawOne {
     ghost use Rattle.ic_raw.specs.Words.{no_word, is_linked_one};
     ghost use Rattle.std.specs.Prelude.{refl};
+    ghost use Rattle.ic_link_ops.specs.Widths.{wide};
 
     ghost unlinked = { no_word };
 
     ghost is_linked = { is_linked_one };
 
+    ghost width = { wide };
+
     #[inline]
     fn unlinked() -> Self {
         RawOne { next: 0 }
+    }
+
+    #[inline]
+    fn most_places() -> usize {
+        Place::COUNT
+    }
+
+    #[inline]
+    fn count_nameable(places: usize) -> usize {
+        places
     }
 
     #[inline]
@@ -106,6 +131,12 @@ impl Words for RawOne {
     }
 
     ghost starts_unlinked = { refl };
+}
+
+impl AllPlaces for RawOne {
+    ghost keeps_all = { λ n. tt };
+
+    ghost names_all = { λ p. tt };
 }
 
 impl NextWord for RawOne {
@@ -126,19 +157,34 @@ impl NextWord for RawOne {
     fn set_next_word(&mut self, word: Word) {
         self.next = word.bits() + 1;
     }
+
+    ghost next_word_kept = { λ w linked. tt };
 }
 
 impl Words for RawTwo {
     ghost use Rattle.ic_raw.specs.Words.{no_words, is_linked_two};
     ghost use Rattle.std.specs.Prelude.{refl};
+    ghost use Rattle.ic_link_ops.specs.Widths.{wide};
 
     ghost unlinked = { no_words };
 
     ghost is_linked = { is_linked_two };
 
+    ghost width = { wide };
+
     #[inline]
     fn unlinked() -> Self {
         RawTwo { next: 0, prev: 0 }
+    }
+
+    #[inline]
+    fn most_places() -> usize {
+        Place::COUNT
+    }
+
+    #[inline]
+    fn count_nameable(places: usize) -> usize {
+        places
     }
 
     #[inline]
@@ -159,6 +205,12 @@ impl Words for RawTwo {
     ghost starts_unlinked = { refl };
 }
 
+impl AllPlaces for RawTwo {
+    ghost keeps_all = { λ n. tt };
+
+    ghost names_all = { λ p. tt };
+}
+
 impl NextWord for RawTwo {
     ghost use Rattle.ic_raw.specs.Words.{next_of_two, prev_of_two};
 
@@ -176,6 +228,8 @@ impl NextWord for RawTwo {
     fn set_next_word(&mut self, word: Word) {
         self.next = word.bits() + 1;
     }
+
+    ghost next_word_kept = { λ w linked. tt };
 }
 
 impl PrevPlace for RawTwo {
@@ -234,10 +288,13 @@ impl RawTwo {
 impl Words for RawThree {
     ghost use Rattle.ic_raw.specs.Words.{no_tree_words, is_linked_three};
     ghost use Rattle.std.specs.Prelude.{refl};
+    ghost use Rattle.ic_link_ops.specs.Widths.{wide};
 
     ghost unlinked = { no_tree_words };
 
     ghost is_linked = { is_linked_three };
+
+    ghost width = { wide };
 
     #[inline]
     fn unlinked() -> Self {
@@ -246,6 +303,16 @@ impl Words for RawThree {
             right: 0,
             parent: 0,
         }
+    }
+
+    #[inline]
+    fn most_places() -> usize {
+        Place::COUNT
+    }
+
+    #[inline]
+    fn count_nameable(places: usize) -> usize {
+        places
     }
 
     #[inline]
@@ -264,6 +331,12 @@ impl Words for RawThree {
     }
 
     ghost starts_unlinked = { refl };
+}
+
+impl AllPlaces for RawThree {
+    ghost keeps_all = { λ n. tt };
+
+    ghost names_all = { λ p. tt };
 }
 
 impl RawFront {

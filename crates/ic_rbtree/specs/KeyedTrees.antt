@@ -9,12 +9,13 @@ use Rattle.ic_link_ops.specs.PlainTables.{entries, table_beside, values_beside}
 use Rattle.ic_link_ops.specs.RedBlackTree.{Shows}
 use Rattle.ic_link_ops.specs.Tables.{Table}
 use Rattle.ic_link_ops.specs.ThreeWords.{no_words, node_of}
+use Rattle.ic_link_ops.specs.Widths.{wide}
 use Rattle.ic_rbtree.specs.SortedObjects.{ShowsSorted}
 
 module _ {A : Type 0} where
   -- what clauses see of it, and its keys by place
   abbrev pub keyed_table : PlainTable ThreeWords A ℕ → Table (Link ThreeWords ℕ)
-  keyed_table links = table_beside no_words 0 (λ s. s) links
+  keyed_table links = table_beside wide no_words 0 (λ s. s) links
 
   abbrev pub keys_of : PlainTable ThreeWords A ℕ → Objects ℕ
   keys_of links = at_indexes (values_beside (entries links))

@@ -72,11 +72,12 @@ pub fn bypass<L: LinkedListOps>(links: &mut L, before: Place, behind: Place)
 
 /// Turns two places to a third one, which stands between them already, and is in their ring then. O(1).
 ///
-/// It requires only that both are linked. Linux: `__list_add`, whose other two writes are the table's `link_between`.
+/// It requires only that both are linked, and that the table's words have room for the third. Linux: `__list_add`, whose other two writes are the table's `link_between`.
 #[inline]
 pub fn turn_to<L: LinkedListOps>(links: &mut L, before: Place, place: Place, behind: Place)
     requires before { IsLinked L.linked (L.table links.old) before }
     requires behind { IsLinked L.linked (L.table links.old) behind }
+    requires place { L.CanName place }
     ensures filled { (r : List Place) → IsCircle L.neighbors (L.table links.old).entry r → IsAbsent place r
         → Some before ≡ last r → Some behind ≡ first r
         → IsBetween L.neighbors ((L.table links.old).entry place) (Some before) (Some behind)
@@ -97,7 +98,9 @@ pub(crate) fn set_neighbors<L: LinkedListOps>(
     before: Place,
     behind: Place,
 )
-    requires { IsLinked L.linked (L.table links.old) place }
+    requires linked { IsLinked L.linked (L.table links.old) place }
+    requires before { L.CanName before }
+    requires behind { L.CanName behind }
     ensures stands { IsBetween L.neighbors ((L.table links.new).entry place) (Some before) (Some behind) }
     ensures frame { ChangesOnly (L.table links.old) (L.table links.new) place }
     ensures no_step { L.Does links.old links.new [] }

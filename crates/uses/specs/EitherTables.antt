@@ -30,6 +30,11 @@ module _ {L E : Type 0} (table : L → Table E) where
   one_of (First t) = with_extent (numbered 0 (table t).extent) (table t)
   one_of (Second t) = with_extent (numbered 1 (table t).extent) (table t)
 
+  pub has_name : (can : Place → Type 0) → ((t : L) (p : Place) → IsCovered (table t) p → can p)
+      → (t : EitherTable L) (p : Place) → IsCovered (one_of t) p → can p
+  has_name can law (First t) p h = law t p h
+  has_name can law (Second t) p h = law t p h
+
   module _ (linked : E → Bool) where
     pub covered : ((t : L) (p : Place) → IsLinked linked (table t) p → IsCovered (table t) p)
         → (t : EitherTable L) (p : Place) → IsLinked linked (one_of t) p → IsCovered (one_of t) p

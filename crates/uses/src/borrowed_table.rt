@@ -52,6 +52,8 @@ impl<L: LinkOps> LinkOps for BorrowedTable<'_, L> {
 
     ghost linked = { L.linked };
 
+    ghost CanName = { L.CanName };
+
     ghost Does = { λ old new s. L.Does (links_of old) (links_of new) s };
 
     ghost Refused = { λ old new p. L.Refused (links_of old) (links_of new) p × (borrowed L.table new ≡ borrowed L.table old) };
@@ -67,6 +69,8 @@ impl<L: LinkOps> LinkOps for BorrowedTable<'_, L> {
     }
 
     ghost linked_is_covered = { λ t p h. L.linked_is_covered (links_of t) p h };
+
+    ghost covered_has_name = { λ t p covered. L.covered_has_name (links_of t) p covered };
 
     ghost does_nothing = { λ t. L.does_nothing (links_of t) };
 

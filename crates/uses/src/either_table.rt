@@ -27,13 +27,15 @@ pub enum EitherTable<L> {
 }
 
 impl<L: LinkOps> LinkOps for EitherTable<L> {
-    ghost use Rattle.uses.specs.EitherTables.{one_of, Alike, covered, replay, kept, nothing, on};
+    ghost use Rattle.uses.specs.EitherTables.{one_of, Alike, covered, has_name, replay, kept, nothing, on};
 
     type Entry = L::Entry;
 
     ghost table = { one_of L.table };
 
     ghost linked = { L.linked };
+
+    ghost CanName = { L.CanName };
 
     ghost Does = { Alike L.Does };
 
@@ -56,6 +58,8 @@ impl<L: LinkOps> LinkOps for EitherTable<L> {
     }
 
     ghost linked_is_covered = { covered L.table L.linked L.linked_is_covered };
+
+    ghost covered_has_name = { has_name L.table L.CanName L.covered_has_name };
 
     ghost does_nothing = { nothing L.Does L.does_nothing };
 

@@ -59,6 +59,8 @@ impl<L: LinkOps, R: Recorder> LinkOps for RecordedTable<L, R> {
 
     ghost linked = { L.linked };
 
+    ghost CanName = { L.CanName };
+
     ghost Does = { λ old new s. L.Does old.links new.links s
         × (R.notes new.recorder ≡ R.notes old.recorder ++ noted s) };
 
@@ -81,6 +83,8 @@ impl<L: LinkOps, R: Recorder> LinkOps for RecordedTable<L, R> {
     }
 
     ghost linked_is_covered = { λ t p h. L.linked_is_covered t.links p h };
+
+    ghost covered_has_name = { λ t p covered. L.covered_has_name t.links p covered };
 
     ghost does_nothing = { λ t. (L.does_nothing t.links, noted_none (R.notes t.recorder)) };
 

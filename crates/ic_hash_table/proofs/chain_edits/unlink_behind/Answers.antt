@@ -1,6 +1,7 @@
 use Rattle.std.proofs.Common.{[], ◌∷◌, sym, ◌∙◌}
+use Rattle.ic_link_ops.proofs.Naming.{end_named}
 use Rattle.ic_link_ops.proofs.SequenceLemmas.{absent_right, distinct_middle, beside_not}
-use Rattle.ic_link_ops.proofs.ShownLists.{shows_middle, gap_linked, shows_beside}
+use Rattle.ic_link_ops.proofs.ShownLists.{shows_middle, gap_linked, next_linked, shows_beside}
 use Rattle.ic_link_ops.proofs.SinglyLists.{followed_linked}
 use Rattle.ic_hash_table.proofs.Chains.{chain_of_list}
 use Rattle.ic_hash_table.proofs.chain_edits.unlink_behind.Goals as goal
@@ -16,6 +17,8 @@ bypass-requires g c =
     let m = c.requires.member in record {
       before = λ q e. gap_linked (followed_linked g.met.L.SinglyLinkedListOps.linked_alike) m.0 (c.args.place ∷ m.1) m.2 (sym e ∙ m.3);
       behind = λ no. absurd no;
+      next = end_named _ _ (λ q e. g.met.L.LinkOps.covered_has_name _ q (g.met.L.LinkOps.linked_is_covered _ q (next_linked (followed_linked g.met.L.SinglyLinkedListOps.linked_alike) m.0 c.args.place m.1 m.2 (sym e ∙ c.next-behind.ensures ∙ (shows_middle m.0 m.1 m.2).next))));
+      out = g.met.L.LinkOps.covered_has_name _ _ (g.met.L.LinkOps.linked_is_covered _ _ (followed_linked g.met.L.SinglyLinkedListOps.linked_alike _ _ _ (shows_middle m.0 m.1 m.2)));
     }
 
 pub release_link-requires : goal.release_link-requires

@@ -2,7 +2,9 @@ use Rattle.std.proofs.Common.{IsSome, [], refl, sym, subst, ◌∙◌}
 use Rattle.ic_unsafe_ref.specs.Objects.{object_at}
 use Rattle.ic_link_ops.specs.Sequences.{IsAbsent}
 use Rattle.ic_link_ops.proofs.Clearing.{releases_fewer}
-use Rattle.ic_link_ops.proofs.SinglyLists.{successors_covered, members_shown}
+use Rattle.ic_link_ops.proofs.Naming.{end_named}
+use Rattle.ic_link_ops.proofs.ShownLists.{gap_behind_linked}
+use Rattle.ic_link_ops.proofs.SinglyLists.{followed_linked, successors_covered, members_shown}
 use Rattle.ic_hash_table.proofs.ChainParts.{of_member, part_none, left_linked, left_member, part_either}
 use Rattle.ic_hash_table.proofs.growth.part_chain.Goals as goal
 
@@ -28,7 +30,12 @@ pub link_either-halves-requires : goal.link_either-halves-requires
 link_either-halves-requires g c =
     let r = c.requires.placed in
     let k = (rw c.in-Some.is at (c.loop-rest.invariant.each r.members r.shown)).0 in
-    record { linked = sym (g.met.L.SinglyLinkedListOps.linked_alike _) ∙ left_linked k }
+    let law = followed_linked g.met.L.SinglyLinkedListOps.linked_alike in
+    record {
+      linked = sym (g.met.L.SinglyLinkedListOps.linked_alike _) ∙ left_linked k;
+      first = end_named _ _ (λ q e. g.met.L.LinkOps.covered_has_name _ q (g.met.L.LinkOps.linked_is_covered _ q (gap_behind_linked law [] k.staying k.shows_staying (sym e ∙ k.shows_staying.head))));
+      second = end_named _ _ (λ q e. g.met.L.LinkOps.covered_has_name _ q (g.met.L.LinkOps.linked_is_covered _ q (gap_behind_linked law [] k.moving k.shows_moving (sym e ∙ k.shows_moving.head))));
+    }
 
 pub loop-rest-smaller : goal.loop-rest-smaller
 loop-rest-smaller g c =

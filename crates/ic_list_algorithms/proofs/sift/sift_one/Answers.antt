@@ -2,6 +2,7 @@ use Rattle.std.proofs.Common.{true, false, [], ◌∷◌, refl, sym, ◌∙◌, 
 use Rattle.ic_link_ops.proofs.SequenceLemmas.{absent_right, beside_not, distinct_middle, last_of_push}
 use Rattle.ic_link_ops.proofs.ShownLists.{shows_middle, shows_beside, gap_linked, next_linked}
 use Rattle.ic_chain.proofs.Standing.{next_is}
+use Rattle.ic_link_ops.proofs.Naming.{end_named}
 use Rattle.ic_list_algorithms.proofs.sift.sift_one.Goals as goal
 
 pub next-behind-requires : goal.next-behind-requires
@@ -14,6 +15,14 @@ pub bypass-requires-clause-behind : goal.bypass-requires-clause-behind
 bypass-requires-clause-behind g c names q e =
     let r = c.requires.shown in
     next_linked g.met.K.ForwardLinks.between_linked r.0 c.args.member r.1 r.2 (sym e ∙ next_is g.met.K.ForwardLinks.leads r.0 r.1 r.2 r.3 c.next-behind.ensures)
+
+pub bypass-requires-clause-next : goal.bypass-requires-clause-next
+bypass-requires-clause-next g c =
+    let r = c.requires.shown in
+    end_named _ _ (λ q e. g.met.L.LinkOps.covered_has_name _ q (g.met.L.LinkOps.linked_is_covered _ q (next_linked g.met.K.ForwardLinks.between_linked r.0 c.args.member r.1 r.2 (sym e ∙ next_is g.met.K.ForwardLinks.leads r.0 r.1 r.2 r.3 c.next-behind.ensures))))
+
+pub bypass-requires-clause-out : goal.bypass-requires-clause-out
+bypass-requires-clause-out g c = let r = c.requires.shown in g.met.L.LinkOps.covered_has_name _ _ (g.met.L.LinkOps.linked_is_covered _ _ (g.met.K.ForwardLinks.between_linked _ _ _ (shows_middle r.0 r.1 r.2)))
 
 pub release_link-requires : goal.release_link-requires
 release_link-requires g c =

@@ -3,6 +3,7 @@ use Rattle.std.specs.Prelude.{take}
 use Rattle.ic_link_ops.specs.Sequences.{at_back}
 use Rattle.ic_link_ops.proofs.ShownLists.{last_linked, gap_linked, gap_behind_linked}
 use Rattle.ic_list_algorithms.proofs.TurnedLists.{cut_shown, parts_apart, turned_frame}
+use Rattle.ic_link_ops.proofs.Naming.{end_named}
 use Rattle.ic_list_algorithms.proofs.whole.rotate_left.Goals as goal
 
 pub split_between-rest-requires-clause-before : goal.split_between-rest-requires-clause-before
@@ -48,6 +49,20 @@ splice_between-requires-clause-end g c q e =
     let gap = c.gap_at-before.ensures s.0 s.1 in
     let parts = c.split_between-rest.ensures.split (record { front = take n s.0; back = drop n s.0 }) (cut_shown n s.1) gap.0 gap.1 in
     last_linked g.met.K.ForwardLinks.between_linked parts.keeps (sym e ∙ gap.0)
+
+pub split_between-rest-requires-clause-next : goal.split_between-rest-requires-clause-next
+split_between-rest-requires-clause-next g c =
+    let n = c.args.n in
+    let s = c.requires.shown in
+    end_named _ _ (λ q e. g.met.L.LinkOps.covered_has_name _ q (g.met.L.LinkOps.linked_is_covered _ q (gap_behind_linked g.met.K.ForwardLinks.between_linked (take n s.0) (drop n s.0) (cut_shown n s.1) (sym e ∙ (c.gap_at-before.ensures s.0 s.1).1))))
+
+pub splice_between-requires-clause-given : goal.splice_between-requires-clause-given
+splice_between-requires-clause-given g c =
+    let n = c.args.n in
+    let s = c.requires.shown in
+    let gap = c.gap_at-before.ensures s.0 s.1 in
+    let parts = c.split_between-rest.ensures.split (record { front = take n s.0; back = drop n s.0 }) (cut_shown n s.1) gap.0 gap.1 in
+    end_named _ _ (λ q e. g.met.L.LinkOps.covered_has_name _ q (g.met.L.LinkOps.linked_is_covered _ q (gap_behind_linked g.met.K.ForwardLinks.between_linked [] (take n s.0) parts.keeps (sym (rw c.take-front.ensures.whole at e) ∙ parts.keeps.head))))
 
 pub returns-clause-rotated : goal.returns-clause-rotated
 returns-clause-rotated g c s shown =

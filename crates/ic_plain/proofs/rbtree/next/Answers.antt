@@ -9,5 +9,5 @@ next_of-requires g c = record { stands = stands_on c.requires.member c.of.ensure
 pub returns : goal.returns
 returns g c = record {
   next = λ front back shown.
-      c.get.ensures ∙ c.next_of.ensures.moved.leads (record { front = front ++ c.args.place ∷ []; back = back }) (rw append_assoc shown) (c.of.ensures ∙ sym (last_of_push front c.args.place));
+      c.get.ensures ∙ c.next_of.ensures.moved.leads (record { front = front ++ c.args.place ∷ []; back = back }) (rw (append_assoc front (c.args.place ∷ []) back) shown) (c.of.ensures ∙ sym (last_of_push front c.args.place));
 }

@@ -31,7 +31,7 @@ returns-in_default-beside-clause-cuts c (x ∷ r) (y ∷ s) circle last_r last_s
     ∙ c.beside-2.ensures.tells (c.args.other, x) (part_tells (lent_table c.args.links.now) y s x r (rotated {n = neighbors} (x ∷ r) (y ∷ s) circle) last_s) refl))
 
 pub set_next-requires : goal.set_next-requires
-set_next-requires c = let a = c.beside.ensures.told c.in-Some.first c.in-Some.is in record { linked = rw a.1 at a.0.linked }
+set_next-requires c = let a = c.beside.ensures.told c.in-Some.first c.in-Some.is in record { linked = rw a.1 at a.0.linked; next = tt }
 
 pub returns-clause-joins : goal.returns-clause-joins
 returns-clause-joins c [] s circle ring apart last_r last_s = absurd (none_not c.args.one last_r)

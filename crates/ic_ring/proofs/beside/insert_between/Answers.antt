@@ -3,6 +3,15 @@ use Rattle.ic_ring.proofs.Circles.{prev_linked, prev_not, head_linked, stays_lin
 use Rattle.ic_ring.proofs.OtherRings.{others_stay_beside}
 use Rattle.ic_ring.proofs.beside.insert_between.Goals as goal
 
+pub link_between-requires : goal.link_between-requires
+link_between-requires g c =
+    let alike = g.met.L.LinkedListOps.linked_alike in
+    let ring = c.requires.ring in record {
+      covered = c.requires.covered;
+      prev = g.met.L.LinkOps.covered_has_name _ _ (g.met.L.LinkOps.linked_is_covered _ _ (prev_linked alike ring.0 ring.1 c.requires.before));
+      next = g.met.L.LinkOps.covered_has_name _ _ (g.met.L.LinkOps.linked_is_covered _ _ (head_linked alike ring.1));
+    }
+
 pub turn_to-requires : goal.turn_to-requires
 turn_to-requires g c =
     let alike = g.met.L.LinkedListOps.linked_alike in
@@ -10,6 +19,7 @@ turn_to-requires g c =
     let ring = c.requires.ring in record {
       before = stays_linked c.args.before links (prev_linked alike ring.0 ring.1 c.requires.before);
       behind = stays_linked c.args.behind links (head_linked alike ring.1);
+      place = g.met.L.LinkOps.covered_has_name _ _ c.requires.covered;
     }
 
 pub returns-clause-inserted : goal.returns-clause-inserted

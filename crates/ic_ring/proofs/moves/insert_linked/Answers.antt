@@ -2,6 +2,15 @@ use Rattle.std.proofs.Common.{[], refl, sym, ◌∙◌}
 use Rattle.ic_ring.proofs.Circles.{head_linked, prev_linked, prev_stands, circle_beside, circle_untouched, before_apart}
 use Rattle.ic_ring.proofs.moves.insert_linked.Goals as goal
 
+pub set_neighbors-requires : goal.set_neighbors-requires
+set_neighbors-requires g c =
+    let alike = g.met.L.LinkedListOps.linked_alike in
+    let ring = c.requires.ring in record {
+      linked = c.requires.held;
+      before = g.met.L.LinkOps.covered_has_name _ _ (g.met.L.LinkOps.linked_is_covered _ _ (prev_linked alike ring.0 ring.1 c.requires.before));
+      behind = g.met.L.LinkOps.covered_has_name _ _ (g.met.L.LinkOps.linked_is_covered _ _ (head_linked alike ring.1));
+    }
+
 pub turn_to-requires : goal.turn_to-requires
 turn_to-requires g c =
     let alike = g.met.L.LinkedListOps.linked_alike in
@@ -9,6 +18,7 @@ turn_to-requires g c =
     let ring = c.requires.ring in record {
       before = kept c.args.before ∙ prev_linked alike ring.0 ring.1 c.requires.before;
       behind = kept c.args.behind ∙ head_linked alike ring.1;
+      place = g.met.L.LinkOps.covered_has_name _ _ (g.met.L.LinkOps.linked_is_covered _ _ c.requires.held);
     }
 
 pub returns-clause-put : goal.returns-clause-put

@@ -4,7 +4,7 @@ use Rattle.ic_ring.proofs.Circles.{circle_closed}
 use Rattle.ic_ring.proofs.surgery.bypass.Goals as goal
 
 pub set_prev-requires : goal.set_prev-requires
-set_prev-requires g c = record { linked = g.met.L.LinkOps.does_replay _ _ [] c.set_next.ensures.no_step c.args.behind ∙ c.requires.behind }
+set_prev-requires g c = record { linked = g.met.L.LinkOps.does_replay _ _ [] c.set_next.ensures.no_step c.args.behind ∙ c.requires.behind; prev = g.met.L.LinkOps.covered_has_name _ _ (g.met.L.LinkOps.linked_is_covered _ _ c.requires.before) }
 
 pub returns-clause-closed : goal.returns-clause-closed
 returns-clause-closed g c p r circle before behind =

@@ -5,7 +5,7 @@ use Rattle.ic_ring.proofs.Circles.{circle_filled}
 use Rattle.ic_ring.proofs.surgery.turn_to.Goals as goal
 
 pub set_prev-requires : goal.set_prev-requires
-set_prev-requires g c = record { linked = g.met.L.LinkOps.does_replay _ _ [] c.set_next.ensures.no_step c.args.behind ∙ c.requires.behind }
+set_prev-requires g c = record { linked = g.met.L.LinkOps.does_replay _ _ [] c.set_next.ensures.no_step c.args.behind ∙ c.requires.behind; prev = c.requires.place }
 
 pub returns-clause-filled : goal.returns-clause-filled
 returns-clause-filled g c r circle out before behind stands =

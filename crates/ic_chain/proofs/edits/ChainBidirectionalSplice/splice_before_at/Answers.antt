@@ -1,6 +1,7 @@
 use Rattle.std.proofs.Common.{inl, [], ◌++◌, ◌∙◌, append_assoc, sym, refl}
 use Rattle.ic_link_ops.proofs.ShownLists.{gap_linked, gap_behind_linked, last_linked}
 use Rattle.ic_link_ops.proofs.Positions.{gap_there, put_in_front}
+use Rattle.ic_link_ops.proofs.Naming.{end_named}
 use Rattle.ic_chain.proofs.Standing.{stands, stays, last_kept}
 use Rattle.ic_chain.proofs.edits.ChainBidirectionalSplice.splice_before_at.Goals as goal
 
@@ -21,6 +22,12 @@ splice_between-requires-clause-first g c names q e =
 pub splice_between-requires-clause-end : goal.splice_between-requires-clause-end
 splice_between-requires-clause-end g c q e =
     let given = c.requires.given in last_linked g.met.K.ForwardLinks.between_linked given.1 (sym e ∙ c.last-last.ensures ∙ last_kept g.K.ListKind.kept g.K.ListKind.kept_last g.met.K.DoubleEnded.keeps_both g.met.K.ListKind.tells_last given.1.tail)
+
+pub splice_between-requires-clause-next : goal.splice_between-requires-clause-next
+splice_between-requires-clause-next g c =
+    let L = g.met.L.LinkOps in
+    let k = gap_there (stands c.requires.stands) in
+    end_named _ _ (λ q e. L.covered_has_name _ q (L.linked_is_covered _ q (gap_behind_linked g.met.K.ForwardLinks.between_linked k.0.front k.0.back k.1 (sym e ∙ c.get-current.ensures ∙ k.2))))
 
 pub returns-clause-spliced : goal.returns-clause-spliced
 returns-clause-spliced g c =

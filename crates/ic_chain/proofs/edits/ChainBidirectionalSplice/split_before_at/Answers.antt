@@ -5,6 +5,7 @@ use Rattle.ic_link_ops.proofs.SequenceLemmas.{absent_turned}
 use Rattle.ic_link_ops.proofs.ShownLists.{gap_linked, gap_behind_linked}
 use Rattle.ic_link_ops.proofs.Positions.{gap_there, split_in_front}
 use Rattle.ic_link_ops.specs.Chains.{ShowsChain}
+use Rattle.ic_link_ops.proofs.Naming.{end_named}
 use Rattle.ic_chain.proofs.Standing.{stands, stays}
 use Rattle.ic_chain.proofs.edits.ChainBidirectionalSplice.split_before_at.Goals as goal
 use Rattle.ic_chain.proofs.edits.ChainBidirectionalSplice.split_before_at.Given.{Over}
@@ -18,6 +19,12 @@ pub split_between-rest-requires-clause-behind : goal.split_between-rest-requires
 split_between-rest-requires-clause-behind g c names q e =
     let k = gap_there (stands c.requires.stands) in
     gap_behind_linked g.met.K.ForwardLinks.between_linked k.0.front k.0.back k.1 (sym e ∙ c.get-current.ensures ∙ k.2)
+
+pub split_between-rest-requires-clause-next : goal.split_between-rest-requires-clause-next
+split_between-rest-requires-clause-next g c =
+    let L = g.met.L.LinkOps in
+    let k = gap_there (stands c.requires.stands) in
+    end_named _ _ (λ q e. L.covered_has_name _ q (L.linked_is_covered _ q (gap_behind_linked g.met.K.ForwardLinks.between_linked k.0.front k.0.back k.1 (sym e ∙ c.get-current.ensures ∙ k.2))))
 
 -- what is kept and what is handed out, by the gap in front of the position
 splits : (g : Over) (c : goal.After-replace g) (gap : Cut) → ShowsChain g.K.ForwardLinks.Between g.K.ListKind.kept (g.L.LinkOps.table c.args.links.now) c.args.self.now (join gap)

@@ -3,6 +3,7 @@ use Rattle.std.specs.Option.{option_or}
 use Rattle.ic_link_ops.specs.Sequences.{first}
 use Rattle.ic_link_ops.proofs.ShownLists.{gap_linked, gap_behind_linked, last_linked}
 use Rattle.ic_link_ops.proofs.Positions.{put_behind}
+use Rattle.ic_link_ops.proofs.Naming.{end_named}
 use Rattle.ic_chain.proofs.Standing.{first_of_both, stands_here}
 use Rattle.ic_chain.proofs.Walking.{told_some}
 use Rattle.ic_chain.proofs.edits.ChainSplice.splice_after_at.Goals as goal
@@ -23,6 +24,12 @@ splice_between-requires-clause-first g c names q e =
 pub splice_between-requires-clause-end : goal.splice_between-requires-clause-end
 splice_between-requires-clause-end g c q e =
     let given = c.requires.given in last_linked g.met.K.ForwardLinks.between_linked given.1 (told_some _ _ (rw e at (c.last_before-last.ensures given.0 given.1)))
+
+pub splice_between-requires-clause-next : goal.splice_between-requires-clause-next
+splice_between-requires-clause-next g c =
+    let L = g.met.L.LinkOps in
+    let at = c.requires.stands in
+    end_named _ _ (λ q e. L.covered_has_name _ q (L.linked_is_covered _ q (gap_behind_linked g.met.K.ForwardLinks.between_linked at.gap.front at.gap.back at.shown (sym e ∙ c.behind-behind.ensures at.gap at.shown at.after))))
 
 pub returns-clause-spliced : goal.returns-clause-spliced
 returns-clause-spliced g c =

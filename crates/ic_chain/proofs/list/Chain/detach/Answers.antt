@@ -2,6 +2,7 @@ use Rattle.std.proofs.Common.{◌∙◌, sym, None, ◌∷◌, []}
 use Rattle.ic_link_ops.specs.Sequences.{first}
 use Rattle.ic_link_ops.proofs.SequenceLemmas.{beside_not}
 use Rattle.ic_link_ops.proofs.ShownLists.{shows_middle, gap_linked, next_linked}
+use Rattle.ic_link_ops.proofs.Naming.{end_named}
 use Rattle.ic_chain.proofs.Standing.{next_is, one_shown}
 use Rattle.ic_chain.proofs.list.Chain.detach.Goals as goal
 
@@ -24,6 +25,20 @@ bypass-requires-clause-behind g c names q e =
     let middle = shows_middle m.front m.back m.shown in
     let before = c.prev-before.ensures ∙ g.met.K.NamesBoth.tells_before _ None (first m.back) ∙ g.met.K.BidirectionalLinks.leads_back _ _ _ middle in
     next_linked g.met.K.ForwardLinks.between_linked m.front c.args.place m.back m.shown (sym e ∙ next_is g.met.K.ForwardLinks.leads m.front m.back m.shown before c.next-behind.ensures)
+
+pub bypass-requires-clause-next : goal.bypass-requires-clause-next
+bypass-requires-clause-next g c =
+    let L = g.met.L.LinkOps in
+    let m = c.requires.member in
+    let middle = shows_middle m.front m.back m.shown in
+    let before = c.prev-before.ensures ∙ g.met.K.NamesBoth.tells_before _ None (first m.back) ∙ g.met.K.BidirectionalLinks.leads_back _ _ _ middle in
+    end_named _ _ (λ q e. L.covered_has_name _ q (L.linked_is_covered _ q (next_linked g.met.K.ForwardLinks.between_linked m.front c.args.place m.back m.shown (sym e ∙ next_is g.met.K.ForwardLinks.leads m.front m.back m.shown before c.next-behind.ensures))))
+
+pub bypass-requires-clause-out : goal.bypass-requires-clause-out
+bypass-requires-clause-out g c =
+    let L = g.met.L.LinkOps in
+    let m = c.requires.member in
+    L.covered_has_name _ _ (L.linked_is_covered _ _ (g.met.K.ForwardLinks.between_linked _ _ _ (shows_middle m.front m.back m.shown)))
 
 pub returns-clause-removed : goal.returns-clause-removed
 returns-clause-removed g c front back shown =

@@ -2,17 +2,42 @@ use Rattle.std.proofs.Common.{refl, sym, ◌∙◌}
 use Rattle.ic_link_ops.proofs.SequenceLemmas.{gap_not}
 use Rattle.ic_link_ops.proofs.ShownLists.{shows_beside, shows_insert, free_absent, gap_linked, gap_behind_linked}
 use Rattle.ic_link_ops.specs.Chains.{list_head}
+use Rattle.ic_link_ops.proofs.Naming.{end_named}
 use Rattle.ic_chain.proofs.list.Chain.insert_between.Goals as goal
 
-pub set_next_or_head-requires : goal.set_next_or_head-requires
-set_next_or_head-requires g c q e =
+pub link_between-requires-clause-prev : goal.link_between-requires-clause-prev
+link_between-requires-clause-prev g c =
+    let L = g.met.L.LinkOps in
+    let r = c.requires.shown in
+    end_named _ _ (λ q e. L.covered_has_name _ q (L.linked_is_covered _ q (gap_linked g.met.K.ForwardLinks.between_linked r.0.front r.0.back r.1 (sym e ∙ r.2))))
+
+pub link_between-requires-clause-next : goal.link_between-requires-clause-next
+link_between-requires-clause-next g c =
+    let L = g.met.L.LinkOps in
+    let r = c.requires.shown in
+    end_named _ _ (λ q e. L.covered_has_name _ q (L.linked_is_covered _ q (gap_behind_linked g.met.K.ForwardLinks.between_linked r.0.front r.0.back r.1 (sym e ∙ r.3))))
+
+pub set_next_or_head-requires-clause-from : goal.set_next_or_head-requires-clause-from
+set_next_or_head-requires-clause-from g c =
+    let L = g.met.L.LinkOps in
+    let r = c.requires.shown in
+    end_named _ _ (λ q e. L.covered_has_name _ q (L.linked_is_covered _ q (gap_behind_linked g.met.K.ForwardLinks.between_linked r.0.front r.0.back r.1 (sym e ∙ r.3))))
+
+pub set_prev_or_tail-requires-clause-from : goal.set_prev_or_tail-requires-clause-from
+set_prev_or_tail-requires-clause-from g c =
+    let L = g.met.L.LinkOps in
+    let r = c.requires.shown in
+    end_named _ _ (λ q e. L.covered_has_name _ q (L.linked_is_covered _ q (gap_linked g.met.K.ForwardLinks.between_linked r.0.front r.0.back r.1 (sym e ∙ r.2))))
+
+pub set_next_or_head-requires-clause-linked : goal.set_next_or_head-requires-clause-linked
+set_next_or_head-requires-clause-linked g c q e =
     let r = c.requires.shown in
     let a = c.if-not-link_between.ensures in
     let out = free_absent g.met.K.ForwardLinks.between_linked r.1 (g.met.L.LinkOps.does_replay _ _ _ a.acquired).was in
     gap_linked g.met.K.ForwardLinks.between_linked r.0.front r.0.back (shows_beside {new = g.L.LinkOps.table c.link_between.new.links} r.1 out a.frame.others) (sym e ∙ r.2)
 
-pub set_prev_or_tail-requires : goal.set_prev_or_tail-requires
-set_prev_or_tail-requires g c names q e =
+pub set_prev_or_tail-requires-clause-linked : goal.set_prev_or_tail-requires-clause-linked
+set_prev_or_tail-requires-clause-linked g c names q e =
     let r = c.requires.shown in
     let a = c.if-not-link_between.ensures in
     let out = free_absent g.met.K.ForwardLinks.between_linked r.1 (g.met.L.LinkOps.does_replay _ _ _ a.acquired).was in

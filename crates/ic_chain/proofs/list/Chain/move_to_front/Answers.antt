@@ -1,6 +1,7 @@
 use Rattle.std.proofs.Common.{[], ◌++◌, ◌∷◌, refl, sym, ◌∙◌}
 use Rattle.ic_link_ops.proofs.SequenceLemmas.{absent_right, absent_without, distinct_middle, gap_not}
 use Rattle.ic_link_ops.proofs.ShownLists.{gap_behind_linked}
+use Rattle.ic_link_ops.proofs.Naming.{end_named}
 use Rattle.ic_chain.proofs.Standing.{one_shown}
 use Rattle.ic_chain.proofs.list.Chain.move_to_front.Goals as goal
 
@@ -12,6 +13,13 @@ insert_linked-requires-clause-behind g c names q e =
     let m = c.requires.member in
     let off = c.detach.ensures.removed m.front m.back (rw (← c.place-place.ensures) at m.shown) in
     gap_behind_linked g.met.K.ForwardLinks.between_linked [] (m.front ++ m.back) off (sym e ∙ c.first-first.ensures ∙ off.head)
+
+pub insert_linked-requires-clause-next : goal.insert_linked-requires-clause-next
+insert_linked-requires-clause-next g c =
+    let L = g.met.L.LinkOps in
+    let m = c.requires.member in
+    let off = c.detach.ensures.removed m.front m.back (rw (← c.place-place.ensures) at m.shown) in
+    end_named _ _ (λ q e. L.covered_has_name _ q (L.linked_is_covered _ q (gap_behind_linked g.met.K.ForwardLinks.between_linked [] (m.front ++ m.back) off (sym e ∙ c.first-first.ensures ∙ off.head))))
 
 pub returns-clause-moved : goal.returns-clause-moved
 returns-clause-moved g c front back shown =

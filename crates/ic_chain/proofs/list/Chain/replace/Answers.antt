@@ -1,6 +1,7 @@
 use Rattle.std.proofs.Common.{[], ◌∷◌, ◌∙◌, sym}
 use Rattle.ic_link_ops.proofs.SequenceLemmas.{absent_right, absent_with, beside_not, distinct_middle}
 use Rattle.ic_link_ops.proofs.ShownLists.{shows_middle, shows_beside, free_absent, gap_linked, next_linked}
+use Rattle.ic_link_ops.proofs.Naming.{end_named}
 use Rattle.ic_chain.proofs.list.Chain.replace.Goals as goal
 
 pub replace_linked-requires-clause-before : goal.replace_linked-requires-clause-before
@@ -18,6 +19,18 @@ replace_linked-requires-clause-behind g c names q e =
     let law = g.met.K.ForwardLinks.between_linked in
     let absent = free_absent law r.2 (g.met.L.LinkOps.does_replay _ _ _ a.acquired).was in
     next_linked law r.0 c.args.out r.1 (shows_beside {new = g.L.LinkOps.table c.acquire_link.new.self} r.2 absent a.frame.others) (sym e ∙ r.4)
+
+pub replace_linked-requires-clause-next : goal.replace_linked-requires-clause-next
+replace_linked-requires-clause-next g c =
+    let L = g.met.L.LinkOps in
+    let r = c.requires.shown in
+    end_named _ _ (λ q e. L.covered_has_name _ q (L.linked_is_covered _ q (next_linked g.met.K.ForwardLinks.between_linked r.0 c.args.out r.1 r.2 (sym e ∙ r.4))))
+
+pub replace_linked-requires-clause-out : goal.replace_linked-requires-clause-out
+replace_linked-requires-clause-out g c =
+    let L = g.met.L.LinkOps in
+    let r = c.requires.shown in
+    L.covered_has_name _ _ (L.linked_is_covered _ _ (g.met.K.ForwardLinks.between_linked _ _ _ (shows_middle r.0 r.1 r.2)))
 
 pub release_link-requires : goal.release_link-requires
 release_link-requires g c =

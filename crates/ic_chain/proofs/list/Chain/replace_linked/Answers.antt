@@ -1,10 +1,16 @@
 use Rattle.std.proofs.Common.{[], ◌∙◌}
 use Rattle.ic_link_ops.specs.Chains.{list_head}
 use Rattle.ic_link_ops.proofs.ShownLists.{shows_replace}
+use Rattle.ic_link_ops.proofs.Naming.{end_named}
 use Rattle.ic_chain.proofs.list.Chain.replace_linked.Goals as goal
 
-pub set_prev_or_tail-requires : goal.set_prev_or_tail-requires
-set_prev_or_tail-requires g c names q e = g.met.L.LinkOps.does_replay _ _ [] c.set_next_or_head.ensures.no_step q ∙ c.requires.behind names q e
+pub set_prev_or_tail-requires-clause-linked : goal.set_prev_or_tail-requires-clause-linked
+set_prev_or_tail-requires-clause-linked g c names q e = g.met.L.LinkOps.does_replay _ _ [] c.set_next_or_head.ensures.no_step q ∙ c.requires.behind names q e
+
+pub set_neighbors-requires-clause-prev : goal.set_neighbors-requires-clause-prev
+set_neighbors-requires-clause-prev g c =
+    let L = g.met.L.LinkOps in
+    end_named _ _ (λ q e. L.covered_has_name _ q (L.linked_is_covered _ q (c.requires.before q e)))
 
 pub returns-clause-shows : goal.returns-clause-shows
 returns-clause-shows g c front back shown before behind free =

@@ -2,18 +2,33 @@ use Rattle.std.proofs.Common.{[], ◌∷◌, Some, ◌++◌, ◌∙◌, sym, ap,
 use Rattle.ic_link_ops.specs.Chains.{ListHead, list_head, ShowsChain}
 use Rattle.ic_link_ops.proofs.SequenceLemmas.{gap_not, absent_left, absent_right, absent_both}
 use Rattle.ic_link_ops.proofs.ShownLists.{shows_splice, shows_first, ends_not}
+use Rattle.ic_link_ops.proofs.Naming.{end_named}
 use Rattle.ic_chain.proofs.Walking.{told_some, told_none, turned_nowhere, turned_to_none}
 use Rattle.ic_chain.proofs.list.Chain.splice_between.Goals as goal
 
-pub set_prev_or_tail-requires : goal.set_prev_or_tail-requires
-set_prev_or_tail-requires g c names q e = g.met.L.LinkOps.does_replay _ _ [] c.set_next_or_head.ensures.no_step q ∙ c.requires.behind names q e
+pub set_prev_or_tail-requires-clause-linked : goal.set_prev_or_tail-requires-clause-linked
+set_prev_or_tail-requires-clause-linked g c names q e = g.met.L.LinkOps.does_replay _ _ [] c.set_next_or_head.ensures.no_step q ∙ c.requires.behind names q e
 
-pub set_next-requires : goal.set_next-requires
-set_next-requires g c =
-    let L = g.met.L.LinkOps in record {
-      linked = rw (L.does_replay _ _ [] c.set_prev.ensures.no_step _, L.does_replay _ _ [] c.set_prev_or_tail.ensures.no_step _, L.does_replay _ _ [] c.set_next_or_head.ensures.no_step _)
-          (c.requires.end c.in-Some-end.end c.in-Some-end.is);
-    }
+pub set_prev_or_tail-requires-clause-from : goal.set_prev_or_tail-requires-clause-from
+set_prev_or_tail-requires-clause-from g c =
+    let L = g.met.L.LinkOps in
+    end_named _ _ (λ q e. L.covered_has_name _ q (L.linked_is_covered _ q (c.requires.before q e)))
+
+pub set_prev_or_tail-requires-clause-to : goal.set_prev_or_tail-requires-clause-to
+set_prev_or_tail-requires-clause-to g c =
+    let L = g.met.L.LinkOps in
+    end_named _ _ (λ q e. L.covered_has_name _ q (L.linked_is_covered _ q (c.requires.end q e)))
+
+pub set_prev-requires-clause-to : goal.set_prev-requires-clause-to
+set_prev-requires-clause-to g c =
+    let L = g.met.L.LinkOps in
+    end_named _ _ (λ q e. L.covered_has_name _ q (L.linked_is_covered _ q (c.requires.before q e)))
+
+pub set_next-requires-clause-linked : goal.set_next-requires-clause-linked
+set_next-requires-clause-linked g c =
+    let L = g.met.L.LinkOps in
+    rw (L.does_replay _ _ [] c.set_prev.ensures.no_step _, L.does_replay _ _ [] c.set_prev_or_tail.ensures.no_step _, L.does_replay _ _ [] c.set_next_or_head.ensures.no_step _)
+    (c.requires.end c.in-Some-end.end c.in-Some-end.is)
 
 pub returns-in-Some-end-clause-spliced : goal.returns-in-Some-end-clause-spliced
 returns-in-Some-end-clause-spliced g c gap t shown before behind other told apart =

@@ -1,6 +1,7 @@
 use Rattle.std.proofs.Common.{[], ◌∷◌, ◌∙◌, sym}
 use Rattle.ic_link_ops.proofs.SequenceLemmas.{absent_right, beside_not, distinct_middle}
 use Rattle.ic_link_ops.proofs.ShownLists.{shows_middle, shows_beside, gap_linked, next_linked}
+use Rattle.ic_link_ops.proofs.Naming.{end_named}
 use Rattle.ic_chain.proofs.list.Chain.unlink.Goals as goal
 
 pub bypass-requires-clause-before : goal.bypass-requires-clause-before
@@ -8,6 +9,18 @@ bypass-requires-clause-before g c q e = let r = c.requires.shown in gap_linked g
 
 pub bypass-requires-clause-behind : goal.bypass-requires-clause-behind
 bypass-requires-clause-behind g c names q e = let r = c.requires.shown in next_linked g.met.K.ForwardLinks.between_linked r.0 c.args.place r.1 r.2 (sym e ∙ r.4)
+
+pub bypass-requires-clause-next : goal.bypass-requires-clause-next
+bypass-requires-clause-next g c =
+    let L = g.met.L.LinkOps in
+    let r = c.requires.shown in
+    end_named _ _ (λ q e. L.covered_has_name _ q (L.linked_is_covered _ q (next_linked g.met.K.ForwardLinks.between_linked r.0 c.args.place r.1 r.2 (sym e ∙ r.4))))
+
+pub bypass-requires-clause-out : goal.bypass-requires-clause-out
+bypass-requires-clause-out g c =
+    let L = g.met.L.LinkOps in
+    let r = c.requires.shown in
+    L.covered_has_name _ _ (L.linked_is_covered _ _ (g.met.K.ForwardLinks.between_linked _ _ _ (shows_middle r.0 r.1 r.2)))
 
 pub release_link-requires : goal.release_link-requires
 release_link-requires g c =

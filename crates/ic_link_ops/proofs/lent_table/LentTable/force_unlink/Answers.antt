@@ -1,6 +1,15 @@
-use Rattle.std.proofs.Common.{refl}
-use Rattle.ic_link_ops.proofs.EntryLemmas.{view_changes_only}
+use Rattle.std.proofs.Common.{refl, ap, ◌∙◌}
+use Rattle.ic_link_ops.specs.Links.{link_with}
+use Rattle.ic_link_ops.specs.LentTables.{lent_entries}
+use Rattle.ic_link_ops.specs.PlainTables.{linked_by}
+use Rattle.ic_link_ops.proofs.SeenEntries.{view_changes_only, entry_set}
 use Rattle.ic_link_ops.proofs.lent_table.LentTable.force_unlink.Goals as goal
 
 pub returns-clause-frame : goal.returns-clause-frame
-returns-clause-frame g c = view_changes_only g.V.LinkValue.told _ _ _ _ _ _ _ c.index.ensures.value refl refl
+returns-clause-frame g c = view_changes_only g.V.LinkValue.told g.W.Words.width _ _ _ _ _ _ _ c.slot-index.ensures.value c.requires.covered refl refl
+
+pub returns-clause-unlinked : goal.returns-clause-unlinked
+returns-clause-unlinked g c =
+    ap (linked_by g.W.Words.is_linked)
+    (entry_set g.W.Words.width (link_with g.W.Words.unlinked g.V.LinkValue.initial) (lent_entries c.args.self.now) c.args.place _ c.slot-index.result c.slot-index.ensures.value c.requires.covered)
+    ∙ c.unlink.ensures

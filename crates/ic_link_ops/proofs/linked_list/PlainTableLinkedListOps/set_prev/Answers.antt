@@ -1,15 +1,22 @@
 use Rattle.std.proofs.Common.{refl}
 use Rattle.ic_link_ops.specs.Links.{link_with}
 use Rattle.ic_link_ops.specs.Readings.{neighbors_of}
-use Rattle.ic_link_ops.proofs.EntryLemmas.{changes_only, says_written, prev_set}
+use Rattle.ic_link_ops.specs.PlainTables.{entries}
+use Rattle.ic_link_ops.proofs.EntryLemmas.{prev_set}
+use Rattle.ic_link_ops.proofs.SeenEntries.{changes_only, says_written, linked_seen, keeps_linked}
 use Rattle.ic_link_ops.proofs.linked_list.PlainTableLinkedListOps.set_prev.Goals as goal
 
 pub returns-clause-set : goal.returns-clause-set
 returns-clause-set g c =
-    says_written g.W.Words.is_linked (link_with g.W.Words.unlinked g.V.LinkValue.initial) g.met.W.Words.starts_unlinked (neighbors_of g.W.NextWord.next_word g.W.Words.is_linked g.W.PrevPlace.prev) (λ r. record r { prev = c.args.prev }) _ _ c.index_mut-entry.result.now _ _ _
-    c.index.ensures.value c.requires.linked c.index_mut-entry.ensures.value
+    says_written g.W.Words.is_linked g.W.Words.width (link_with g.W.Words.unlinked g.V.LinkValue.initial) g.met.W.Words.starts_unlinked (neighbors_of g.W.NextWord.next_word g.W.Words.is_linked g.W.PrevPlace.prev) (λ r. record r { prev = c.args.prev }) _ _ c.index_mut-entry.result.now _ _ _
+    c.slot-index.ensures.value c.requires.linked c.index_mut-entry.ensures.value
     (prev_set g.W.NextWord.next_word g.W.Words.is_linked g.W.PrevPlace.prev c.index_mut-entry.result.now.words c.set_prev.new.self _
     c.set_prev.ensures.linked c.set_prev.ensures.next_word c.set_prev.ensures.set)
 
 pub returns-clause-frame : goal.returns-clause-frame
-returns-clause-frame g c = changes_only g.V.LinkValue.told _ _ _ c.index_mut-entry.result.now _ _ _ c.index.ensures.value c.index_mut-entry.ensures.value refl
+returns-clause-frame g c = changes_only g.V.LinkValue.told g.W.Words.width _ _ _ c.index_mut-entry.result.now _ _ _ c.slot-index.ensures.value (linked_seen g.W.Words.is_linked g.W.Words.width _ g.met.W.Words.starts_unlinked _ _ c.requires.linked) c.index_mut-entry.ensures.value refl
+
+pub returns-clause-no_step : goal.returns-clause-no_step
+returns-clause-no_step g c =
+    keeps_linked g.W.Words.is_linked g.W.Words.width (link_with g.W.Words.unlinked g.V.LinkValue.initial) (entries c.args.self.now) c.args.place c.index_mut-entry.result.now _ _ _ c.slot-index.ensures.value
+    (linked_seen g.W.Words.is_linked g.W.Words.width _ g.met.W.Words.starts_unlinked _ _ c.requires.linked) c.index_mut-entry.ensures.value c.set_prev.ensures.linked

@@ -1,13 +1,30 @@
-use Rattle.std.proofs.Common.{refl, sym, ◌∙◌}
-use Rattle.ic_link_ops.specs.Links.{link_with}
+use Rattle.std.proofs.Common.{refl, sym, ◌∙◌, ap}
+use Rattle.ic_link_ops.specs.Links.{link_with, words_of}
 use Rattle.ic_link_ops.specs.LentTables.{lent_entries}
-use Rattle.ic_link_ops.proofs.EntryLemmas.{view_changes_only, links_entry}
+use Rattle.ic_link_ops.specs.PlainTables.{linked_by}
+use Rattle.ic_link_ops.proofs.WidthLemmas.{word_kept, xor_kept}
+use Rattle.ic_link_ops.proofs.SeenEntries.{view_changes_only, links_entry, entry_seen, entry_set}
 use Rattle.ic_link_ops.proofs.xor_linked_list.LentTableXorLinkedListOps.link_between.Goals as goal
 
+pub link_to-requires : goal.link_to-requires
+link_to-requires g c = record { kept = rw c.between.ensures (xor_kept g.W.Words.width _ _ (word_kept g.W.Words.width c.args.prev c.requires.prev) (word_kept g.W.Words.width c.args.next c.requires.next)) }
+
 pub returns-clause-frame : goal.returns-clause-frame
-returns-clause-frame g c = view_changes_only g.V.LinkValue.told _ _ _ _ _ _ _ c.index-index.ensures.value refl c.link_to.ensures.value
+returns-clause-frame g c = view_changes_only g.V.LinkValue.told g.W.Words.width _ _ _ _ _ _ _ c.slot-index.ensures.value c.requires.covered refl c.link_to.ensures.value
 
 pub returns-clause-acquired : goal.returns-clause-acquired
 returns-clause-acquired g c =
-    links_entry g.W.Words.is_linked (link_with g.W.Words.unlinked g.V.LinkValue.initial) (lent_entries c.args.self.now) c.args.place _ c.link_to.new.self _ c.index-index.result c.index-index.ensures.value c.requires.covered
+    links_entry g.W.Words.is_linked g.W.Words.width (link_with g.W.Words.unlinked g.V.LinkValue.initial) (lent_entries c.args.self.now) c.args.place _ c.link_to.new.self _ c.slot-index.result c.slot-index.ensures.value c.requires.covered
     refl (sym c.is_linked.ensures ∙ c.if-is_linked.false) c.link_to.ensures.linked
+
+pub returns-then-is_linked-clause-refused : goal.returns-then-is_linked-clause-refused
+returns-then-is_linked-clause-refused g c = (
+  ap (linked_by g.W.Words.is_linked) (entry_seen g.W.Words.width (link_with g.W.Words.unlinked g.V.LinkValue.initial) (lent_entries c.args.self.now) c.args.place _ _ _ c.slot-index.ensures.value c.requires.covered refl)
+      ∙ sym c.is_linked.ensures ∙ c.if-is_linked.true,
+  refl,
+)
+
+pub returns-clause-set : goal.returns-clause-set
+returns-clause-set g c =
+    ap (λ l. g.W.NextWord.next_word (words_of l)) (entry_set g.W.Words.width (link_with g.W.Words.unlinked g.V.LinkValue.initial) (lent_entries c.args.self.now) c.args.place _ c.slot-index.result c.slot-index.ensures.value c.requires.covered)
+    ∙ c.link_to.ensures.next_word ∙ c.between.ensures

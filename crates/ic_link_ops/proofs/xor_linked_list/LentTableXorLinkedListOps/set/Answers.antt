@@ -1,6 +1,30 @@
-use Rattle.std.proofs.Common.{refl}
-use Rattle.ic_link_ops.proofs.EntryLemmas.{view_changes_only}
+use Rattle.std.proofs.Common.{refl, ap, ◌∙◌}
+use Rattle.ic_link_ops.specs.Links.{link_with, words_of}
+use Rattle.ic_link_ops.specs.LentTables.{lent_entries}
+use Rattle.ic_link_ops.proofs.WidthLemmas.{word_kept, xor_kept}
+use Rattle.ic_link_ops.proofs.SeenEntries.{view_changes_only, linked_seen, keeps_linked, linked_read, entry_set}
 use Rattle.ic_link_ops.proofs.xor_linked_list.LentTableXorLinkedListOps.set.Goals as goal
 
+pub set_next_word-requires-clause-linked : goal.set_next_word-requires-clause-linked
+set_next_word-requires-clause-linked g c =
+    linked_read g.W.Words.is_linked g.W.Words.width (link_with g.W.Words.unlinked g.V.LinkValue.initial) g.met.W.Words.starts_unlinked (lent_entries c.args.self.now) c.args.place _ _ _ c.slot-index.ensures.value c.requires.linked refl
+
+pub set_next_word-requires-clause-kept : goal.set_next_word-requires-clause-kept
+set_next_word-requires-clause-kept g c =
+    rw c.between.ensures (xor_kept g.W.Words.width _ _ (word_kept g.W.Words.width c.args.prev c.requires.prev) (word_kept g.W.Words.width c.args.next c.requires.next))
+
 pub returns-clause-frame : goal.returns-clause-frame
-returns-clause-frame g c = view_changes_only g.V.LinkValue.told _ _ _ _ _ _ _ c.index.ensures.value refl refl
+returns-clause-frame g c = view_changes_only g.V.LinkValue.told g.W.Words.width _ _ _ _ _ _ _ c.slot-index.ensures.value (linked_seen g.W.Words.is_linked g.W.Words.width _ g.met.W.Words.starts_unlinked _ _ c.requires.linked) refl refl
+
+pub returns-clause-no_step : goal.returns-clause-no_step
+returns-clause-no_step g c =
+    keeps_linked g.W.Words.is_linked g.W.Words.width (link_with g.W.Words.unlinked g.V.LinkValue.initial) (lent_entries c.args.self.now) c.args.place _ _ _ _ c.slot-index.ensures.value
+    (linked_seen g.W.Words.is_linked g.W.Words.width _ g.met.W.Words.starts_unlinked _ _ c.requires.linked) refl c.set_next_word.ensures.linked
+
+pub returns-clause-set : goal.returns-clause-set
+returns-clause-set g c =
+    ap (λ l. g.W.NextWord.next_word (words_of l)) (entry_set g.W.Words.width (link_with g.W.Words.unlinked g.V.LinkValue.initial) (lent_entries c.args.self.now) c.args.place _ c.slot-index.result c.slot-index.ensures.value (linked_seen g.W.Words.is_linked g.W.Words.width _ g.met.W.Words.starts_unlinked _ _ c.requires.linked))
+    ∙ c.set_next_word.ensures.set ∙ c.between.ensures
+
+pub returns-clause-linked : goal.returns-clause-linked
+returns-clause-linked g c = returns-clause-no_step g c c.args.place ∙ c.requires.linked

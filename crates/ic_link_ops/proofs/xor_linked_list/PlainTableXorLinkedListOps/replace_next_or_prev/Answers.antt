@@ -2,16 +2,41 @@ use Rattle.std.proofs.Common.{◌∙◌, ap, bit_xor, refl}
 use Rattle.ic_unsafe_ref.specs.Places.{word_of}
 use Rattle.ic_link_ops.specs.Links.{link_with, words_of}
 use Rattle.ic_link_ops.specs.XorLaws.{joins_replaced}
-use Rattle.ic_link_ops.proofs.EntryLemmas.{changes_only, says_written}
+use Rattle.ic_link_ops.specs.PlainTables.{entries}
+use Rattle.ic_link_ops.proofs.WidthLemmas.{word_kept, xor_kept}
+use Rattle.ic_link_ops.proofs.SeenEntries.{changes_only, says_written, linked_seen, keeps_linked, linked_read}
 use Rattle.ic_link_ops.proofs.xor_linked_list.PlainTableXorLinkedListOps.replace_next_or_prev.Goals as goal
+
+pub next_word-word-requires : goal.next_word-word-requires
+next_word-word-requires g c =
+    record { linked = linked_read g.W.Words.is_linked g.W.Words.width (link_with g.W.Words.unlinked g.V.LinkValue.initial) g.met.W.Words.starts_unlinked (entries c.args.self.now) c.args.place _ _ _ c.slot-index.ensures.value c.requires.linked c.index_mut-entry.ensures.value }
+
+pub set_next_word-requires-clause-kept : goal.set_next_word-requires-clause-kept
+set_next_word-requires-clause-kept g c =
+    let w = g.W.Words.width in
+    let linked = linked_read g.W.Words.is_linked g.W.Words.width (link_with g.W.Words.unlinked g.V.LinkValue.initial) g.met.W.Words.starts_unlinked (entries c.args.self.now) c.args.place _ _ _ c.slot-index.ensures.value c.requires.linked c.index_mut-entry.ensures.value in
+    rw (c.replaced.ensures, c.next_word-word.ensures)
+    (xor_kept w _ _ (xor_kept w _ _ (g.met.W.NextWord.next_word_kept _ linked) (word_kept w c.args.old c.requires.from)) (word_kept w c.args.new c.requires.to))
+
+pub set_next_word-requires-clause-linked : goal.set_next_word-requires-clause-linked
+set_next_word-requires-clause-linked g c =
+    linked_read g.W.Words.is_linked g.W.Words.width (link_with g.W.Words.unlinked g.V.LinkValue.initial) g.met.W.Words.starts_unlinked (entries c.args.self.now) c.args.place _ _ _ c.slot-index.ensures.value c.requires.linked c.index_mut-entry.ensures.value
 
 pub returns-clause-replaced : goal.returns-clause-replaced
 returns-clause-replaced g c x joins =
-    says_written g.W.Words.is_linked (link_with g.W.Words.unlinked g.V.LinkValue.initial) g.met.W.Words.starts_unlinked (λ l. g.W.NextWord.next_word (words_of l))
+    says_written g.W.Words.is_linked g.W.Words.width (link_with g.W.Words.unlinked g.V.LinkValue.initial) g.met.W.Words.starts_unlinked (λ l. g.W.NextWord.next_word (words_of l))
     (λ w. bit_xor (bit_xor w (word_of c.args.old)) (word_of c.args.new)) _ _ c.index_mut-entry.result.now _ _ _
-    c.index.ensures.value c.requires.linked c.index_mut-entry.ensures.value
+    c.slot-index.ensures.value c.requires.linked c.index_mut-entry.ensures.value
     (c.set_next_word.ensures.set ∙ c.replaced.ensures ∙ ap (λ w. bit_xor (bit_xor w (word_of c.args.old)) (word_of c.args.new)) c.next_word-word.ensures)
     ∙ joins_replaced _ c.args.old c.args.new x joins
 
 pub returns-clause-frame : goal.returns-clause-frame
-returns-clause-frame g c = changes_only g.V.LinkValue.told _ _ _ c.index_mut-entry.result.now _ _ _ c.index.ensures.value c.index_mut-entry.ensures.value refl
+returns-clause-frame g c = changes_only g.V.LinkValue.told g.W.Words.width _ _ _ c.index_mut-entry.result.now _ _ _ c.slot-index.ensures.value (linked_seen g.W.Words.is_linked g.W.Words.width _ g.met.W.Words.starts_unlinked _ _ c.requires.linked) c.index_mut-entry.ensures.value refl
+
+pub returns-clause-no_step : goal.returns-clause-no_step
+returns-clause-no_step g c =
+    keeps_linked g.W.Words.is_linked g.W.Words.width (link_with g.W.Words.unlinked g.V.LinkValue.initial) (entries c.args.self.now) c.args.place c.index_mut-entry.result.now _ _ _ c.slot-index.ensures.value
+    (linked_seen g.W.Words.is_linked g.W.Words.width _ g.met.W.Words.starts_unlinked _ _ c.requires.linked) c.index_mut-entry.ensures.value c.set_next_word.ensures.linked
+
+pub returns-clause-linked : goal.returns-clause-linked
+returns-clause-linked g c = returns-clause-no_step g c c.args.place ∙ c.requires.linked

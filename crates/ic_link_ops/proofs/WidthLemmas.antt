@@ -1,0 +1,64 @@
+-- What words of each width have room for.
+use Rattle.std.proofs.Common.{◌≡◌, ℕ, ◌-◌, ◌<◌, ◌≤◌, max, Option, Some, None, List, length, take, slice_set, slice_index_or, bit_xor, inl, inr, arith, refl, sym, ◌∙◌}
+use Rattle.std.proofs.lemmas.List.{length-take, get_or-take}
+use Rattle.std.proofs.lemmas.Bool.Decides.{eqb_tells}
+use Rattle.std.proofs.Math.ListN.{get_or-eq_default}
+use Rattle.std.proofs.Math.Seq.{take-set-lt}
+use Rattle.std.proofs.lemmas.Nat.{xor_lt}
+use Rattle.ic_unsafe_ref.specs.declared.place.Place.{Place}
+use Rattle.ic_unsafe_ref.specs.Places.{word_of}
+use Rattle.ic_link_ops.specs.Tables.{IsNameable}
+use Rattle.ic_link_ops.specs.Widths.{Width, wide, narrow, HasRoom, CanKeep, nameable, count_nameable, most_places}
+
+-- there is room for the word of a place, or of none, for whose name there is room
+pub word_kept : (w : Width) (o : Option Place) → IsNameable (HasRoom w) o → CanKeep w (word_of o)
+word_kept wide o h = tt
+word_kept narrow None h = omega arith
+word_kept narrow (Some p) h = omega (arith, h)
+
+-- and for the exclusive or of two words
+pub xor_kept : (w : Width) (a b : ℕ) → CanKeep w a → CanKeep w b → CanKeep w (bit_xor a b)
+xor_kept wide a b h k = tt
+xor_kept narrow a b h k = xor_lt 32 a b h k
+
+-- THE LINKS THAT ARE SEEN: how many there are,
+pub nameable_count : {E : Type 0} (w : Width) (es : List E) → length (nameable w es) ≡ count_nameable w (length es)
+nameable_count wide es = refl
+nameable_count narrow es = length-take 536870911 es
+
+pub nameable_fits : {E : Type 0} (w : Width) (es : List E) → length (nameable w es) ≤ length es
+nameable_fits wide es = omega arith
+nameable_fits narrow es = omega (arith, length-take 536870911 es)
+
+-- what is read at one of them,
+pub nameable_read : {E : Type 0} (w : Width) (es : List E) (i : ℕ) (d : E) → i < length (nameable w es) → slice_index_or (nameable w es) i d ≡ slice_index_or es i d
+nameable_read wide es i d h = refl
+nameable_read narrow es i d h = get_or-take 536870911 es i d (omega (arith, h, length-take 536870911 es))
+
+-- and after a write to one of them
+pub nameable_written : {E : Type 0} (w : Width) (es : List E) (i : ℕ) (e : E) → i < length (nameable w es) → nameable w (slice_set es i e) ≡ slice_set (nameable w es) i e
+nameable_written wide es i e h = refl
+nameable_written narrow es i e h = take-set-lt 536870911 es i e (omega (arith, h, length-take 536870911 es))
+
+-- they stay where all links stay, and there are as many as are covered
+pub nameable_stays : {E : Type 0} (w : Width) (d : E) (es fs : List E) (i : ℕ) → slice_index_or fs i d ≡ slice_index_or es i d
+    → slice_index_or (nameable w fs) i d ≡ slice_index_or (nameable w es) i d
+nameable_stays wide d es fs i same = same
+nameable_stays narrow d es fs i same =
+    elim (eqb_tells (536870911 - i) 0) [
+      | inl e ↦ get_or-eq_default (take 536870911 fs) d {n = i} (omega (arith, e.1, length-take 536870911 fs))
+          ∙ sym (get_or-eq_default (take 536870911 es) d {n = i} (omega (arith, e.1, length-take 536870911 es)))
+      | inr e ↦ get_or-take 536870911 fs i d (omega (arith, e.1)) ∙ same ∙ sym (get_or-take 536870911 es i d (omega (arith, e.1)))
+    ]
+
+pub nameable_grown : (w : Width) (n count : ℕ) → count ≤ most_places w → n < count → count_nameable w count ≡ max (count_nameable w n) count
+nameable_grown wide n count few more = omega (arith, more)
+nameable_grown narrow n count few more = omega (arith, few, more)
+
+pub nameable_enough : (w : Width) (n count : ℕ) → count ≤ most_places w → count ≤ n → count_nameable w n ≡ max (count_nameable w n) count
+nameable_enough wide n count few more = omega (arith, more)
+nameable_enough narrow n count few more = omega (arith, few, more)
+
+pub nameable_at_most : (w : Width) (n : ℕ) → count_nameable w n ≤ n
+nameable_at_most wide n = omega arith
+nameable_at_most narrow n = omega arith

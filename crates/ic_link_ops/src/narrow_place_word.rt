@@ -1,0 +1,54 @@
+//! A place or none, in 4 bytes.
+//!
+//! ```text
+//! NarrowPlaceWord::of(Some(place)).get() // Some(place)
+//! ```
+
+ghost use Rattle.std.specs.Prelude.{◌≡◌};
+ghost use Rattle.ic_link_ops.specs.Tables.{IsNameable};
+ghost use Rattle.ic_link_ops.specs.Widths.{HasRoom, narrow};
+
+use ic_unsafe_ref::Place;
+use std::marker::Model;
+
+/// A place or none, kept as its word, `8 * (index + 1)`, or 0.
+///
+/// A clause sees it as an `Option<Place>`.
+#[derive(Drop)]
+pub struct NarrowPlaceWord {
+    bits: u32,
+}
+
+impl Model for NarrowPlaceWord {
+    ghost use Rattle.std.specs.Prelude.{Option, ◌≡◌, ◌%◌, ◌<◌};
+    ghost use Rattle.ic_unsafe_ref.specs.declared.place.Place.{Place};
+    ghost use Rattle.ic_unsafe_ref.specs.Places.{place_at};
+
+    ghost Value = { Option Place };
+
+    ghost view = { λ e. place_at e.bits };
+
+    ghost invariant = { λ e. (e.bits < 4294967296) × (e.bits % 8 ≡ 0) };
+}
+
+impl NarrowPlaceWord {
+    /// The word of the place. It requires that 4 bytes have room for it: that its index is below 536,870,911.
+    #[inline]
+    #[tactic(auto, using(ic_unsafe_ref::proofs::PlaceLemmas::place_at_word, crate::proofs::WidthLemmas::word_kept))]
+    pub fn of(place: Option<Place>) -> NarrowPlaceWord
+        requires named { IsNameable (HasRoom narrow) place }
+        ensures { result ≡ place }
+    {
+        NarrowPlaceWord {
+            bits: Place::to_word(place) as u32,
+        }
+    }
+
+    /// The place, or none at 0.
+    #[inline]
+    pub fn get(&self) -> Option<Place>
+        ensures { result ≡ self.now }
+    {
+        Place::from_word(u64::from(self.bits))
+    }
+}

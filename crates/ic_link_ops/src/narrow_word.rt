@@ -1,0 +1,112 @@
+//! The word of 4 bytes of which narrow links are made, and the word that also marks an unlinked place.
+//!
+//! It is the [`Word`] itself, cut to 4 bytes, so no look and no write shifts it. It names places with an index below 536,870,911.
+//!
+//! ```text
+//! let narrow = NarrowWord::of(Word::of(Some(place))); // 4 bytes; the place has an index below 536,870,911
+//! narrow.word().place() // Some(place)
+//! ```
+
+ghost use Rattle.std.specs.Prelude.{◌≡◌, ◌≢◌, ◌<◌, ◌%◌, true};
+ghost use Rattle.ic_link_ops.specs.Widths.{CanKeep, narrow};
+
+use crate::word::Word;
+
+/// A [`Word`] in 4 bytes.
+#[derive(Clone, Copy)]
+pub struct NarrowWord {
+    bits: u32,
+    pub ghost is_word: { (bits < 4294967296) × (bits % 8 ≡ 0) },
+}
+
+impl NarrowWord {
+    ghost use Rattle.ic_link_ops.specs.Words.{bits_of};
+    ghost use Rattle.ic_link_ops.specs.NarrowWords.{narrow_bits_of, no_narrow_word};
+
+    /// How many places have a name: each word `8 * (index + 1)` of theirs, and the exclusive or of two, is below 2^32.
+    pub const PLACES: usize = 536_870_911;
+
+    /// The word for no place: 0.
+    #[inline]
+    pub fn none() -> NarrowWord
+        ensures { result ≡ no_narrow_word }
+    {
+        NarrowWord { bits: 0 }
+    }
+
+    /// The word in 4 bytes. It requires that it is below 2^32.
+    #[inline]
+    pub fn of(word: Word) -> NarrowWord
+        requires kept { CanKeep narrow (bits_of word) }
+        ensures { narrow_bits_of result ≡ bits_of word }
+    {
+        NarrowWord {
+            bits: word.bits as u32,
+        }
+    }
+
+    /// The word that was kept.
+    #[inline]
+    pub fn word(self) -> Word
+        ensures { bits_of result ≡ narrow_bits_of self }
+    {
+        Word {
+            bits: u64::from(self.bits),
+        }
+    }
+}
+
+/// A [`Word`] in 4 bytes, or the mark 1 of an unlinked place.
+#[derive(Clone, Copy)]
+pub struct NarrowMarkedWord {
+    bits: u32,
+    pub ghost mark_or_word: { bits ≢ 1 → (bits < 4294967296) × (bits % 8 ≡ 0) },
+}
+
+impl NarrowMarkedWord {
+    ghost use Rattle.ic_link_ops.specs.Words.{bits_of};
+    ghost use Rattle.ic_link_ops.specs.NarrowWords.{marked_narrow_bits_of, is_narrow_word, narrow_mark};
+
+    const MARK: u32 = 1;
+
+    /// The mark of an unlinked place: 1, which no word is, since words are multiples of 8.
+    #[inline]
+    pub fn mark() -> NarrowMarkedWord
+        ensures { result ≡ narrow_mark }
+    {
+        NarrowMarkedWord {
+            bits: NarrowMarkedWord::MARK,
+        }
+    }
+
+    /// The word of a linked place. It requires that it is below 2^32.
+    #[inline]
+    pub fn of(word: Word) -> NarrowMarkedWord
+        requires kept { CanKeep narrow (bits_of word) }
+        ensures word { marked_narrow_bits_of result ≡ bits_of word }
+        ensures is_word { is_narrow_word result ≡ true }
+    {
+        NarrowMarkedWord {
+            bits: word.bits as u32,
+        }
+    }
+
+    /// Whether it is the word of a linked place, and not the mark. One comparison.
+    #[inline]
+    pub fn is_word(self) -> bool
+        ensures { result ≡ is_narrow_word self }
+    {
+        self.bits != NarrowMarkedWord::MARK
+    }
+
+    /// The word that was kept. It requires that there is one, and not the mark.
+    #[inline]
+    pub fn word(self) -> Word
+        requires word { is_narrow_word self ≡ true }
+        ensures { bits_of result ≡ marked_narrow_bits_of self }
+    {
+        Word {
+            bits: u64::from(self.bits),
+        }
+    }
+}

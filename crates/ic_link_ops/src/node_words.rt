@@ -1,0 +1,60 @@
+//! What the words of a tree link say and take.
+
+ghost use Rattle.std.specs.Prelude.{◌≡◌, true};
+ghost use Rattle.ic_link_ops.specs.RedBlackTree.{Node};
+ghost use Rattle.ic_link_ops.specs.Tables.{IsNameable};
+ghost use Rattle.ic_link_ops.specs.Widths.{HasRoom};
+
+use crate::color::Color;
+use crate::link::PrevPlace;
+use ic_unsafe_ref::Place;
+
+/// Words with two children, a parent and a color.
+pub trait NodeWords: PrevPlace {
+    // What they say: whether the place is linked, between which places, and in which color.
+    ghost node: { Self → Node };
+
+    /// The left child.
+    fn left(&self) -> Option<Place>
+        ensures { result ≡ (node self.now).left };
+
+    /// The right child.
+    fn right(&self) -> Option<Place>
+        ensures { result ≡ (node self.now).right };
+
+    /// The parent.
+    fn parent(&self) -> Option<Place>
+        ensures { result ≡ (node self.now).parent };
+
+    /// The color.
+    fn color(&self) -> Color
+        ensures { result ≡ (node self.now).color };
+
+    /// Replaces the left child. It requires that the words have room for it.
+    fn set_left(&mut self, left: Option<Place>)
+        requires named { IsNameable (HasRoom Self.width) left }
+        ensures { node self.new ≡ record (node self.old) { left = left } };
+
+    /// Replaces the right child. It requires that the words have room for it.
+    fn set_right(&mut self, right: Option<Place>)
+        requires named { IsNameable (HasRoom Self.width) right }
+        ensures { node self.new ≡ record (node self.old) { right = right } };
+
+    /// Replaces the parent. It requires that the words have room for it.
+    fn set_parent(&mut self, parent: Option<Place>)
+        requires named { IsNameable (HasRoom Self.width) parent }
+        ensures { node self.new ≡ record (node self.old) { parent = parent } };
+
+    /// Replaces the color.
+    fn set_color(&mut self, color: Color)
+        ensures { node self.new ≡ record (node self.old) { color = color } };
+
+    /// Replaces the parent and the color of a linked place. It requires that the words have room for the parent.
+    fn set_parent_and_color(&mut self, parent: Option<Place>, color: Color)
+        requires linked { Self.is_linked self.old ≡ true }
+        requires named { IsNameable (HasRoom Self.width) parent }
+        ensures { node self.new ≡ record (node self.old) { parent = parent; color = color } };
+
+    // The law: both say alike whether the place is linked.
+    ghost node_linked: { (w : Self) → (node w).linked ≡ Self.is_linked w };
+}
