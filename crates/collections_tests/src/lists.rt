@@ -53,8 +53,8 @@ pub(crate) fn list_of<K: ForwardLinks<PlainTable<W>>, W: Words>(
     members: usize,
 ) -> ListFixture<K, W>
     requires { members ≤ 8 }
-    ensures covers { (table W.unlinked result.links).extent.places ≡ 8 }
-    ensures shown { ShowsPlaced (ShowsChain K.Between K.kept (table W.unlinked result.links) result.list) result.objects }
+    ensures covers { (table W.width W.unlinked result.links).extent.places ≡ 8 }
+    ensures shown { ShowsPlaced (ShowsChain K.Between K.kept (table W.width W.unlinked result.links) result.list) result.objects }
 {
     let (objects, mut links) = eight_objects(alloc, TENS).expect(rt, "memory");
     let list = filled(&mut links, members);
@@ -67,7 +67,7 @@ pub(crate) fn list_of<K: ForwardLinks<PlainTable<W>>, W: Words>(
 
 /// Unlinks each linked place by force, one after the other, and notes before each what is linked.
 pub(crate) fn free_each<W: Words>(rt: &impl Abort, notes: &mut Text, links: &mut PlainTable<W>)
-    ensures covers { (table W.unlinked links.new).extent.places ≡ 8 }
+    ensures covers { (table W.width W.unlinked links.new).extent.places ≡ 8 }
 {
     for index in 0..8 {
         let place = place_at(index);

@@ -82,7 +82,7 @@ fn write_dropped<K: ForwardLinks<PlainTable<W>>, W: Words>(
     notes: &mut Text,
     fixture: &mut ListFixture<K, W>,
 )
-    requires shown { ShowsSomeChain K.Between K.kept (table W.unlinked fixture.old.links) fixture.old.list }
+    requires shown { ShowsSomeChain K.Between K.kept (table W.width W.unlinked fixture.old.links) fixture.old.list }
 {
     let first = take_first(fixture.list.take(), &mut fixture.links);
     write_object(notes, first);

@@ -5,6 +5,7 @@ use Rattle.ic_unsafe_ref.specs.Places.{index_of}
 use Rattle.ic_link_ops.specs.Tables.{Table, IsLinked, IsCovered}
 use Rattle.ic_link_ops.specs.Links.{link_of}
 use Rattle.ic_link_ops.specs.PlainTables.{entries, table, linked_by}
+use Rattle.ic_link_ops.specs.Widths.{wide}
 use Rattle.ic_link_ops.specs.EntryLaws.{linked_in_range}
 use Rattle.ic_link_ops.specs.OneWord as one
 use Rattle.ic_any_collection.specs.declared.entry.Entry.{Entry}
@@ -17,8 +18,8 @@ use Rattle.ic_any_collection.specs.TablesWithPrev as with_prev
 module _ {M : Type 0} where
   -- covers and entries
   abbrev pub look : AnyTable M → Table Entry
-  look (Singly t) = read kind.Singly of_one (table one.no_word t)
-  look (Xor t) = read kind.Xor of_one (table one.no_word t)
+  look (Singly t) = read kind.Singly of_one (table wide one.no_word t)
+  look (Xor t) = read kind.Xor of_one (table wide one.no_word t)
   look (WithPrev t) = with_prev.look t
 
   -- a linked place is covered

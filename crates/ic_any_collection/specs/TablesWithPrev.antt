@@ -5,6 +5,7 @@ use Rattle.ic_unsafe_ref.specs.Places.{index_of}
 use Rattle.ic_link_ops.specs.Tables.{Table, IsLinked, IsCovered}
 use Rattle.ic_link_ops.specs.Links.{link_of}
 use Rattle.ic_link_ops.specs.PlainTables.{entries, table, linked_by}
+use Rattle.ic_link_ops.specs.Widths.{wide}
 use Rattle.ic_link_ops.specs.EntryLaws.{linked_in_range}
 use Rattle.ic_link_ops.specs.TwoWords as two
 use Rattle.ic_any_collection.specs.declared.entry.Entry.{Entry}
@@ -16,7 +17,7 @@ use Rattle.ic_any_collection.specs.Entries.{of_two, read, is_linked}
 
 module _ {M : Type 0} where
   abbrev pub look : TableWithPrev M → Table Entry
-  look (Doubly t) = read kind.Doubly of_two (table two.no_words t)
+  look (Doubly t) = read kind.Doubly of_two (table wide two.no_words t)
   look (Tree t) = tree.look t
 
   -- a linked place is covered

@@ -48,6 +48,6 @@ module _ {W V : Type 0} where
   abbrev pub linked_by : (W → Bool) → Link W V → Bool
   linked_by is_linked l = is_linked (words_of l)
 
--- of a table with no values
-abbrev pub table : {W A : Type 0} → W → PlainTable W A ⊤ → Table (Link W ⊤)
-table unlinked t = table_of (link_of unlinked) (entries t)
+-- of a table of this width with no values
+abbrev pub table : {W A : Type 0} → Width → W → PlainTable W A ⊤ → Table (Link W ⊤)
+table w unlinked t = table_beside w unlinked tt (λ _. []) t

@@ -27,8 +27,8 @@ pub(crate) fn at(rt: &impl Abort, index: usize) -> Place
 
 /// A table of one place, and the place, which is linked.
 pub(crate) fn one_linked<W: Words>(rt: &impl Abort, alloc: Global) -> (PlainTable<W>, Place)
-    ensures covered { IsCovered (table W.unlinked result.0) result.1 }
-    ensures linked { IsLinked (linked_by W.is_linked) (table W.unlinked result.0) result.1 }
+    ensures covered { IsCovered (table W.width W.unlinked result.0) result.1 }
+    ensures linked { IsLinked (linked_by W.is_linked) (table W.width W.unlinked result.0) result.1 }
 {
     let mut links = PlainTable::new(alloc);
     links.cover(1).expect(rt, "memory for a link");

@@ -7,6 +7,7 @@ use Rattle.ic_link_ops.specs.declared.singly_linked_list.Singly.{Singly}
 use Rattle.ic_link_ops.specs.declared.table.PlainTable.{PlainTable}
 use Rattle.ic_link_ops.specs.OneWord.{no_word, has_word, next_word_of}
 use Rattle.ic_link_ops.specs.PlainTables.{table, linked_by}
+use Rattle.ic_link_ops.specs.Widths.{wide}
 use Rattle.ic_link_ops.specs.Readings.{successor_of}
 use Rattle.ic_link_ops.specs.SinglyLinkedList.{Front, Shows, ShowsSome}
 use Rattle.ic_link_ops.specs.Tables.{Table}
@@ -24,7 +25,7 @@ is_linked = linked_by has_word
 
 -- THE PLAIN TABLE of these links, as clauses of its callers see it
 abbrev pub plain_table : {A : Type 0} → SinglyLinkOps A → Table SinglyLink
-plain_table links = table no_word links
+plain_table links = table wide no_word links
 
 -- a table of singly links shows s for the list with this first member
 abbrev pub ShowsList : Table SinglyLink → Front → List Place → Type 0

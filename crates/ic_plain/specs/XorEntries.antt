@@ -8,6 +8,7 @@ use Rattle.ic_link_ops.specs.declared.table.PlainTable.{PlainTable}
 use Rattle.ic_link_ops.specs.Chains.{Ends}
 use Rattle.ic_link_ops.specs.OneWord.{no_word, has_word, next_word_of}
 use Rattle.ic_link_ops.specs.PlainTables.{table, linked_by}
+use Rattle.ic_link_ops.specs.Widths.{wide}
 use Rattle.ic_link_ops.specs.Readings.{XorJoins}
 use Rattle.ic_link_ops.specs.Tables.{Table}
 use Rattle.ic_link_ops.specs.XorLinkedList.{Shows, ShowsSome}
@@ -25,7 +26,7 @@ is_linked = linked_by has_word
 
 -- THE PLAIN TABLE of these links, as clauses of its callers see it
 abbrev pub plain_table : {A : Type 0} → XorLinkOps A → Table XorLink
-plain_table links = table no_word links
+plain_table links = table wide no_word links
 
 -- a table of XOR links shows s for the list with these ends
 abbrev pub ShowsList : Table XorLink → Ends → List Place → Type 0

@@ -13,18 +13,19 @@ use Rattle.ic_link_ops.specs.EntryLaws.{linked_in_range}
 use Rattle.ic_link_ops.specs.Links.{link_of}
 use Rattle.ic_link_ops.specs.PlainTables.{entries, table, linked_by}
 use Rattle.ic_link_ops.specs.Tables.{Table, IsCovered, IsUnlinked, LinksAlso, Unlinks}
+use Rattle.ic_link_ops.specs.Widths.{Width, nameable}
 use Rattle.ic_pool.specs.declared.place_error.PlaceError.{PlaceError}
 use Rattle.ic_pool.specs.declared.place_error.PlaceError.TheVariants.{NoPlaceLeft, OutOfMemory}
 use Rattle.ic_pool.specs.Pooled.{Grows, IsPooled}
 use Rattle.ic_pool.specs.Refusals.{lacks_place, value_of}
 
 -- AT FIRST: nothing is placed, and the table covers no place
-pub pooled_first : {W A T : Type 0} (is_linked : W → Bool) (unlinked : W) → is_linked unlinked ≡ false → (links : PlainTable W A ⊤) {objects : Objects T}
-    → (table unlinked links).extent.places ≡ 0 → ((p : Place) → object_at objects p ≡ None) → IsPooled (linked_by is_linked) objects (table unlinked links)
-pooled_first is_linked unlinked starts links {objects} none vacant = record {
+pub pooled_first : {W A T : Type 0} (w : Width) (is_linked : W → Bool) (unlinked : W) → is_linked unlinked ≡ false → (links : PlainTable W A ⊤) {objects : Objects T}
+    → (table w unlinked links).extent.places ≡ 0 → ((p : Place) → object_at objects p ≡ None) → IsPooled (linked_by is_linked) objects (table w unlinked links)
+pooled_first w is_linked unlinked starts links {objects} none vacant = record {
   covered = λ p is. let never : false ≡ true = sym (ap is_some (vacant p)) ∙ is in absurd (cc);
   vacant = λ p gone. false_from_ne_true _ (λ is.
-      let within = linked_in_range (linked_by is_linked) (link_of unlinked) starts (entries links) (index_of p) is in
+      let within = linked_in_range (linked_by is_linked) (link_of unlinked) starts (nameable w (entries links)) (index_of p) is in
       absurd (omega (arith, within, none)));
 }
 

@@ -5,10 +5,16 @@ use Rattle.ic_link_ops.specs.declared.link.Link.{Link}
 use Rattle.ic_link_ops.specs.declared.rbtree.ThreeWords.{ThreeWords}
 use Rattle.ic_link_ops.specs.declared.table.PlainTable.{PlainTable}
 use Rattle.ic_link_ops.specs.Tables.{Table}
+use Rattle.ic_link_ops.specs.Links.{words_of}
 use Rattle.ic_link_ops.specs.PlainTables.{table, linked_by}
+use Rattle.ic_link_ops.specs.Widths.{wide}
 use Rattle.ic_link_ops.specs.ThreeWords.{no_words, has_link, node_of}
-use Rattle.ic_link_ops.specs.RedBlackTree.{Shows, ShowsSome}
+use Rattle.ic_link_ops.specs.RedBlackTree.{Node, Shows, ShowsSome}
 use Rattle.ic_rbtree.specs.Members.{members}
+
+-- what a link says of a tree, by what its words say
+abbrev pub node_by : {W V : Type 0} → (W → Node) → Link W V → Node
+node_by node l = node (words_of l)
 
 -- the link of a tree, and a table of such links
 abbrev pub TreeLink : Type 0
@@ -23,7 +29,7 @@ is_linked = linked_by has_link
 
 -- the plain table of tree links, as clauses of its callers see it
 abbrev pub plain_table : {A : Type 0} → TreeLinkOps A → Table TreeLink
-plain_table links = table no_words links
+plain_table links = table wide no_words links
 
 -- a table of tree links shows s for the tree with this root
 abbrev pub ShowsTree : Table TreeLink → Option Place → List Place → Type 0

@@ -7,16 +7,18 @@
 ghost use Rattle.std.specs.Prelude.{◌≡◌, ◌↔◌, ◌⊎◌, IsTrue, Some, List};
 ghost use Rattle.ic_unsafe_ref.specs.declared.place.Place.{Place};
 ghost use Rattle.ic_link_ops.specs.Sequences.{IsMember};
+ghost use Rattle.ic_link_ops.specs.PlainTables.{table_beside};
+ghost use Rattle.ic_link_ops.specs.RedBlackTree.{Shows, ShowsSome};
 ghost use Rattle.ic_link_ops.specs.Tables.{IsCovered};
-ghost use Rattle.ic_link_ops.specs.ThreeWords.{node_of};
-ghost use Rattle.ic_rbtree.specs.PlainTrees.{plain_table, PlainShows, PlainShowsSome};
 ghost use Rattle.ic_rbtree.specs.Members.{HasChild};
+ghost use Rattle.ic_rbtree.specs.PlainTrees.{node_by};
 ghost use Rattle.ic_rbtree.specs.Tree.{root_in};
 
 use crate::head::TreeHead;
 use crate::readings::is_at;
-use crate::{KeyAdapter, LinkOps, RBTree};
+use crate::{KeyAdapter, RBTree};
 use ic_link_ops::rbtree::RBTreeOps;
+use ic_link_ops::{LinkValue, NodeWords, PlainTable};
 use ic_unsafe_ref::Place;
 use std::alloc::Allocator;
 
@@ -25,8 +27,12 @@ use std::alloc::Allocator;
 const LONGEST_PATH: usize = 66;
 
 // Whether `parent` is covered and linked, and has the place as a child.
-fn has_child<M: Allocator>(links: &LinkOps<M>, parent: Place, place: Place) -> bool
-    ensures { IsTrue result ↔ HasChild node_of (plain_table links.now) parent place }
+fn has_child<W: NodeWords, M: Allocator, V: LinkValue>(
+    links: &PlainTable<W, M, V>,
+    parent: Place,
+    place: Place,
+) -> bool
+    ensures { IsTrue result ↔ HasChild (node_by W.node) (table_beside W.width W.unlinked V.initial V.told links.now) parent place }
 {
     if parent.index() >= links.covers() || !links.is_linked(parent) {
         return false;
@@ -39,10 +45,15 @@ impl<A: KeyAdapter, E: TreeHead> RBTree<A, E> {
     ///
     /// It climbs by the parents, and looks at each step whether the parent has the place as a child: so links that an
     /// object keeps from a tree that was emptied by `fast_clear` make no member of it.
-    pub fn contains<M: Allocator>(&self, links: &LinkOps<M>, place: Place) -> bool
-        requires covered { IsCovered (plain_table links.now) place }
-        requires shown { PlainShowsSome links.now (root_in E.kept self.now) }
-        ensures { (s : List Place) → PlainShows links.now (root_in E.kept self.now) s → IsTrue result ↔ IsMember place s }
+    pub fn contains<W: NodeWords, M: Allocator, V: LinkValue>(
+        &self,
+        links: &PlainTable<W, M, V>,
+        place: Place,
+    ) -> bool
+        requires covered { IsCovered (table_beside W.width W.unlinked V.initial V.told links.now) place }
+        requires shown { ShowsSome (node_by W.node) (table_beside W.width W.unlinked V.initial V.told links.now) (root_in E.kept self.now) }
+        ensures { (s : List Place) → Shows (node_by W.node) (table_beside W.width W.unlinked V.initial V.told links.now) (root_in E.kept self.now) s
+            → IsTrue result ↔ IsMember place s }
     {
         if !links.is_linked(place) {
             return false;

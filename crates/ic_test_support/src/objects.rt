@@ -20,7 +20,7 @@ pub fn eight_objects<W: Words>(
     alloc: Global,
     numbers: [u64; 8],
 ) -> Option<(Objects<u64>, PlainTable<W>)>
-    ensures covers { IfSome result (λ made. (table W.unlinked made.1).extent.places ≡ 8) }
+    ensures covers { IfSome result (λ made. (table W.width W.unlinked made.1).extent.places ≡ 8) }
     ensures placed { IfSome result (λ made. (q : Place) → index_of q < 8 → is_placed made.0 q ≡ true) }
 {
     let mut objects = Objects::new(alloc);

@@ -17,7 +17,7 @@ use ic_unsafe_ref::{Objects, Place};
 
 /// Whether an object stands at each place that is covered.
 pub fn are_placed<W: Words>(links: &PlainTable<W>, objects: &Objects<u64>) -> bool
-    ensures placed { IsTrue result → (q : Place) → IsCovered (table W.unlinked links.now) q → is_placed objects.now q ≡ true }
+    ensures placed { IsTrue result → (q : Place) → IsCovered (table W.width W.unlinked links.now) q → is_placed objects.now q ≡ true }
 {
     for index in 0..links.covers() {
         let Some(place) = Place::new(index) else {

@@ -7,6 +7,7 @@ ghost use Rattle.ic_unsafe_ref.specs.Objects.{is_placed};
 ghost use Rattle.ic_unsafe_ref.specs.Places.{index_of};
 ghost use Rattle.ic_link_ops.specs.OneWord.{no_word};
 ghost use Rattle.ic_link_ops.specs.PlainTables.{table};
+ghost use Rattle.ic_link_ops.specs.Widths.{wide};
 ghost use Rattle.ic_link_ops.specs.Tables.{IsCovered};
 ghost use Rattle.ic_hash_table.specs.HashTable.{adapter_of, slots_of, number, HoldsSome, IsNew};
 
@@ -87,7 +88,7 @@ const NUMBERS: [u64; 8] = [10, 20, 10, 30, 20, 40, 50, 60];
 
 // No notes, these numbers as objects, a table of links that covers their places, and four empty buckets.
 fn fixture(rt: &impl Abort, alloc: Global) -> (Text, Objects<u64>, LinkOps, Vec<PlaceWord>)
-    ensures covers { (table no_word result.2).extent.places ≡ 8 }
+    ensures covers { (table wide no_word result.2).extent.places ≡ 8 }
     ensures placed { (q : Place) → index_of q < 8 → is_placed result.1 q ≡ true }
     ensures none { AllByRecursion (λ front. front ≡ None) result.3.items }
     ensures count { length result.3.items ≡ 4 }

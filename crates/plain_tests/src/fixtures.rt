@@ -29,8 +29,8 @@ pub(crate) fn unlinked<W: Words, T>(
     links: &PlainTable<W>,
     index: usize,
 ) -> UnsafeRef<T>
-    ensures covered { IsCovered (table W.unlinked links.now) result }
-    ensures unlinked { IsUnlinked (linked_by W.is_linked) (table W.unlinked links.now) result }
+    ensures covered { IsCovered (table W.width W.unlinked links.now) result }
+    ensures unlinked { IsUnlinked (linked_by W.is_linked) (table W.width W.unlinked links.now) result }
 {
     let place = Place::new(index).expect(rt, "the index of a place");
     assert!(rt; place.index() < links.covers());

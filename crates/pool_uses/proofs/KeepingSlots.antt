@@ -18,6 +18,7 @@ use Rattle.ic_link_ops.specs.OneWord.{no_word, has_word}
 use Rattle.ic_link_ops.specs.PlainTables.{entries}
 use Rattle.ic_link_ops.specs.Sequences.{first, IsAbsent, IsDistinct, IsMember}
 use Rattle.ic_link_ops.specs.SinglyLinkedList.{Front, list_from, Shows}
+use Rattle.ic_link_ops.specs.Widths.{wide}
 use Rattle.ic_link_ops.specs.Tables.{IsCovered, IsUnlinked, Unlinks, KeepsBeside}
 use Rattle.ic_link_ops.proofs.SequenceLemmas.{distinct_remove, first_is, member_split, none_not}
 use Rattle.ic_link_ops.proofs.SinglyLists.{members_shown, singly_lists}
@@ -151,7 +152,7 @@ module _ {T : Type 0} {objects : Objects (Slot T)} {len : ℕ} (k : IsCounted ob
 pub kept_none : {T K A : Type 0} (objects : Objects (Slot T)) (links : PlainTable (OneWord K) A ⊤) → ((p : Place) → object_at objects p ≡ None) → (plain_table links).extent.places ≡ 0
     → IsKept objects links (list_from None) 0
 kept_none {T} objects links vacant no_links =
-    let pooled = pooled_first has_word no_word refl links no_links vacant in
+    let pooled = pooled_first wide has_word no_word refl links no_links vacant in
     record {
       holds = holds_none slot_reading links (alone_none (list_from None) (list_from None) refl) (λ p. ap (home_or vacant_home) (vacant p)) (λ p. pooled.vacant p (vacant p));
       pooled = pooled;

@@ -7,6 +7,7 @@ use Rattle.ic_link_ops.specs.declared.one_word.OneWord.{OneWord}
 use Rattle.ic_link_ops.specs.declared.table.PlainTable.{PlainTable}
 use Rattle.ic_link_ops.specs.OneWord.{no_word, has_word, next_word_of}
 use Rattle.ic_link_ops.specs.PlainTables.{linked_by, table}
+use Rattle.ic_link_ops.specs.Widths.{wide}
 use Rattle.ic_link_ops.specs.Readings.{successor_of}
 use Rattle.ic_link_ops.specs.Sequences.{IsDistinct}
 use Rattle.ic_link_ops.specs.SinglyLinkedList.{Front, Successor, Shows, list_from, members}
@@ -26,7 +27,7 @@ module _ {K : Type 0} where
   successor = successor_of next_word_of has_word
 
   abbrev pub plain_table : {A : Type 0} → PlainTable (OneWord K) A ⊤ → Table (Link (OneWord K) ⊤)
-  plain_table links = table no_word links
+  plain_table links = table wide no_word links
 
   abbrev pub members_of : {A : Type 0} → PlainTable (OneWord K) A ⊤ → Front → List Place
   members_of links list = members successor (plain_table links) list

@@ -12,6 +12,7 @@ use Rattle.ic_unsafe_ref.proofs.Placing.{placed_there, others_placed, gone_there
 use Rattle.ic_link_ops.specs.EntryLaws.{linked_in_range}
 use Rattle.ic_link_ops.specs.PlacedObjects.{ArePlaced, values_at}
 use Rattle.ic_link_ops.specs.Positions.{HasMember}
+use Rattle.ic_link_ops.specs.Widths.{wide}
 use Rattle.ic_link_ops.specs.Tables.{LinksAlso, Unlinks}
 use Rattle.ic_link_ops.specs.ThreeWords.{no_words, has_link, node_of}
 use Rattle.ic_link_ops.specs.Times.{times_in}
@@ -81,7 +82,7 @@ module _ {A B : Type 0} where
       → (plain_table w).extent.places ≡ 0 → root ≡ None → Keeps objects w root z
   kept_none objects w root z vacant no_starts none = record {
     starts = [];
-    by_start = each_none (λ p. (pooled_first has_link no_words refl w {objects = objects} no_starts vacant).vacant p (vacant p)) none vacant;
+    by_start = each_none (λ p. (pooled_first wide has_link no_words refl w {objects = objects} no_starts vacant).vacant p (vacant p)) none vacant;
     beside = λ p r there. absurd (cc (vacant p, there));
     consistent = λ s shown q member but x fresh. absurd (omega (arith, member, ap (times_in q) (no_root (subst (λ (top : Option Place). PlainShows w top s) none shown))));
     apart = tt;

@@ -44,8 +44,8 @@ fn write_found(notes: &mut Text, found: Option<usize>) {
 fn list_of_three<K: NamesItsNext<PlainTable<W>>, W: Words>(
     links: &mut PlainTable<W>,
 ) -> Chain<K, u64>
-    requires covered { (table W.unlinked links.old).extent.places ≡ 3 }
-    ensures covers { (table W.unlinked links.new).extent.places ≡ 3 }
+    requires covered { (table W.width W.unlinked links.old).extent.places ≡ 3 }
+    ensures covers { (table W.width W.unlinked links.new).extent.places ≡ 3 }
 {
     let mut list = Chain::new();
     for index in 0..3 {

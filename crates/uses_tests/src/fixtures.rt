@@ -46,7 +46,7 @@ pub(crate) fn index_of_object<T>(object: Option<UnsafeRef<T>>) -> usize {
 
 /// A table that covers five places.
 pub(crate) fn covering<W: Words>(rt: &impl Abort, alloc: Global) -> PlainTable<W>
-    ensures { (table W.unlinked result).extent.places ≡ 5 }
+    ensures { (table W.width W.unlinked result).extent.places ≡ 5 }
 {
     let mut links = PlainTable::new(alloc);
     links.cover(5).expect(rt, MEMORY);
@@ -87,7 +87,7 @@ pub(crate) fn object<T, W: Words>(
     index: usize,
 ) -> UnsafeRef<T>
     ensures placed { is_placed objects.now result ≡ true }
-    ensures covered { IsCovered (table W.unlinked links.now) result }
+    ensures covered { IsCovered (table W.width W.unlinked links.now) result }
 {
     let place = Place::new(index).expect(rt, "the index of a place");
     assert!(rt; objects.is_placed(place) && place.index() < links.covers());

@@ -7,7 +7,7 @@ pub returns-then-is_at : goal.returns-then-is_at
 returns-then-is_at g c = (
   λ yes. record {
     covered = omega (arith, c.if-index-covers.false, c.index.ensures.value, c.covers.ensures);
-    linked = sym c.if-not-is_linked.ensures;
+    linked = g.met.W.NodeWords.node_linked _ ∙ sym c.if-not-is_linked.ensures;
     child = inl (sym c.left.ensures ∙ is_end_yes c.left.result c.args.place (sym c.if-is_at.ensures));
   },
   λ has. c.if-is_at.true,
@@ -17,7 +17,7 @@ pub returns-else-is_at : goal.returns-else-is_at
 returns-else-is_at g c = (
   λ yes. record {
     covered = omega (arith, c.if-index-covers.false, c.index.ensures.value, c.covers.ensures);
-    linked = sym c.if-not-is_linked.ensures;
+    linked = g.met.W.NodeWords.node_linked _ ∙ sym c.if-not-is_linked.ensures;
     child = inr (sym c.right.ensures ∙ is_end_yes c.right.result c.args.place (sym c.is_at-else-is_at.ensures ∙ yes));
   },
   λ has. elim has.child [

@@ -1,24 +1,25 @@
 use Rattle.std.proofs.Common.{refl, sym, ◌∙◌, arith}
 use Rattle.ic_unsafe_ref.specs.Places.{index_of}
-use Rattle.ic_link_ops.specs.Links.{link_of}
+use Rattle.ic_link_ops.specs.Links.{link_with}
 use Rattle.ic_link_ops.specs.PlainTables.{entries, linked_by}
 use Rattle.ic_link_ops.specs.EntryLaws.{linked_in_range}
-use Rattle.ic_link_ops.specs.ThreeWords.{has_link, no_words, node_of}
+use Rattle.ic_link_ops.specs.Widths.{nameable}
 use Rattle.ic_link_ops.proofs.ShownTrees.{holds_linked, root_member}
 use Rattle.ic_link_ops.proofs.Walks.{is_end_yes}
+use Rattle.ic_rbtree.specs.PlainTrees.{node_by}
 use Rattle.ic_rbtree.proofs.Climbed.{is_end_there, starts, climbs, has_child, child_member, at_root}
 use Rattle.ic_rbtree.proofs.tree.RBTree.contains.Goals as goal
 
 pub returns-then-not-is_linked : goal.returns-then-not-is_linked
 returns-then-not-is_linked g c s shown = (
   λ never. absurd (cc),
-  λ member. c.if-not-is_linked.ensures ∙ holds_linked shown.held member,
+  λ member. c.if-not-is_linked.ensures ∙ (sym (g.met.W.NodeWords.node_linked _) ∙ holds_linked shown.held member),
 )
 
 pub loop-steps-init : goal.loop-steps-init
 loop-steps-init g c = record {
   linked = sym c.if-not-is_linked.ensures;
-  climbs = λ s shown member. starts node_of shown member;
+  climbs = λ s shown member. starts (node_by g.W.NodeWords.node) shown member;
   back = λ s shown member. member;
   few = omega arith;
 }
@@ -27,7 +28,7 @@ pub returns-in_default : goal.returns-in_default
 returns-in_default g c s shown =
     let i = c.loop-steps.invariant in (
       λ yes. i.back s shown (root_member shown (sym c.root.ensures ∙ is_end_yes c.root.result c.loop-steps.place (sym c.is_at.ensures ∙ yes))),
-      λ member. c.is_at.ensures ∙ is_end_there (c.root.ensures ∙ at_root node_of shown (i.climbs s shown member) (sym c.parent.ensures ∙ c.in_default.is)),
+      λ member. c.is_at.ensures ∙ is_end_there (c.root.ensures ∙ at_root (node_by g.W.NodeWords.node) shown (i.climbs s shown member) (sym c.parent.ensures ∙ c.in_default.is)),
     )
 
 pub returns-then-not-has_child : goal.returns-then-not-has_child
@@ -35,7 +36,8 @@ returns-then-not-has_child g c s shown = (
   λ never. absurd (cc),
   λ member.
       c.if-not-has_child.ensures.1
-      (has_child node_of shown (λ x e. linked_in_range (linked_by has_link) (link_of no_words) refl (entries c.args.links.now) (index_of x) e)
+      (has_child (node_by g.W.NodeWords.node) shown (λ x e. linked_in_range (linked_by g.W.Words.is_linked) (link_with g.W.Words.unlinked g.V.LinkValue.initial) g.met.W.Words.starts_unlinked
+      (nameable g.W.Words.width (entries c.args.links.now)) (index_of x) (sym (g.met.W.NodeWords.node_linked _) ∙ e))
       (c.loop-steps.invariant.climbs s shown member) (sym c.in-Some.ensures)),
 )
 
@@ -44,8 +46,8 @@ loop-steps-preserved g c =
     let i = c.loop-steps.invariant in
     let has = c.if-not-has_child.ensures.0 refl in
     record {
-      linked = has.linked;
-      climbs = λ s shown member. climbs node_of shown (i.climbs s shown member) (sym c.in-Some.ensures);
-      back = λ s shown member. i.back s shown (child_member node_of shown has member);
+      linked = sym (g.met.W.NodeWords.node_linked _) ∙ has.linked;
+      climbs = λ s shown member. climbs (node_by g.W.NodeWords.node) shown (i.climbs s shown member) (sym c.in-Some.ensures);
+      back = λ s shown member. i.back s shown (child_member (node_by g.W.NodeWords.node) shown has member);
       few = omega (arith, c.loop-steps-test.true);
     }

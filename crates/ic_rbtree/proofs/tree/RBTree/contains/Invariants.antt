@@ -1,21 +1,25 @@
 use Rattle.std.proofs.Common.{List, ◌-◌, ◌≤◌}
 use Rattle.ic_unsafe_ref.specs.declared.place.Place.{Place}
 use Rattle.ic_link_ops.specs.Sequences.{IsMember}
-use Rattle.ic_link_ops.specs.PlainTables.{linked_by}
+use Rattle.ic_link_ops.specs.PlainTables.{linked_by, table_beside}
+use Rattle.ic_link_ops.specs.RedBlackTree.{Shows}
 use Rattle.ic_link_ops.specs.Tables.{IsLinked}
-use Rattle.ic_link_ops.specs.ThreeWords.{has_link, node_of}
-use Rattle.ic_rbtree.specs.PlainTrees.{plain_table, PlainShows}
+use Rattle.ic_rbtree.specs.PlainTrees.{node_by}
 use Rattle.ic_rbtree.specs.Tree.{root_in}
 use Rattle.ic_rbtree.proofs.Climbed.{Climbs}
 use Rattle.ic_rbtree.proofs.tree.RBTree.contains.Given as goal
 
 abbrev pub invariant-loop-steps : goal.invariant-loop-steps
 invariant-loop-steps g l =
+    let W = g.W.Words in
+    let node = node_by g.W.NodeWords.node in
     let root = root_in g.E.TreeHead.kept l.fn.self in
+    let table = table_beside W.width W.unlinked g.V.LinkValue.initial g.V.LinkValue.told l.links in
+    let old_table = table_beside W.width W.unlinked g.V.LinkValue.initial g.V.LinkValue.told l.fn.links in
     record {
-      linked : IsLinked (linked_by has_link) (plain_table l.links) l.place;
-      climbs : (s : List Place) → PlainShows l.fn.links root s → IsMember l.fn.place s → Climbs node_of (plain_table l.fn.links) root l.place l.steps;
-      back : (s : List Place) → PlainShows l.fn.links root s → IsMember l.place s → IsMember l.fn.place s;
+      linked : IsLinked (linked_by W.is_linked) table l.place;
+      climbs : (s : List Place) → Shows node old_table root s → IsMember l.fn.place s → Climbs node old_table root l.place l.steps;
+      back : (s : List Place) → Shows node old_table root s → IsMember l.place s → IsMember l.fn.place s;
       few : l.steps ≤ 66;
     }
 
