@@ -38,6 +38,8 @@ impl<'a, W, V> LentTable<'a, W, V> {
     ghost use Rattle.ic_link_ops.specs.LentTables.{IsView};
 
     /// A view of the links that [`PlainTable::lend`](crate::PlainTable::lend) lends. O(1).
+    ///
+    /// It covers those of them that its words can name: the first 536,870,911 if these have 4 bytes, and else all.
     #[inline]
     pub fn new(links: &'a mut [Link<W, V>]) -> LentTable<'a, W, V>
         ensures { IsView links.entry result }

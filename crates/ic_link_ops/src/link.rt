@@ -39,7 +39,7 @@ pub trait Words: Drop {
     fn most_places() -> usize
         ensures { result ≡ most_places width };
 
-    /// Of so many places, how many the words have room for.
+    /// How many of so many places the words can name.
     fn count_nameable(places: usize) -> usize
         ensures { result ≡ count_nameable width places };
 
@@ -70,7 +70,7 @@ pub trait NextWord: Words {
         requires linked { Self.is_linked self.now ≡ true }
         ensures { bits_of result ≡ next_word self.now };
 
-    /// Replaces the word for what follows. It requires that the place is linked, and leaves it so.
+    /// Replaces the word for what follows. It requires that the place is linked, and leaves it so, and that there is room for the word.
     fn set_next_word(&mut self, word: Word)
         requires linked { Self.is_linked self.old ≡ true }
         requires kept { CanKeep Self.width (bits_of word) }
@@ -91,7 +91,7 @@ pub trait PrevPlace: NextWord {
     fn prev(&self) -> Option<Place>
         ensures { result ≡ prev self.now };
 
-    /// Replaces the place before, and leaves the word for what follows.
+    /// Replaces the place before, and leaves the word for what follows. It requires that there is room for the name of the place.
     fn set_prev(&mut self, place: Option<Place>)
         requires named { IsNameable (HasRoom Self.width) place }
         ensures set { prev self.new ≡ place }

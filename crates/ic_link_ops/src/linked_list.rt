@@ -40,7 +40,7 @@ pub trait LinkedListOps: link_ops::LinkOps {
         requires linked { IsLinked Self.linked (Self.table self.now) place }
         ensures { result ≡ (neighbors_at neighbors (Self.table self.now) place).prev };
 
-    /// Sets the place behind `place`. It requires that the place is linked. O(1).
+    /// Sets the place behind `place`. It requires that the place is linked, and that the table can name that one. O(1).
     fn set_next(&mut self, place: Place, next: Option<Place>)
         requires linked { IsLinked Self.linked (Self.table self.old) place }
         requires next { IsNameable Self.CanName next }
@@ -49,7 +49,7 @@ pub trait LinkedListOps: link_ops::LinkOps {
         ensures frame { ChangesOnly (Self.table self.old) (Self.table self.new) place }
         ensures no_step { Self.Does self.old self.new [] };
 
-    /// Sets the place before `place`. It requires that the place is linked. O(1).
+    /// Sets the place before `place`. It requires that the place is linked, and that the table can name that one. O(1).
     fn set_prev(&mut self, place: Place, prev: Option<Place>)
         requires linked { IsLinked Self.linked (Self.table self.old) place }
         requires prev { IsNameable Self.CanName prev }
@@ -58,7 +58,8 @@ pub trait LinkedListOps: link_ops::LinkOps {
         ensures frame { ChangesOnly (Self.table self.old) (Self.table self.new) place }
         ensures no_step { Self.Does self.old self.new [] };
 
-    /// Links `place` between two others, unless it is refused, and says whether it did. It requires that the place is covered. O(1).
+    /// Links `place` between two others, unless it is refused, and says whether it did. It requires that the place is covered, and that the
+    /// table can name the others. O(1).
     ///
     /// It is `acquire_link` and both setters in one, for a table that can write each word once.
     #[inline]
@@ -248,12 +249,14 @@ impl<W: PrevPlace, V: LinkValue> LinkedListOps for LentTable<'_, W, V> {
 
     #[inline]
     fn next(&self, place: Place) -> Option<Place> {
-        self.link(place).words.next_word().place()
+        let link = self.link(place);
+        link.words.next_word().place()
     }
 
     #[inline]
     fn prev(&self, place: Place) -> Option<Place> {
-        self.link(place).words.prev()
+        let link = self.link(place);
+        link.words.prev()
     }
 
     #[inline]

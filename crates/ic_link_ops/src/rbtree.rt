@@ -52,7 +52,7 @@ pub trait RBTreeOps: link_ops::LinkOps {
         requires linked { IsLinked Self.linked (Self.table self.now) place }
         ensures { result ≡ (node_at node (Self.table self.now) place).color };
 
-    /// Sets the left child of `place`. It requires that the place is linked. O(1).
+    /// Sets the left child of `place`. It requires that the place is linked, and that the table can name the child. O(1).
     fn set_left(&mut self, place: Place, left: Option<Place>)
         requires linked { IsLinked Self.linked (Self.table self.old) place }
         requires left { IsNameable Self.CanName left }
@@ -61,7 +61,7 @@ pub trait RBTreeOps: link_ops::LinkOps {
         ensures frame { ChangesOnly (Self.table self.old) (Self.table self.new) place }
         ensures no_step { Self.Does self.old self.new [] };
 
-    /// Sets the right child of `place`. It requires that the place is linked. O(1).
+    /// Sets the right child of `place`. It requires that the place is linked, and that the table can name the child. O(1).
     fn set_right(&mut self, place: Place, right: Option<Place>)
         requires linked { IsLinked Self.linked (Self.table self.old) place }
         requires right { IsNameable Self.CanName right }
@@ -70,7 +70,7 @@ pub trait RBTreeOps: link_ops::LinkOps {
         ensures frame { ChangesOnly (Self.table self.old) (Self.table self.new) place }
         ensures no_step { Self.Does self.old self.new [] };
 
-    /// Sets the parent of `place`. It requires that the place is linked. O(1).
+    /// Sets the parent of `place`. It requires that the place is linked, and that the table can name the parent. O(1).
     fn set_parent(&mut self, place: Place, parent: Option<Place>)
         requires linked { IsLinked Self.linked (Self.table self.old) place }
         requires parent { IsNameable Self.CanName parent }
@@ -87,7 +87,7 @@ pub trait RBTreeOps: link_ops::LinkOps {
         ensures frame { ChangesOnly (Self.table self.old) (Self.table self.new) place }
         ensures no_step { Self.Does self.old self.new [] };
 
-    /// Sets the parent and the color of `place`, at once. It requires that the place is linked. O(1).
+    /// Sets the parent and the color of `place`, at once. It requires that the place is linked, and that the table can name the parent. O(1).
     fn set_parent_and_color(&mut self, place: Place, parent: Option<Place>, color: Color)
         requires linked { IsLinked Self.linked (Self.table self.old) place }
         requires parent { IsNameable Self.CanName parent }
@@ -360,22 +360,26 @@ impl<W: NodeWords, V: LinkValue> RBTreeOps for LentTable<'_, W, V> {
 
     #[inline]
     fn left(&self, place: Place) -> Option<Place> {
-        self.link(place).words.left()
+        let link = self.link(place);
+        link.words.left()
     }
 
     #[inline]
     fn right(&self, place: Place) -> Option<Place> {
-        self.link(place).words.right()
+        let link = self.link(place);
+        link.words.right()
     }
 
     #[inline]
     fn parent(&self, place: Place) -> Option<Place> {
-        self.link(place).words.parent()
+        let link = self.link(place);
+        link.words.parent()
     }
 
     #[inline]
     fn color(&self, place: Place) -> Color {
-        self.link(place).words.color()
+        let link = self.link(place);
+        link.words.color()
     }
 
     #[inline]

@@ -33,7 +33,7 @@ pub trait SinglyLinkedListOps: link_ops::LinkOps {
         requires linked { IsLinked Self.linked (Self.table self.now) place }
         ensures { result ≡ (successor_at successor (Self.table self.now) place).next };
 
-    /// Sets the place behind `place`. It requires that the place is linked. O(1).
+    /// Sets the place behind `place`. It requires that the place is linked, and that the table can name that one. O(1).
     fn set_next(&mut self, place: Place, next: Option<Place>)
         requires linked { IsLinked Self.linked (Self.table self.old) place }
         requires next { IsNameable Self.CanName next }
@@ -42,7 +42,8 @@ pub trait SinglyLinkedListOps: link_ops::LinkOps {
         ensures frame { ChangesOnly (Self.table self.old) (Self.table self.new) place }
         ensures no_step { Self.Does self.old self.new [] };
 
-    /// Links `place` in front of another, unless it is refused, and says whether it did. It requires that the place is covered. O(1).
+    /// Links `place` in front of another, unless it is refused, and says whether it did. It requires that the place is covered, and that the
+    /// table can name the other. O(1).
     ///
     /// It is `acquire_link` and `set_next` in one, for a table that can write the word once.
     #[inline]
@@ -126,7 +127,8 @@ impl<W: NextWord, V: LinkValue> SinglyLinkedListOps for LentTable<'_, W, V> {
 
     #[inline]
     fn next(&self, place: Place) -> Option<Place> {
-        self.link(place).words.next_word().place()
+        let link = self.link(place);
+        link.words.next_word().place()
     }
 
     #[inline]

@@ -122,9 +122,9 @@ impl<W: Words, A: Allocator, V: LinkValue> PlainTable<W, A, V> {
 
     /// Covers the first `count` places, with an unlinked entry for each that is new.
     ///
-    /// It is refused above 4,294,967,296 places, and where no memory is found; then nothing has changed. The entries
-    /// that are there stay, and where `count` is smaller than what is covered nothing changes. At most one request
-    /// for memory.
+    /// It is refused above 4,294,967,296 places, or 536,870,911 if the words have 4 bytes, and where no memory is found;
+    /// then nothing has changed. The entries that are there stay, and where `count` is smaller than what is covered
+    /// nothing changes. At most one request for memory.
     pub fn cover(&mut self, count: usize) -> Result<(), CoverError>
         ensures too_many { (result ≡ Err CoverError.TooManyPlaces) ↔ most_places W.width < count }
         ensures covers { OnOk result ((table_beside W.width W.unlinked V.initial V.told self.new).extent.places ≡ max (table_beside W.width W.unlinked V.initial V.told self.old).extent.places count) }
@@ -193,8 +193,8 @@ impl<W: Words, A: Allocator, V: LinkValue> LinkOps for PlainTable<W, A, V> {
     #[inline]
     fn release_link(&mut self, place: Place) {
         let index = self.slot_of_linked(place);
-        let entry = &mut self.entries[index];
-        entry.words.unlink();
+        let link = &mut self.entries[index];
+        link.words.unlink();
     }
 
     ghost linked_is_covered = { λ t p h. linked_in_range (linked_by W.is_linked) (link_with W.unlinked V.initial) W.starts_unlinked (nameable W.width (entries t)) (index_of p) h };

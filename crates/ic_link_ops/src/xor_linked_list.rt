@@ -42,7 +42,7 @@ pub trait XorLinkedListOps: link_ops::LinkOps {
         requires linked { IsLinked Self.linked (Self.table self.now) place }
         ensures { result ≡ other ((Self.table self.now).entry place) next };
 
-    /// Sets both neighbors of `place`. It requires that the place is linked. O(1).
+    /// Sets both neighbors of `place`. It requires that the place is linked, and that the table can name both. O(1).
     fn set(&mut self, place: Place, prev: Option<Place>, next: Option<Place>)
         requires linked { IsLinked Self.linked (Self.table self.old) place }
         requires prev { IsNameable Self.CanName prev }
@@ -52,7 +52,7 @@ pub trait XorLinkedListOps: link_ops::LinkOps {
         ensures frame { ChangesOnly (Self.table self.old) (Self.table self.new) place }
         ensures no_step { Self.Does self.old self.new [] };
 
-    /// Puts `new` where `old` stood beside `place`. It requires that the place is linked. O(1).
+    /// Puts `new` where `old` stood beside `place`. It requires that the place is linked, and that the table can name both. O(1).
     fn replace_next_or_prev(&mut self, place: Place, old: Option<Place>, new: Option<Place>)
         requires linked { IsLinked Self.linked (Self.table self.old) place }
         requires from { IsNameable Self.CanName old }
@@ -63,7 +63,8 @@ pub trait XorLinkedListOps: link_ops::LinkOps {
         ensures frame { ChangesOnly (Self.table self.old) (Self.table self.new) place }
         ensures no_step { Self.Does self.old self.new [] };
 
-    /// Links `place` between two others, unless it is refused, and says whether it did. It requires that the place is covered. O(1).
+    /// Links `place` between two others, unless it is refused, and says whether it did. It requires that the place is covered, and that the
+    /// table can name the others. O(1).
     ///
     /// It is `acquire_link` and `set` in one, for a table that can write the word once.
     #[inline]
@@ -191,12 +192,14 @@ impl<W: NextWord, V: LinkValue> XorLinkedListOps for LentTable<'_, W, V> {
 
     #[inline]
     fn next(&self, place: Place, prev: Option<Place>) -> Option<Place> {
-        self.link(place).words.next_word().other(prev)
+        let link = self.link(place);
+        link.words.next_word().other(prev)
     }
 
     #[inline]
     fn prev(&self, place: Place, next: Option<Place>) -> Option<Place> {
-        self.link(place).words.next_word().other(next)
+        let link = self.link(place);
+        link.words.next_word().other(next)
     }
 
     #[inline]

@@ -10,8 +10,10 @@ use ic_unsafe_ref::Place;
 use std::alloc::Global;
 use std::process::Abort;
 
-/// The index of the last place that a table reaches.
+/// The index of the last place, and of the last one of which words of 4 bytes have a name.
 pub(crate) const LAST: usize = 4_294_967_295;
+
+pub(crate) const LAST_NARROW: usize = 536_870_910;
 
 /// Asserts that it is so.
 pub(crate) fn check(rt: &impl Abort, is_so: bool) {

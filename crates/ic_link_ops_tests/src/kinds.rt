@@ -1,19 +1,22 @@
 //! What the links of a table say of neighbors, for each kind of collection that the table carries.
 
 ghost use Rattle.std.specs.Prelude.{◌≡◌};
-ghost use Rattle.ic_link_ops.specs.Tables.{IsCovered, IsLinked};
+ghost use Rattle.ic_unsafe_ref.specs.declared.place.Place.{Place};
+ghost use Rattle.ic_link_ops.specs.Tables.{IsCovered, IsLinked, IsNameable};
+ghost use Rattle.ic_link_ops.specs.Widths.{HasRoom};
 
-use crate::fixture::{LAST, check, one_linked};
+use crate::fixture::{LAST, LAST_NARROW, at, check, one_linked};
 use ic_link_ops::linked_list::LinkedListOps;
 use ic_link_ops::rbtree::{self, RBTreeOps};
 use ic_link_ops::singly_linked_list::SinglyLinkedListOps;
 use ic_link_ops::xor_linked_list::{self, XorLinkedListOps};
-use ic_link_ops::{Color, LentTable, LinkOps, linked_list};
+use ic_link_ops::{Color, LentTable, Link, LinkOps, NodeWords, linked_list};
 use ic_unsafe_ref::Place;
 
 // What stands behind a linked place, as it is set.
 fn singly<L: SinglyLinkedListOps>(links: &mut L, place: Place, next: Option<Place>) -> Option<Place>
     requires linked { IsLinked L.linked (L.table links.old) place }
+    requires next { IsNameable L.CanName next }
     ensures linked { IsLinked L.linked (L.table links.new) place }
 {
     links.set_next(place, next);
@@ -28,6 +31,8 @@ fn doubly<L: LinkedListOps>(
     next: Option<Place>,
 ) -> [Option<Place>; 2]
     requires linked { IsLinked L.linked (L.table links.old) place }
+    requires prev { IsNameable L.CanName prev }
+    requires next { IsNameable L.CanName next }
     ensures linked { IsLinked L.linked (L.table links.new) place }
 {
     links.set_prev(place, prev);
@@ -43,6 +48,8 @@ fn xor<L: XorLinkedListOps>(
     next: Option<Place>,
 ) -> [Option<Place>; 2]
     requires linked { IsLinked L.linked (L.table links.old) place }
+    requires prev { IsNameable L.CanName prev }
+    requires next { IsNameable L.CanName next }
     ensures linked { IsLinked L.linked (L.table links.new) place }
 {
     links.set(place, prev, None);
@@ -50,49 +57,61 @@ fn xor<L: XorLinkedListOps>(
     [links.prev(place, next), links.next(place, prev)]
 }
 
-// The children, the parent and the color of a tree's member, as they are set.
+// The children, the parent and the color of a tree's member that is made red, between the first and the last place and below the last.
 fn tree<L: RBTreeOps>(
     links: &mut L,
     place: Place,
-    parts: [Option<Place>; 3],
-    color: Color,
+    first: Place,
+    last: Place,
 ) -> ([Option<Place>; 3], Color)
     requires linked { IsLinked L.linked (L.table links.old) place }
+    requires first { L.CanName first }
+    requires last { L.CanName last }
     ensures linked { IsLinked L.linked (L.table links.new) place }
 {
-    let [left, right, parent] = parts;
-    links.set_left(place, left);
-    links.set_right(place, right);
-    links.set_parent(place, parent);
-    links.set_color(place, color);
+    links.set_left(place, Some(first));
+    links.set_right(place, Some(last));
+    links.set_parent(place, Some(last));
+    links.set_color(place, Color::Red);
     let found = [links.left(place), links.right(place), links.parent(place)];
     (found, links.color(place))
 }
 
 // Whether each kind of link reads what it wrote at a linked place: what is behind, what is before and behind, the same of an XOR
-// list, and a red member of a tree, between the first and the last place and below the last.
+// list, and a red member of a tree. They name the first and the last place of which the table has names.
 fn four_kinds<L: RBTreeOps + LinkedListOps + SinglyLinkedListOps + XorLinkedListOps>(
     links: &mut L,
     place: Place,
+    first: Place,
+    last: Place,
 ) -> [bool; 4]
     requires linked { IsLinked L.linked (L.table links.old) place }
+    requires first { L.CanName first }
+    requires last { L.CanName last }
     ensures linked { IsLinked L.linked (L.table links.new) place }
     ensures covered { IsCovered (L.table links.new) place }
 {
-    let (first, last) = (Place::new(0), Place::new(LAST));
-    let is_singly = singly(links, place, first) == first;
-    let is_doubly = doubly(links, place, first, None) == [first, None];
-    let is_xor = xor(links, place, first, last) == [first, last];
-    let parts = [first, last, last];
-    let is_tree = tree(links, place, parts, Color::Red) == (parts, Color::Red);
+    let (one, other) = (Some(first), Some(last));
+    let is_singly = singly(links, place, other) == other;
+    let is_doubly = doubly(links, place, other, None) == [other, None];
+    let is_xor = xor(links, place, one, other) == [one, other];
+    let is_tree = tree(links, place, first, last) == ([one, other, other], Color::Red);
     [is_singly, is_doubly, is_xor, is_tree]
 }
 
 // The same by a view of the links, in which the place is linked first.
-fn four_kinds_by_view(links: &mut [rbtree::Link], place: Place) -> [bool; 4] {
+fn four_kinds_by_view<W: NodeWords>(
+    links: &mut [Link<W>],
+    place: Place,
+    first: Place,
+    last: Place,
+) -> [bool; 4]
+    requires first { HasRoom W.width first }
+    requires last { HasRoom W.width last }
+{
     let mut links = LentTable::new(links);
     if place.index() < links.covers() && links.acquire_link(place) && links.is_linked(place) {
-        return four_kinds(&mut links, place);
+        return four_kinds(&mut links, place, first, last);
     }
     [false; 4]
 }
@@ -101,18 +120,30 @@ fn four_kinds_by_view(links: &mut [rbtree::Link], place: Place) -> [bool; 4] {
 #[test]
 fn four_kinds_in_a_table_of_trees(rt: HostRuntime) {
     let (mut links, place): (rbtree::LinkOps, Place) = one_linked(&rt, rt.alloc());
+    let (first, last) = (at(&rt, 0), at(&rt, LAST));
     let linked = links.link(place).words();
-    let is_kept = four_kinds(&mut links, place);
+    let is_kept = four_kinds(&mut links, place, first, last);
     let written = links.link(place).words();
     links.release_link(place);
     let released = links.link(place).words();
-    let is_kept_by_view = four_kinds_by_view(links.lend(), place);
+    let is_kept_by_view = four_kinds_by_view(links.lend(), place, first, last);
     let new = rbtree::Link::new().words();
     check(&rt, [is_kept, is_kept_by_view] == [[true; 4]; 2]);
     check(&rt, [new, linked] == [[0, 0, 0], [0, 0, 3]]);
     let red_below_the_last = [2, 8_589_934_592, 17_179_869_186];
     let unlinked = [2, 8_589_934_592, 0];
     check(&rt, [written, released] == [red_below_the_last, unlinked]);
+}
+
+// Promise: the last place of which 4-byte words have names.
+#[test]
+fn four_kinds_in_a_narrow_table_of_trees(rt: HostRuntime) {
+    let (mut links, place): (rbtree::NarrowLinkOps, Place) = one_linked(&rt, rt.alloc());
+    let (first, last) = (at(&rt, 0), at(&rt, LAST_NARROW));
+    let is_kept = four_kinds(&mut links, place, first, last);
+    links.release_link(place);
+    let is_kept_by_view = four_kinds_by_view(links.lend(), place, first, last);
+    check(&rt, [is_kept, is_kept_by_view] == [[true; 4]; 2]);
 }
 
 // Whether the two lists that are no XOR lists read this place behind a linked one, where an XOR list wrote these neighbors.
@@ -123,6 +154,7 @@ fn is_read<L: LinkedListOps + SinglyLinkedListOps + XorLinkedListOps>(
     wanted: Option<Place>,
 ) -> bool
     requires linked { IsLinked L.linked (L.table links.old) place }
+    requires names_all { (p : Place) → L.CanName p }
     ensures linked { IsLinked L.linked (L.table links.new) place }
 {
     let [prev, next] = neighbors;

@@ -1,15 +1,20 @@
 //! Tables: how far they reach, and whether a place is linked as the table and a view of it have it.
 
+ghost use Rattle.std.specs.Prelude.{◌≤◌};
+
 use crate::fixture::{at, check, one_linked};
 use ic_link_ops::singly_linked_list::{Link, LinkOps};
 use ic_link_ops::{
-    LentTable, LinkOps as _, PlainTable, Words, linked_list, rbtree, xor_linked_list,
+    LentTable, LinkOps as _, PlainTable, Words, linked_list, rbtree, singly_linked_list,
+    xor_linked_list,
 };
 use ic_test_support::rationed::Rationed;
 use ic_unsafe_ref::Place;
 
-// One place more than a table reaches.
-const BEYOND: usize = 4_294_967_297;
+// How many places a table has words for, of 8 bytes and of 4.
+const MOST: usize = 4_294_967_296;
+
+const MOST_NARROW: usize = 536_870_911;
 
 // Why a table does not cover so many places, as a number, 0 where it does; and how many it covers then.
 fn cover<W: Words>(links: &mut PlainTable<W, &Rationed>, count: usize) -> [usize; 2] {
@@ -25,19 +30,27 @@ fn link<W: Words>(links: &mut PlainTable<W, &Rationed>, place: Place) -> bool {
     place.index() < links.covers() && links.acquire_link(place)
 }
 
-// Whether a new table grows where there is memory, and is as it was where it is refused, also once it covers a linked place.
-fn grows<W: Words>(mut links: PlainTable<W, &Rationed>, memory: &Rationed, place: Place) -> bool {
+// Whether a new table grows where there is memory, and is as it was where it is refused, also once it covers a linked place. Its words
+// have names for the first `most` places: to cover all of these asks for memory, and one more is refused before that.
+fn grows<W: Words>(
+    mut links: PlainTable<W, &Rationed>,
+    memory: &Rationed,
+    place: Place,
+    most: usize,
+) -> bool
+    requires few { most ≤ 4294967296 }
+{
     memory.refuse(0);
     let new = [
-        cover(&mut links, BEYOND),
-        cover(&mut links, 3),
+        cover(&mut links, most + 1),
+        cover(&mut links, most),
         cover(&mut links, 3),
     ];
     let is_linked = link(&mut links, place);
     memory.refuse(0);
     let grown = [
         cover(&mut links, 9),
-        cover(&mut links, BEYOND),
+        cover(&mut links, most + 1),
         cover(&mut links, 2),
     ];
     let is_linked_again = link(&mut links, place);
@@ -53,17 +66,32 @@ fn grows<W: Words>(mut links: PlainTable<W, &Rationed>, memory: &Rationed, place
 fn tables_grow_where_there_is_memory(rt: HostRuntime) {
     let memory = Rationed::new(rt.alloc(), 0);
     let place = at(&rt, 0);
-    check(&rt, grows(LinkOps::new(&memory), &memory, place));
-    check(
-        &rt,
-        grows(linked_list::LinkOps::new(&memory), &memory, place),
-    );
-    check(
-        &rt,
-        grows(xor_linked_list::LinkOps::new(&memory), &memory, place),
-    );
-    check(&rt, grows(rbtree::LinkOps::new(&memory), &memory, place));
+    let singly = LinkOps::new(&memory);
+    check(&rt, grows(singly, &memory, place, MOST));
+    let doubly = linked_list::LinkOps::new(&memory);
+    check(&rt, grows(doubly, &memory, place, MOST));
+    let xor = xor_linked_list::LinkOps::new(&memory);
+    check(&rt, grows(xor, &memory, place, MOST));
+    let tree = rbtree::LinkOps::new(&memory);
+    check(&rt, grows(tree, &memory, place, MOST));
     // two are refused to each of them, and two are not
+    check(&rt, memory.requests() == 16);
+}
+
+// The same of tables of 4-byte words.
+// Promise: limits of a narrow table, a narrow table without memory.
+#[test]
+fn narrow_tables_grow_where_there_is_memory(rt: HostRuntime) {
+    let memory = Rationed::new(rt.alloc(), 0);
+    let place = at(&rt, 0);
+    let singly = singly_linked_list::NarrowLinkOps::new(&memory);
+    check(&rt, grows(singly, &memory, place, MOST_NARROW));
+    let doubly = linked_list::NarrowLinkOps::new(&memory);
+    check(&rt, grows(doubly, &memory, place, MOST_NARROW));
+    let xor = xor_linked_list::NarrowLinkOps::new(&memory);
+    check(&rt, grows(xor, &memory, place, MOST_NARROW));
+    let tree = rbtree::NarrowLinkOps::new(&memory);
+    check(&rt, grows(tree, &memory, place, MOST_NARROW));
     check(&rt, memory.requests() == 16);
 }
 

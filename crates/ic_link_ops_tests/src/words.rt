@@ -1,7 +1,13 @@
 //! The words of which links are made, and of which ends are.
 
-use crate::fixture::check;
-use ic_link_ops::{Color, MarkedWord, PlaceWord, TreeWord, Word};
+ghost use Rattle.std.specs.Prelude.{Some};
+ghost use Rattle.ic_link_ops.specs.Widths.{HasRoom, narrow};
+
+use crate::fixture::{LAST_NARROW, at, check};
+use ic_link_ops::{
+    Color, MarkedWord, NarrowMarkedWord, NarrowPlaceWord, NarrowTreeWord, NarrowWord, PlaceWord,
+    TreeWord, Word,
+};
 use ic_unsafe_ref::Place;
 
 // Words as numbers: of no place, of the second one, of both, of the one beside the first, of the one beside the second, and of both
@@ -37,6 +43,39 @@ fn tree_numbers(parent: Option<Place>) -> ([u64; 5], bool) {
     let is_red = word.color() == Color::Red && word.is_linked();
     let unlinked = TreeWord::unlinked().number();
     ([unlinked, black, below, word.number(), above], is_red)
+}
+
+// Words of 4 bytes read back as what they keep of a place: a word, one that may be the mark, a place, and a tree's word of a red member below
+// it; and whether each says that there is one.
+#[tactic(auto, using(ic_link_ops::proofs::WidthLemmas::word_kept))]
+fn narrow_numbers(place: Place) -> ([u64; 4], [bool; 3])
+    requires named { HasRoom narrow place }
+{
+    let word = Word::of(Some(place));
+    let (mark, marked) = (NarrowMarkedWord::mark(), NarrowMarkedWord::of(word));
+    let below = NarrowTreeWord::below(Some(place), Color::Red);
+    let numbers = [
+        NarrowWord::of(word).word().bits(),
+        marked.word().bits(),
+        Place::to_word(NarrowPlaceWord::of(Some(place)).get()),
+        Place::to_word(below.parent()),
+    ];
+    let are_words = [
+        mark.is_word(),
+        marked.is_word(),
+        below.is_linked() && below.color() == Color::Red,
+    ];
+    (numbers, are_words)
+}
+
+// Promise: a word of the last place of which 4-byte words have names.
+#[test]
+fn numbers_of_narrow_words(rt: HostRuntime) {
+    let is_kept = [false, true, true];
+    check(&rt, narrow_numbers(at(&rt, 0)) == ([8; 4], is_kept));
+    let last = narrow_numbers(at(&rt, LAST_NARROW));
+    check(&rt, last == ([4_294_967_288; 4], is_kept));
+    check(&rt, Place::to_word(NarrowWord::none().word().place()) == 0);
 }
 
 #[test]

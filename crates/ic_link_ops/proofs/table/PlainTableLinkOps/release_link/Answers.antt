@@ -12,7 +12,7 @@ pub returns-clause-frame : goal.returns-clause-frame
 returns-clause-frame g c =
     let covered = linked_in_range (linked_by g.W.Words.is_linked) (link_with g.W.Words.unlinked g.V.LinkValue.initial) g.met.W.Words.starts_unlinked
     (nameable g.W.Words.width (entries c.args.self.now)) (index_of c.args.place) c.requires.linked in
-    changes_only g.V.LinkValue.told g.W.Words.width _ _ _ c.index_mut-entry.result.now _ _ _ c.slot_of_linked-index.ensures.value covered c.index_mut-entry.ensures.value refl
+    changes_only g.V.LinkValue.told g.W.Words.width _ _ _ c.index_mut-link.result.now _ _ _ c.slot_of_linked-index.ensures.value covered c.index_mut-link.ensures.value refl
 
 pub returns-clause-released : goal.returns-clause-released
 returns-clause-released g c =
@@ -23,4 +23,4 @@ returns-clause-released g c =
     (ap (linked_by g.W.Words.is_linked)
     (entry_set g.W.Words.width (link_with g.W.Words.unlinked g.V.LinkValue.initial) (entries c.args.self.now) c.args.place _ c.slot_of_linked-index.result c.slot_of_linked-index.ensures.value covered)
     ∙ c.unlink.ensures)
-    (changes_only g.V.LinkValue.told g.W.Words.width _ _ _ c.index_mut-entry.result.now _ _ _ c.slot_of_linked-index.ensures.value covered c.index_mut-entry.ensures.value refl)
+    (changes_only g.V.LinkValue.told g.W.Words.width _ _ _ c.index_mut-link.result.now _ _ _ c.slot_of_linked-index.ensures.value covered c.index_mut-link.ensures.value refl)
