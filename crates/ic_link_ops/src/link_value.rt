@@ -66,10 +66,10 @@ impl LinkValue for u64 {
 impl LinkValue for u32 {
     ghost initial = { 0 };
 
-    ghost told = { λ s. s };
+    ghost told = { λ numbers. numbers };
 
     fn initial() -> u32 {
-        0
+        0_u32
     }
 
     ghost tells = { λ s t _ e. e };
