@@ -9,8 +9,8 @@ use crate::lists::{ListFixture, list_of};
 use crate::notes::{assert_words, write_object, write_values};
 use ic_chain::{BidirectionalLinks, Chain, DoubleEnded, NamesNext};
 use ic_cursors::CursorMut;
-use ic_link_ops::LinkOps;
 use ic_link_ops::linked_list::TwoWords;
+use ic_link_ops::{LinkOps, TwoNarrowWords};
 use ic_linked_list::DoublyLinked;
 use ic_test_support::answers::write_places;
 use ic_test_support::notes::{Answer, Text};
@@ -21,6 +21,9 @@ use std::process::Abort;
 
 /// A doubly linked list, its links and its objects.
 pub(crate) type DoublyFixture = ListFixture<DoublyLinked, TwoWords>;
+
+/// The same over links of 4-byte words.
+pub(crate) type NarrowDoublyFixture = ListFixture<DoublyLinked, TwoNarrowWords>;
 
 // Makes each edit by a cursor on the last of the members 0, 1 and 2, and notes what came out. Notes what is in front of the cursor, none, when
 // that part was put behind it, and whether it is at null two steps on.
@@ -66,6 +69,19 @@ fn doubly_linked_list(rt: HostRuntime) {
     write_places(&mut notes, &beside);
     write_values(&mut notes, &[cursor.into_ref(&fixture.objects)]);
     assert_words(&rt, &notes, "2 1 3 none no  0 4 5  10");
+}
+
+// The same edits over links of 4-byte words, and where the cursor and the ends are then.
+// Promise: edits of a list over 4-byte words.
+#[test]
+fn doubly_linked_list_over_narrow_links(rt: HostRuntime) {
+    let alloc = rt.alloc();
+    let mut notes = Text::new(alloc);
+    let mut fixture: NarrowDoublyFixture = list_of(&rt, alloc, 3);
+    let mut cursor = fixture.list.back_mut(&mut fixture.links);
+    write_edits(&mut notes, &mut cursor);
+    write_places(&mut notes, &[cursor.get_ptr()]);
+    assert_words(&rt, &notes, "2 1 3 none no  0");
 }
 
 // Notes where a cursor is that reads the list, on the second member by its reference, and those that keep it, there and at the back.

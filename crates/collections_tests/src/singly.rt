@@ -10,7 +10,7 @@ use crate::notes::{assert_words, write_object, write_values};
 use ic_chain::{Chain, ForwardLinks, SingleEnded};
 use ic_cursors::CursorMut;
 use ic_link_ops::singly_linked_list::Singly;
-use ic_link_ops::{LinkOps, OneWord};
+use ic_link_ops::{LinkOps, OneNarrowWord, OneWord};
 use ic_singly_linked_list::{SinglyLinked, laws};
 use ic_test_support::answers::write_places;
 use ic_test_support::notes::Text;
@@ -18,6 +18,9 @@ use ic_test_support::objects::reference;
 
 /// A singly linked list, its links and its objects.
 pub(crate) type SinglyFixture = ListFixture<SinglyLinked, OneWord<Singly>>;
+
+/// The same over links of 4-byte words.
+pub(crate) type NarrowSinglyFixture = ListFixture<SinglyLinked, OneNarrowWord<Singly>>;
 
 // Puts the object at 3 in the place of the member behind the cursor, takes it off again, and notes both that came out.
 fn write_edits<K: SingleEnded + ForwardLinks<L>, L: LinkOps>(

@@ -6,11 +6,11 @@ ghost use Rattle.ic_link_ops.specs.PlacedObjects.{ShowsPlaced};
 ghost use Rattle.ic_link_ops.specs.PlainTables.{table};
 ghost use Rattle.ic_chain.specs.Iter.{CanWalk};
 
-use crate::doubly::DoublyFixture;
+use crate::doubly::{DoublyFixture, NarrowDoublyFixture};
 use crate::lists::{ListFixture, filled, free_each, list_of};
 use crate::notes::{assert_words, write_object};
-use crate::singly::SinglyFixture;
-use crate::xor::XorFixture;
+use crate::singly::{NarrowSinglyFixture, SinglyFixture};
+use crate::xor::{NarrowXorFixture, XorFixture};
 use ic_chain::{BidirectionalLinks, Chain, DoubleEnded, ForwardLinks, Iter};
 use ic_link_ops::{LinkOps, PlainTable, Words};
 use ic_test_support::answers::value;
@@ -102,6 +102,27 @@ fn walks_that_are_dropped(rt: HostRuntime) {
     let mut doubly: DoublyFixture = list_of(&rt, alloc, 4);
     write_dropped(&rt, &mut notes, &mut doubly);
     let mut xor: XorFixture = list_of(&rt, alloc, 4);
+    write_dropped(&rt, &mut notes, &mut xor);
+    assert_words(
+        &rt,
+        &notes,
+        "0 1 2 3 2 3 3 0 1 2 3
+        0 1 2 3 2 3 3 0 1 2 3
+        0 1 2 3 2 3 3 0 1 2 3",
+    );
+}
+
+// The same of lists over links of 4-byte words.
+// Promise: a walk that is dropped over 4-byte words.
+#[test]
+fn walks_over_narrow_links_that_are_dropped(rt: HostRuntime) {
+    let alloc = rt.alloc();
+    let mut notes = Text::new(alloc);
+    let mut singly: NarrowSinglyFixture = list_of(&rt, alloc, 4);
+    write_dropped(&rt, &mut notes, &mut singly);
+    let mut doubly: NarrowDoublyFixture = list_of(&rt, alloc, 4);
+    write_dropped(&rt, &mut notes, &mut doubly);
+    let mut xor: NarrowXorFixture = list_of(&rt, alloc, 4);
     write_dropped(&rt, &mut notes, &mut xor);
     assert_words(
         &rt,

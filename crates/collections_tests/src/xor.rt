@@ -9,13 +9,16 @@ use crate::notes::assert_words;
 use ic_chain::{BidirectionalLinks, Chain, DoubleEnded};
 use ic_cursors::Cursor;
 use ic_link_ops::xor_linked_list::Xor;
-use ic_link_ops::{LinkOps, OneWord};
+use ic_link_ops::{LinkOps, OneNarrowWord, OneWord};
 use ic_test_support::answers::write_places;
 use ic_test_support::notes::{Answer, Text};
 use ic_xor_linked_list::XorLinked;
 
 /// An XOR list, its links and its objects.
 pub(crate) type XorFixture = ListFixture<XorLinked, OneWord<Xor>>;
+
+/// The same over links of 4-byte words.
+pub(crate) type NarrowXorFixture = ListFixture<XorLinked, OneNarrowWord<Xor>>;
 
 // Notes where a cursor is, and where it would be a step back; where it is after that step, and what is behind a copy of it.
 fn write_read<K: DoubleEnded + BidirectionalLinks<L>, L: LinkOps>(
