@@ -12,7 +12,11 @@ OWN = "job_queue"
 PARTS = ("src", "specs", "proofs")
 # Crates that stand as templates, each in its folder, and not in crates/, where the gate would prove them. Each file of a template has `.txt` behind
 # its name, since `rt ci` refuses any source outside the crates of crates.txt. LINE is the crate's own line there.
-TEMPLATES = {"bench": ROOT / "bench/rattle", "intrusive_collections": ROOT / "tools/intrusive_collections"}
+TEMPLATES = {
+    "bench": ROOT / "bench/rattle",
+    "width_bench": ROOT / "bench/widths",
+    "intrusive_collections": ROOT / "tools/intrusive_collections",
+}
 LINE = "crate-line.txt"
 BLOCK = re.compile(rf"^# {NAME} \S+: begin\n(.*?)^# {NAME} \S+: end\n\n?", re.M | re.S)
 ASKED = re.compile(r"^# Crates: ?(.*)$", re.M)
