@@ -113,7 +113,7 @@ fn walks_that_are_dropped(rt: HostRuntime) {
 }
 
 // The same of lists over links of 4-byte words.
-// Promise: a walk that is dropped over 4-byte words.
+// Promise: a dropped walk over 4-byte words.
 #[test]
 fn walks_over_narrow_links_that_are_dropped(rt: HostRuntime) {
     let alloc = rt.alloc();

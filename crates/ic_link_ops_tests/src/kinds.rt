@@ -135,7 +135,7 @@ fn four_kinds_in_a_table_of_trees(rt: HostRuntime) {
     check(&rt, [written, released] == [red_below_the_last, unlinked]);
 }
 
-// Promise: the last place of which 4-byte words have names.
+// Promise: the last place that a narrow table names.
 #[test]
 fn four_kinds_in_a_narrow_table_of_trees(rt: HostRuntime) {
     let (mut links, place): (rbtree::NarrowLinkOps, Place) = one_linked(&rt, rt.alloc());

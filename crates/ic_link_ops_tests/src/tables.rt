@@ -79,7 +79,7 @@ fn tables_grow_where_there_is_memory(rt: HostRuntime) {
 }
 
 // The same of tables of 4-byte words.
-// Promise: limits of a narrow table, a narrow table without memory.
+// Promise: limits of a narrow table.
 #[test]
 fn narrow_tables_grow_where_there_is_memory(rt: HostRuntime) {
     let memory = Rationed::new(rt.alloc(), 0);

@@ -68,7 +68,7 @@ fn narrow_numbers(place: Place) -> ([u64; 4], [bool; 3])
     (numbers, are_words)
 }
 
-// Promise: a word of the last place of which 4-byte words have names.
+// Promise: the word of the last place that 4 bytes name.
 #[test]
 fn numbers_of_narrow_words(rt: HostRuntime) {
     let is_kept = [false, true, true];
