@@ -135,7 +135,6 @@ impl<M: Allocator> LinkOps for AnyTable<M> {
     ghost use Rattle.ic_link_ops.specs.StepLaws.{replays_on};
     ghost use Rattle.ic_any_collection.specs.Entries.{is_linked};
     ghost use Rattle.ic_any_collection.specs.AnyTables.{look, covered_where_linked};
-
     ghost use Rattle.std.specs.Prelude.{⊤};
 
     type Entry = Entry;

@@ -12,7 +12,7 @@ use Rattle.ic_link_ops.specs.declared.one_word.OneWord.{OneWord}
 use Rattle.ic_link_ops.specs.declared.narrow_word.NarrowMarkedWord.{NarrowMarkedWord}
 use Rattle.ic_link_ops.specs.declared.one_narrow_word.OneNarrowWord.{OneNarrowWord}
 use Rattle.ic_link_ops.specs.declared.two_narrow_words.TwoNarrowWords.{TwoNarrowWords}
-use Rattle.ic_link_ops.specs.NarrowWords.{is_half, marked_narrow_bits_of}
+use Rattle.ic_link_ops.specs.NarrowWords.{is_narrow_word, marked_narrow_bits_of}
 use Rattle.ic_link_ops.specs.OneNarrowWord as narrow
 use Rattle.ic_link_ops.specs.TwoNarrowWords as narrow_doubly
 use Rattle.ic_link_ops.specs.OneWord.{has_word, next_word_of}
@@ -31,7 +31,7 @@ pub two_words : (w : TwoWords) → doubly.has_words w ≡ true → IsWord (doubl
 two_words w is = marked_word w.next is
 
 -- the same of words of 4 bytes
-narrow_word : (w : NarrowMarkedWord) → is_half w ≡ true → IsWord (marked_narrow_bits_of w)
+narrow_word : (w : NarrowMarkedWord) → is_narrow_word w ≡ true → IsWord (marked_narrow_bits_of w)
 narrow_word w is = let h = w.mark_or_word (λ e. true≢false (sym is ∙ ap not (eq-eqb _ _ e))) in (omega (arith, h.0), h.1)
 
 pub one_narrow_word : {K : Type 0} (w : OneNarrowWord K) → narrow.has_word w ≡ true → IsWord (narrow.next_word_of w)

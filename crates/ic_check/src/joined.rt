@@ -14,7 +14,9 @@ ghost use Rattle.ic_link_ops.specs.Links.{words_of};
 use ic_atomic::{AtomicLinkOps, PlainLinkOps};
 use ic_link_ops::linked_list::TwoWords;
 use ic_link_ops::xor_linked_list::XorLinkedListOps;
-use ic_link_ops::{LentTable, LinkValue, NextWord, OneNarrowWord, OneWord, PlainTable, TwoNarrowWords};
+use ic_link_ops::{
+    LentTable, LinkValue, NextWord, OneNarrowWord, OneWord, PlainTable, TwoNarrowWords,
+};
 use std::alloc::Allocator;
 
 /// Words whose next word is that of a place, of none, or the exclusive or of two of these, where their place is linked.

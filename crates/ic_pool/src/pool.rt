@@ -53,7 +53,7 @@ impl<T, L: Tables, A: Allocator> Pool<T, L, A> {
     /// grow.
     ///
     /// Where it is refused the value comes back, and no object and no link has changed: with `NoPlaceLeft` exactly if
-    /// no place is left, of 4,294,967,296, and else with `OutOfMemory`.
+    /// no place is left, of 4,294,967,296, and else with `OutOfMemory`, also where a table of 4-byte words has no name left.
     ///
     /// Over a plain table `keeps` is `Grows`. Its `entries` says that each link is as it was, which lemmas on lists ask for.
     pub fn place(&mut self, value: T) -> Result<UnsafeRef<T>, PlaceError<T>>

@@ -70,7 +70,6 @@ impl LinkOps for MarkedTree<'_> {
     ghost use Rattle.ic_link_ops.specs.StepLaws.{replays_on};
     ghost use Rattle.ic_raw.specs.MarkedTree.{marked_entries};
     ghost use Rattle.ic_raw.specs.Words.{no_tree_words, is_linked_three};
-
     ghost use Rattle.std.specs.Prelude.{⊤};
 
     type Entry = RawThree;

@@ -15,8 +15,8 @@ ghost use Rattle.ic_raw.specs.Answers.{refusal};
 ghost use Rattle.ic_raw.specs.Words.{place_of};
 
 use crate::number::place_of;
-use crate::words::AllPlaces;
 use crate::status::{BROKEN, LINKED, NONE, NOT_LINKED, OK, OUT_OF_RANGE};
+use crate::words::AllPlaces;
 use ic_link_ops::linked_list::LinkedListOps;
 use ic_link_ops::singly_linked_list::SinglyLinkedListOps;
 use ic_link_ops::xor_linked_list::XorLinkedListOps;
@@ -242,7 +242,6 @@ impl<W: Words> LinkOps for RawTable<'_, W> {
     ghost use Rattle.ic_link_ops.specs.StepLaws.{replays_on};
     ghost use Rattle.std.proofs.Common.{ap, refl};
     ghost use Rattle.ic_raw.specs.Tables.{raw_entries};
-
     ghost use Rattle.std.specs.Prelude.{⊤};
 
     type Entry = W;
