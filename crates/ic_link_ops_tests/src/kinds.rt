@@ -150,15 +150,16 @@ fn four_kinds_in_a_narrow_table_of_trees(rt: HostRuntime) {
 fn is_read<L: LinkedListOps + SinglyLinkedListOps + XorLinkedListOps>(
     links: &mut L,
     place: Place,
-    neighbors: [Option<Place>; 2],
+    prev: Place,
+    next: Place,
     wanted: Option<Place>,
 ) -> bool
     requires linked { IsLinked L.linked (L.table links.old) place }
-    requires names_all { (p : Place) → L.CanName p }
+    requires prev { L.CanName prev }
+    requires next { L.CanName next }
     ensures linked { IsLinked L.linked (L.table links.new) place }
 {
-    let [prev, next] = neighbors;
-    links.set(place, prev, next);
+    links.set(place, Some(prev), Some(next));
     let by_doubly = LinkedListOps::next(links, place);
     [by_doubly, SinglyLinkedListOps::next(links, place)] == [wanted; 2]
 }
@@ -168,11 +169,11 @@ fn is_read<L: LinkedListOps + SinglyLinkedListOps + XorLinkedListOps>(
 #[test]
 fn what_an_xor_list_wrote_is_read_by_others(rt: HostRuntime) {
     let (mut links, place): (linked_list::LinkOps, Place) = one_linked(&rt, rt.alloc());
-    let (first, third, last) = (Place::new(0), Place::new(2), Place::new(LAST));
-    let second = is_read(&mut links, place, [first, third], Place::new(1));
+    let (first, third, last) = (at(&rt, 0), at(&rt, 2), at(&rt, LAST));
+    let second = is_read(&mut links, place, first, third, Place::new(1));
     let far = Place::from_word(34_359_738_376);
-    let beyond = is_read(&mut links, place, [first, last], far);
-    let none = is_read(&mut links, place, [third, third], None);
+    let beyond = is_read(&mut links, place, first, last, far);
+    let none = is_read(&mut links, place, third, third, None);
     check(&rt, [second, beyond, none] == [true; 3]);
 }
 
@@ -180,7 +181,7 @@ fn what_an_xor_list_wrote_is_read_by_others(rt: HostRuntime) {
 #[test]
 fn words_of_an_xor_list(rt: HostRuntime) {
     let (mut links, place): (xor_linked_list::LinkOps, Place) = one_linked(&rt, rt.alloc());
-    let (first, last) = (Place::new(0), Place::new(LAST));
+    let (first, last) = (Some(at(&rt, 0)), Some(at(&rt, LAST)));
     let new = xor_linked_list::Link::new().word();
     let alone = links.link(place).word();
     links.set(place, first, last);
