@@ -5,6 +5,8 @@ ghost use Rattle.std.specs.Prelude.{◌≡◌, ◌<◌, ◌≤◌, length, IfSom
 ghost use Rattle.ic_unsafe_ref.specs.Places.{index_of};
 ghost use Rattle.ic_link_ops.specs.DoublyEntries as doubly;
 ghost use Rattle.ic_link_ops.specs.PlainTables.{table};
+ghost use Rattle.ic_link_ops.specs.Tables.{IsNameable};
+ghost use Rattle.ic_link_ops.specs.Widths.{HasRoom, wide};
 ghost use Rattle.ic_rbtree.specs.PlainTrees.{PlainShowsSome};
 ghost use Rattle.ic_rbtree.specs.Tree.{root_of};
 
@@ -169,11 +171,14 @@ fn the_order_of_a_tree_is_checked(rt: HostRuntime) {
 }
 
 // The end that a file names: 0 for none, else one more than the place's index.
-fn end_of(word: usize) -> Option<Place> {
+fn end_of(word: usize) -> Option<Place>
+    ensures named { IsNameable (HasRoom wide) result }
+{
     if word == 0 {
         return None;
     }
-    Place::new(word - 1)
+    let place = Place::new(word - 1)?;
+    Some(place)
 }
 
 // Links each place between the two neighbors that a file names for it.
