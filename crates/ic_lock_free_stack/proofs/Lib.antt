@@ -1,0 +1,16 @@
+pub mod MomentLemmas
+pub mod WordLemmas
+pub mod Lists
+pub mod HandLemmas
+pub mod HistoryLemmas
+pub mod RuleLemmas
+pub mod RecordLemmas
+pub mod HolderLemmas
+pub mod PushLemmas
+pub mod MovingLemmas
+pub mod AuditLemmas
+pub mod LawLemmas
+pub mod CountLemmas
+pub mod LeftLemmas
+pub mod TurnLemmas
+pub mod OrderLemmas

@@ -1,0 +1,13 @@
+-- The ends of a list of places.
+use Rattle.std.specs.Prelude.{Option, Some, None, List, [], ◌∷◌}
+use Rattle.ic_unsafe_ref.specs.declared.place.Place.{Place}
+
+-- the first of a list, and its last, none where it is empty
+abbrev pub first : List Place → Option Place
+first [] = None
+first (p ∷ s) = Some p
+
+abbrev pub last : List Place → Option Place
+last [] = None
+last (p ∷ []) = Some p
+last (p ∷ q ∷ s) = last (q ∷ s)

@@ -1,0 +1,11 @@
+pub mod Ends
+pub mod Moments
+pub mod Records
+pub mod Words
+pub mod OneHistory
+pub mod Hands
+pub mod Rule
+pub mod Plays
+pub mod Holders
+pub mod Counts
+pub mod Orders

@@ -1,0 +1,66 @@
+-- Records of holders, and what they say of the places that a holder holds.
+use Rattle.std.specs.Prelude.{◌≡◌, ◌≢◌, ℕ, ◌+◌, Bool, true, false, if◌then◌else◌, List, [], ◌∷◌}
+use Rattle.ic_unsafe_ref.specs.declared.place.Place.{Place}
+use Rattle.ic_lock_free_stack.specs.declared.step.Step.{Step}
+use Rattle.ic_lock_free_stack.specs.declared.step.Step.TheVariants.{Claim, Release, Push, TakeAll}
+use Rattle.ic_lock_free_stack.specs.Moments.{moves, is_in}
+
+-- whether a step brings the places that it moves to its holder
+abbrev pub brings : Step → Bool
+brings (Claim q got) = true
+brings (Release q) = false
+brings (Push k s) = false
+brings (TakeAll k s) = true
+
+-- whether a holder holds p after the steps, where `held` says whether it did before
+abbrev pub held_from : Place → Bool → List Step → Bool
+held_from p held [] = held
+held_from p held (e ∷ es) = held_from p (if moves p e then brings e else held) es
+
+-- whether a holder with this record holds p
+abbrev pub holds : Place → List Step → Bool
+holds p es = held_from p false es
+
+-- 1 for a step on a head, else 0
+abbrev pub on_head : Step → ℕ
+on_head (Claim q got) = 0
+on_head (Release q) = 0
+on_head (Push k s) = 1
+on_head (TakeAll k s) = 1
+
+-- how many steps on heads there are
+abbrev pub pushes_and_takes : List Step → ℕ
+pushes_and_takes [] = 0
+pushes_and_takes (e ∷ es) = on_head e + pushes_and_takes es
+
+-- of a holder so many at most
+abbrev pub most_steps : ℕ
+most_steps = 281474976710656
+
+-- the holder did not hold p and now it does, and nothing else is changed in what it holds
+pub record HoldsAlso (old new : List Step) (p : Place) : Type 0 where
+  pub was : holds p old ≡ false
+  pub is : holds p new ≡ true
+  pub others : (q : Place) → q ≢ p → holds q new ≡ holds q old
+
+-- the holder held p and no longer does, and nothing else is changed in what it holds
+pub record GivesUp (old new : List Step) (p : Place) : Type 0 where
+  pub was : holds p old ≡ true
+  pub is : holds p new ≡ false
+  pub others : (q : Place) → q ≢ p → holds q new ≡ holds q old
+
+-- the holder held the places of s and no longer does, and nothing else is changed in what it holds
+pub record GivesUpAll (old new : List Step) (s : List Place) : Type 0 where
+  pub was : (p : Place) → is_in p s ≡ true → holds p old ≡ true
+  pub is : (p : Place) → is_in p s ≡ true → holds p new ≡ false
+  pub others : (p : Place) → is_in p s ≡ false → holds p new ≡ holds p old
+
+-- the holder did not hold the places of s and now it does, and nothing else is changed in what it holds
+pub record HoldsAll (old new : List Step) (s : List Place) : Type 0 where
+  pub was : (p : Place) → is_in p s ≡ true → holds p old ≡ false
+  pub is : (p : Place) → is_in p s ≡ true → holds p new ≡ true
+  pub others : (p : Place) → is_in p s ≡ false → holds p new ≡ holds p old
+
+-- the holder holds what it held
+abbrev pub HoldsTheSame : List Step → List Step → Type 0
+HoldsTheSame old new = (q : Place) → holds q new ≡ holds q old
