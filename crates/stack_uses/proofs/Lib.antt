@@ -1,0 +1,2 @@
+pub mod MailLemmas
+pub mod ReceiverLemmas

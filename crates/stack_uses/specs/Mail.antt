@@ -1,0 +1,57 @@
+-- Mailboxes: what was sent to one and what was received of it.
+use Rattle.std.specs.Prelude.{◌≡◌, ◌≢◌, ℕ, ◌<◌, ◌==◌, true, false, if◌then◌else◌, List, [], ◌∷◌, ◌++◌, map, All}
+use Rattle.ic_unsafe_ref.specs.declared.place.Place.{Place}
+use Rattle.ic_unsafe_ref.specs.Places.{index_of}
+use Rattle.ic_lock_free_stack.specs.declared.stacks.Stacks.{Stacks}
+use Rattle.ic_lock_free_stack.specs.declared.stacks.Holder.{Holder}
+use Rattle.ic_lock_free_stack.specs.Moments.{is_in}
+use Rattle.ic_lock_free_stack.specs.Records.{holds}
+use Rattle.ic_lock_free_stack.specs.OneHistory.{Party}
+use Rattle.ic_lock_free_stack.specs.Orders.{sent, got, of_record}
+use Rattle.ic_lock_free_stack.specs.Holders.{places_of, stacks_of, record_of, IsOf, HasChain}
+use Rattle.stack_uses.specs.declared.mailbox.Receiver.{Receiver}
+
+-- a receiver's holder, and the stack that is its mailbox
+abbrev pub holder_of : Receiver → Holder
+holder_of receiver = receiver.holder
+
+abbrev pub box_of : Receiver → ℕ
+box_of receiver = receiver.mailbox
+
+-- the places that a holder has sent to a mailbox so far, in their order
+abbrev pub sent_by : ℕ → Holder → List Place
+sent_by mailbox holder = of_record (sent mailbox) (record_of holder)
+
+-- THE RECEIVER HAS GIVEN OUT these places so far: what it got is these and then what it has opened
+pub record HasReceived {A : Type 0} (stacks : Stacks A) (receiver : Receiver) (ps : List Place) : Type 0 where
+  pub made : IsOf stacks receiver.holder
+  pub mailbox : receiver.mailbox < stacks_of stacks
+  pub rest : List Place
+  pub opened : HasChain stacks receiver.holder receiver.opened rest
+  pub got_is : of_record (got receiver.mailbox) (record_of receiver.holder) ≡ ps ++ rest
+
+-- it holds the place, and has not opened it again
+pub record IsOut {A : Type 0} (stacks : Stacks A) (receiver : Receiver) (p : Place) : Type 0 where
+  pub inside : index_of p < places_of stacks
+  pub held : holds p (record_of receiver.holder) ≡ true
+  pub apart : (s : List Place) → HasChain stacks receiver.holder receiver.opened s → is_in p s ≡ false
+
+-- none but the holder of that name has taken of the mailbox
+abbrev pub IsOnlyReceiver : ℕ → ℕ → List Party → Type 0
+IsOnlyReceiver mailbox name parties = All (λ (x : Party). x.name ≢ name → of_record (got mailbox) x.steps ≡ []) parties
+
+-- a place on its way, and who sent it
+pub record Letter : Type 0 where
+  pub sender : ℕ
+  pub place : Place
+
+-- the places of those letters that the holder of that name sent
+abbrev pub sent_from : ℕ → List Letter → List Place
+sent_from name [] = []
+sent_from name (x ∷ xs) = if x.sender == name then x.place ∷ sent_from name xs else sent_from name xs
+
+-- THE MAIL OF A MAILBOX: what was received and what lies there are letters in one order, and those of each holder are what it sent, in its order
+pub record IsMail (mailbox : ℕ) (parties : List Party) (received waiting : List Place) : Type 0 where
+  pub letters : List Letter
+  pub all : map (λ (x : Letter). x.place) letters ≡ received ++ waiting
+  pub each : All (λ (x : Party). sent_from x.name letters ≡ of_record (sent mailbox) x.steps) parties

@@ -1,0 +1,141 @@
+//! A mailbox: several threads send places, and one thread receives them, each sender's in the order in which they were sent.
+//!
+//! ```text
+//! // in a sender's thread, with its own holder
+//! let is_sent = send(&stacks, &mut sender, 0, place); // to the mailbox 0, where nobody held the place
+//! // in the receiver's
+//! let mut receiver = Receiver::new(&stacks, holder, 0);
+//! while let Some(place) = receiver.receive(&stacks) {
+//!     receiver.give_up(&stacks, place);
+//! }
+//! ```
+//!
+//! A message is a place. What it says lies wherever the sender of a place and its receiver look for it.
+
+ghost use Rattle.std.specs.Prelude.{◌≡◌, ◌<◌, ◌≤◌, ◌+◌, ℕ, [], ◌∷◌, ◌++◌, reverse, List, IfSome, IfNone, Contains};
+ghost use Rattle.std.specs.Bool.{OnTrue, OnFalse};
+ghost use Rattle.ic_unsafe_ref.specs.declared.place.Place.{Place};
+ghost use Rattle.ic_unsafe_ref.specs.Places.{index_of};
+ghost use Rattle.ic_lock_free_stack.specs.declared.step.Entry.{Entry};
+ghost use Rattle.ic_lock_free_stack.specs.Moments.{stack_after};
+ghost use Rattle.ic_lock_free_stack.specs.Records.{most_steps, GivesUp};
+ghost use Rattle.ic_lock_free_stack.specs.OneHistory.{Party, IsHistory};
+ghost use Rattle.ic_lock_free_stack.specs.Orders.{got, of_record};
+ghost use Rattle.ic_lock_free_stack.specs.Holders.{places_of, stacks_of, record_of, spent_by, IsOf, IsNew};
+ghost use Rattle.stack_uses.specs.Mail.{holder_of, box_of, sent_by, HasReceived, IsOut, IsOnlyReceiver, IsMail};
+
+use ic_lock_free_stack::{Chain, Holder, Stacks};
+use ic_unsafe_ref::Place;
+use std::alloc::Allocator;
+
+/// Who receives what is sent to one mailbox, the stack of that number.
+#[derive(Drop)]
+pub struct Receiver {
+    holder: Holder,
+    mailbox: usize,
+    opened: Chain,
+}
+
+/// Claims a place and sends it, and says whether it did: not where somebody holds the place, or where it is on its way.
+///
+/// It requires that the holder has made fewer than 281,474,976,710,656 pushes and calls that take all. It waits for nobody.
+pub fn send<A: Allocator>(
+    stacks: &Stacks<A>,
+    sender: &mut Holder,
+    mailbox: usize,
+    place: Place,
+) -> bool
+    requires mailbox { mailbox < stacks_of stacks.now }
+    requires place { index_of place < places_of stacks.now }
+    requires made { IsOf stacks.now sender.old }
+    requires room { spent_by sender.old < most_steps }
+    ensures made { IsOf stacks.now sender.new }
+    ensures sent { OnTrue result (sent_by mailbox sender.new ≡ sent_by mailbox sender.old ++ place ∷ []) }
+    ensures refused { OnFalse result (sent_by mailbox sender.new ≡ sent_by mailbox sender.old) }
+    ensures spent { spent_by sender.new ≤ spent_by sender.old + 1 }
+{
+    let is_claimed = stacks.claim(sender, place);
+    if is_claimed {
+        stacks.push(sender, mailbox, place);
+    }
+    is_claimed
+}
+
+impl Receiver {
+    /// A receiver for the mailbox of that number, by a holder that has made no step.
+    pub fn new<A: Allocator>(stacks: &Stacks<A>, holder: Holder, mailbox: usize) -> Receiver
+        requires mailbox { mailbox < stacks_of stacks.now }
+        requires made { IsOf stacks.now holder × IsNew holder }
+        ensures made { HasReceived stacks.now result [] }
+        ensures holder { holder_of result ≡ holder }
+        ensures mailbox { box_of result ≡ mailbox }
+    {
+        let _ = stacks;
+        Receiver {
+            holder,
+            mailbox,
+            opened: Chain::new(),
+        }
+    }
+
+    /// The next place that was sent, which the receiver holds then, or `None` where none had come. It waits for nobody.
+    ///
+    /// It requires that its holder has made fewer than 281,474,976,710,656 pushes and calls that take all. A load; where all that was taken is
+    /// received, a swap more, and a load and a store for each place that had come. O(1) a place.
+    pub fn receive<A: Allocator>(&mut self, stacks: &Stacks<A>) -> Option<Place>
+        requires kept { (ps : List Place) × HasReceived stacks.now self.old ps }
+        requires room { spent_by (holder_of self.old) < most_steps }
+        ensures kept { (ps : List Place) × HasReceived stacks.now self.new ps }
+        ensures some { (ps : List Place) → HasReceived stacks.now self.old ps
+            → IfSome result (λ p. HasReceived stacks.now self.new (ps ++ p ∷ []) × IsOut stacks.now self.new p) }
+        ensures none { (ps : List Place) → HasReceived stacks.now self.old ps → IfNone result (HasReceived stacks.now self.new ps) }
+        ensures mailbox { box_of self.new ≡ box_of self.old }
+        ensures spent { spent_by (holder_of self.new) ≤ spent_by (holder_of self.old) + 1 }
+    {
+        self.open(stacks);
+        stacks.next(&mut self.holder, &mut self.opened)
+    }
+
+    // Takes what has come, where all that was taken is received.
+    fn open<A: Allocator>(&mut self, stacks: &Stacks<A>)
+        requires kept { (ps : List Place) × HasReceived stacks.now self.old ps }
+        requires room { spent_by (holder_of self.old) < most_steps }
+        ensures kept { (ps : List Place) → HasReceived stacks.now self.old ps → HasReceived stacks.now self.new ps }
+        ensures mailbox { box_of self.new ≡ box_of self.old }
+        ensures spent { spent_by (holder_of self.new) ≤ spent_by (holder_of self.old) + 1 }
+    {
+        if self.opened.is_empty() {
+            let taken = stacks.take_all(&mut self.holder, self.mailbox);
+            self.opened = stacks.reversed(&mut self.holder, taken);
+        }
+    }
+
+    /// Gives up a place that was received, so that it can be sent again. One store.
+    pub fn give_up<A: Allocator>(&mut self, stacks: &Stacks<A>, place: Place)
+        requires kept { (ps : List Place) × HasReceived stacks.now self.old ps }
+        requires out { IsOut stacks.now self.old place }
+        ensures kept { (ps : List Place) → HasReceived stacks.now self.old ps → HasReceived stacks.now self.new ps }
+        ensures given { GivesUp (record_of (holder_of self.old)) (record_of (holder_of self.new)) place }
+        ensures mailbox { box_of self.new ≡ box_of self.old }
+        ensures spent { spent_by (holder_of self.new) ≡ spent_by (holder_of self.old) }
+    {
+        stacks.release(&mut self.holder, place);
+    }
+
+    /// The holder, for an audit.
+    pub fn into_holder(self) -> Holder
+        ensures { result ≡ holder_of self }
+    {
+        self.holder
+    }
+}
+
+/// The law of a mailbox from which one receiver takes: what it got, and what still lies there, is what was sent, each place once, and those of
+/// each sender in the order in which it sent them.
+///
+/// An `audit` of all holders gives the history.
+pub fn mail_comes_in_order()
+    ensures { (order : List Entry) (parties : List Party) (mailbox : ℕ) (x : Party) → IsHistory order parties
+        → Contains parties x → IsOnlyReceiver mailbox x.name parties
+        → IsMail mailbox parties (of_record (got mailbox) x.steps) (reverse (stack_after order mailbox)) }
+{}
