@@ -489,13 +489,13 @@ static inline uint32_t ic_ring_replace(struct ic_link2 *table, size_t places, ui
 }
 
 /* Moves a place, from whichever ring it stands in, behind another one, or in front of it. It is unlinked for a moment. Where it is refused,
- * the place is back where it was. Linux: list_move, list_move_tail.
- * IC_LINKED: `at` is `place`. Else as ic_ring_remove and ic_ring_insert_after. */
+ * the place is back where it was. Where `at` is `place`, nothing changes. Linux: list_move, list_move_tail.
+ * Refusals as of ic_ring_remove and ic_ring_insert_after. */
 IC_NODISCARD
 static inline uint32_t ic_ring_move(struct ic_link2 *table, size_t places, uint32_t at, uint32_t place, int is_after) {
     uint32_t prev = ic_ring_prev(table, places, place), status;
     if (at == place)
-        return IC_LINKED;
+        return ic_ring_exchange(table, places, at, at); /* changes nothing, and says whether it stands in a ring */
     status = ic_ring_remove(table, places, place);
     if (status != IC_OK)
         return status;
@@ -517,12 +517,14 @@ static inline uint32_t ic_ring_move_before(struct ic_link2 *table, size_t places
 }
 
 /* Moves all members of the head `given` behind a place of another ring, or in front of it. `given` has no members then. Linux:
- * list_splice_init, list_splice_tail_init. Refusals as of ic_ring_exchange. */
+ * list_splice_init, list_splice_tail_init. Refusals as of ic_ring_exchange, and IC_BROKEN beside the head `given` itself. */
 IC_NODISCARD
 static inline uint32_t ic_ring_splice_after(struct ic_link2 *table, size_t places, uint32_t at, uint32_t given) {
     uint32_t last = ic_ring_prev(table, places, given), status;
     if (last == IC_NONE)
         return ic_ring_is_linked(table, places, given) ? (uint32_t)IC_BROKEN : ic_ring_exchange(table, places, given, at);
+    if (at == given || at == last)
+        return IC_BROKEN; /* of the ring itself, which would lose its members */
     status = ic_ring_exchange(table, places, last, at);
     if (status != IC_OK)
         return status;
@@ -910,13 +912,13 @@ IC_NODISCARD
 uint32_t ic_tree_insert_right(struct ic_link3 *table, size_t places, struct ic_tree *tree, uint32_t at, uint32_t place);
 
 /* Takes the member `at` off.
- * IC_NULL: `at` is IC_NONE. IC_OUT_OF_RANGE or IC_NOT_LINKED: of `at`. IC_BROKEN: the root is none of this table. */
+ * IC_NULL: `at` is IC_NONE. IC_OUT_OF_RANGE or IC_NOT_LINKED: of `at`. IC_BROKEN: the root is none of this table, or `at` is another tree's. */
 IC_NODISCARD
 uint32_t ic_tree_remove(struct ic_link3 *table, size_t places, struct ic_tree *tree, uint32_t at);
 
 /* Links a place where the member `at` is, which is taken off. Nothing is compared, so hand in a place that belongs there. O(1).
  * IC_NULL: `at` is IC_NONE. IC_OUT_OF_RANGE: `at` or `place` is. IC_LINKED: `place` is, as where it is `at`. IC_NOT_LINKED: `at` is not.
- * IC_BROKEN: the root is none of this table. */
+ * IC_BROKEN: the root is none of this table, or `at` is the root of another tree. */
 IC_NODISCARD
 uint32_t ic_tree_replace(struct ic_link3 *table, size_t places, struct ic_tree *tree, uint32_t at, uint32_t place);
 

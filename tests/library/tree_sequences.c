@@ -150,8 +150,18 @@ static void step_insert(int t) {
         link_at(t, count_below(&sequences[t], keys[place], 1), place);
 }
 
+/* Now and then the root of another tree, which is no member of this one. */
+static uint32_t or_root(int t, uint32_t named) {
+    int other = (int)below(TREES);
+    uint32_t root = ic_tree_root(&trees[other]);
+    if (other == t || root == IC_NONE || below(8))
+        return named;
+    fault(1, IC_BROKEN);
+    return root;
+}
+
 static void step_remove(int t, uint32_t i) {
-    uint32_t at = member(&sequences[t], i), named = at == IC_NONE ? at : or_none(at);
+    uint32_t at = member(&sequences[t], i), named = at == IC_NONE ? at : or_root(t, or_none(at));
     fault(at == IC_NONE, IC_NULL);
     if (made(ic_tree_remove(table, PLACES, &trees[t], named))) {
         take(&sequences[t], i, 1);
@@ -162,7 +172,7 @@ static void step_remove(int t, uint32_t i) {
 
 static void step_replace(int t, uint32_t i) {
     struct sequence *plain = &sequences[t];
-    uint32_t place = to_link(), at = member(plain, i), named = at == IC_NONE ? at : or_none(at);
+    uint32_t place = to_link(), at = member(plain, i), named = at == IC_NONE ? at : or_root(t, or_none(at));
     fault(at == IC_NONE, IC_NULL);
     give_key(place, before(plain, i), i < plain->count ? member(plain, i + 1) : IC_NONE);
     if (made(ic_tree_replace(table, PLACES, &trees[t], named, place))) {

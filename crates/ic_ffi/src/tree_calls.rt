@@ -12,9 +12,10 @@ ghost use Rattle.std.specs.Prelude.{◌≡◌, ◌≢◌, ◌↔◌, ◌⊎◌, 
 ghost use Rattle.ic_unsafe_ref.specs.declared.place.Place.{Place};
 ghost use Rattle.ic_link_ops.specs.declared.side.Side.TheVariants.{Left, Right};
 ghost use Rattle.ic_link_ops.specs.Sequences.{Cut, join, first, last, IsAfter, IsBefore};
+ghost use Rattle.ic_link_ops.specs.RedBlackTree.{node_at};
 ghost use Rattle.ic_raw.specs.Answers.{IsStatus, IsFound, refusal};
 ghost use Rattle.ic_raw.specs.Words.{place_of};
-ghost use Rattle.ic_raw.specs.Tree.{ShowsTree, IsHole, TellsHole, FreeIn, StandsIn, NamesLinked, root_in, word_of_root, table_of, fault_at, fault_of, Inserted, Removed, Replaced};
+ghost use Rattle.ic_raw.specs.Tree.{node, ShowsTree, IsHole, TellsHole, FreeIn, StandsIn, NamesLinked, root_in, word_of_root, table_of, fault_at, fault_of, Inserted, Removed, Replaced};
 ghost use Rattle.ic_raw.specs.WholeTree.{Cleared};
 
 use ic_link_ops::Side;
@@ -80,6 +81,8 @@ pub extern "C" fn ic_tree_remove(table: &mut [RawThree], tree: &mut RawRoot, at:
     ensures null { (result ≡ 4) ↔ (place_of at ≡ None) }
     ensures stands { result ≡ 0 → StandsIn table.old (place_of at) }
     ensures root { result ≡ 0 → StandsIn table.old (root_in tree.old) }
+    ensures own { (p : Place) → place_of at ≡ Some p → result ≡ 0 → (node_at node (table_of table.old) p).parent ≡ None
+        → root_in tree.old ≡ Some p }
     ensures words { result ≡ 0 → tree.new ≡ word_of_root (root_in tree.new) }
     ensures refused { result ≢ 0 → (table.new ≡ table.old) × (tree.new ≡ tree.old) }
     ensures why { result ≢ 0 → result ≢ 4 → result ≡ refusal (fault_at table.old (place_of at) ∷ []) }
@@ -105,6 +108,8 @@ pub extern "C" fn ic_tree_replace(
     ensures null { (result ≡ 4) ↔ (place_of at ≡ None) }
     ensures stands { result ≡ 0 → StandsIn table.old (place_of at) }
     ensures root { result ≡ 0 → StandsIn table.old (root_in tree.old) }
+    ensures own { (p : Place) → place_of at ≡ Some p → result ≡ 0 → (node_at node (table_of table.old) p).parent ≡ None
+        → root_in tree.old ≡ Some p }
     ensures words { result ≡ 0 → tree.new ≡ word_of_root (root_in tree.new) }
     ensures refused { result ≢ 0 → (table.new ≡ table.old) × (tree.new ≡ tree.old) }
     ensures why { result ≢ 0 → result ≢ 4 → result ≡ refusal (fault_at table.old (place_of at) ∷ fault_of table.old (place_of place) ∷ []) }

@@ -10,13 +10,13 @@ use Rattle.ic_link_ops.specs.declared.side.Side.TheVariants.{Left, Right}
 use Rattle.ic_link_ops.specs.Sequences.{Cut, join, first, last, IsAbsent}
 use Rattle.ic_link_ops.specs.Tables.{Extent, Table, IsCovered, IsLinked, KeepsBeside}
 use Rattle.ic_link_ops.specs.EntryLaws.{linked_in_range}
-use Rattle.ic_link_ops.specs.Trees.{Tree, leaf, fork, top}
+use Rattle.ic_link_ops.specs.Trees.{Tree, leaf, fork, top, in_order}
 use Rattle.ic_link_ops.specs.Frames.{child_on}
 use Rattle.ic_link_ops.specs.PlainTables.{entry_at}
 use Rattle.ic_link_ops.specs.Times.{times, times_in}
 use Rattle.ic_link_ops.specs.RedBlackTree.{IsTree}
 use Rattle.ic_link_ops.specs.RedBlackTree as trees
-use Rattle.ic_link_ops.proofs.SequenceLemmas.{gap_not, none_not, absent_with}
+use Rattle.ic_link_ops.proofs.SequenceLemmas.{gap_not, none_not, absent_with, absent_both, absent_right}
 use Rattle.ic_link_ops.proofs.Times.{one_at_self, one_at_other, times_order, times_absent}
 use Rattle.ic_link_ops.proofs.ShownTrees.{no_members, no_root, root_member, holds_linked, holds_out, shows_kept}
 use Rattle.ic_rbtree.specs.Closed.{IsIn, IsClosed}
@@ -245,3 +245,21 @@ module _ (t : Table RawThree) where
     starts = h.starts;
     shape = h.shape;
   }
+
+-- A MEMBER THAT NAMES NO PARENT IS THE ROOT, since each other one stands below another
+below_named : (entry : Place → RawThree) (up : Place) (tree : Tree) (p : Place) → IsTree node entry (Some up) tree → (node (entry p)).parent ≡ None → IsAbsent p (in_order tree)
+below_named entry up leaf p t none = tt
+below_named entry up (fork c a x b) p t none =
+    let apart : p ≢ x = λ e. none_not up (sym none ∙ ap (λ q. (node (entry q)).parent) e ∙ t.0.parent) in
+    absent_with (in_order a) (in_order b) x p apart (absent_both p (in_order a) (in_order b) (below_named entry x a p t.1 none) (below_named entry x b p t.2 none))
+
+topmost : (entry : Place → RawThree) (tree : Tree) (p : Place) → IsTree node entry None tree → (node (entry p)).parent ≡ None → (IsAbsent p (in_order tree) → ⊥) → top tree ≡ Some p
+topmost entry leaf p t none inside = absurd (inside tt)
+topmost entry (fork c a x b) p t none inside = elim (same_or_not p x) [
+  | inl e ↦ ap Some (sym e)
+  | inr apart ↦ absurd (inside (absent_with (in_order a) (in_order b) x p apart (absent_both p (in_order a) (in_order b) (below_named entry x a p t.1 none) (below_named entry x b p t.2 none))))
+]
+
+pub root_by_parent : {t : Table RawThree} {root : Option Place} (front : List Place) (p : Place) (back : List Place) → Shows t root (front ++ p ∷ back) → (node (t.entry p)).parent ≡ None → root ≡ Some p
+root_by_parent {t} front p back shown none =
+    shown.starts ∙ topmost t.entry shown.tree p shown.held.entries none (λ out. (absent_right p front (p ∷ back) (subst (IsAbsent p) shown.held.order out)).0 refl)

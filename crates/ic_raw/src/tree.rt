@@ -67,6 +67,24 @@ pub(crate) fn stand(links: &RawTable<'_, RawThree>, tree: &Tree, at: Option<Plac
     }
 }
 
+// Whether the tree may have the member: both it and the root are linked, and it is the root if its words name no parent. So the root of another
+// tree is none of this one.
+#[inline]
+fn may_hold(links: &RawTable<'_, RawThree>, tree: &Tree, member: Place) -> bool
+    ensures at { result ≡ true → Stands is_linked_three (lent_table links.now) (Some member) }
+    ensures root { result ≡ true → Stands is_linked_three (lent_table links.now) (root_of tree.now) }
+    ensures own { result ≡ true → (node_at node (lent_table links.now) member).parent ≡ None → root_of tree.now ≡ Some member }
+    ensures shown { (front back : List Place) → Shows (lent_table links.now) (root_of tree.now) (front ++ member ∷ back) → result ≡ true }
+{
+    if !stand(links, tree, Some(member)) {
+        return false;
+    }
+    match place_in(links.at(member).parent) {
+        None => Place::to_word(tree.root()) == Place::to_word(Some(member)),
+        Some(_) => true,
+    }
+}
+
 // The child of a linked place on this side.
 #[inline]
 fn child(links: &RawTable<'_, RawThree>, place: Place, side: Side) -> Option<Place>
@@ -178,10 +196,11 @@ pub(crate) fn remove(links: &mut RawTable<'_, RawThree>, tree: &mut Tree, member
         × IsUnlinked is_linked_three (lent_table links.new) member }
     ensures stands { result ≡ true → Stands is_linked_three (lent_table links.old) (Some member) }
     ensures root { result ≡ true → Stands is_linked_three (lent_table links.old) (root_of tree.old) }
+    ensures own { result ≡ true → (node_at node (lent_table links.old) member).parent ≡ None → root_of tree.old ≡ Some member }
     ensures refused { result ≡ false → (links.new ≡ links.old) × (tree.new ≡ tree.old) }
     ensures extent { (lent_table links.new).extent ≡ (lent_table links.old).extent }
 {
-    if !stand(&*links, &*tree, Some(member)) {
+    if !may_hold(&*links, &*tree, member) {
         return false;
     }
     tree.unlink(links, member);
@@ -204,10 +223,11 @@ pub(crate) fn replace(
     ensures free { result ≡ true → (p : Place) × (place ≡ Some p) × IsFree is_linked_three (lent_table links.old) p }
     ensures stands { result ≡ true → Stands is_linked_three (lent_table links.old) (Some member) }
     ensures root { result ≡ true → Stands is_linked_three (lent_table links.old) (root_of tree.old) }
+    ensures own { result ≡ true → (node_at node (lent_table links.old) member).parent ≡ None → root_of tree.old ≡ Some member }
     ensures refused { result ≡ false → (links.new ≡ links.old) × (tree.new ≡ tree.old) }
     ensures extent { (lent_table links.new).extent ≡ (lent_table links.old).extent }
 {
-    if !stand(&*links, &*tree, Some(member)) {
+    if !may_hold(&*links, &*tree, member) {
         return false;
     }
     let Some(place) = acquire(links, place) else {

@@ -11,15 +11,15 @@ use Rattle.ic_raw.proofs.Seen.{seen_changes}
 use Rattle.ic_raw.proofs.Trees.{in_range, has, end_in, closed, seen_shown, told_kept, members_told, told, frame_told}
 use Rattle.ic_raw.proofs.tree.remove.Goals as goal
 
-pub returns-then-not-stand-clause-removed : goal.returns-then-not-stand-clause-removed
-returns-then-not-stand-clause-removed c front back shown =
-    absurd (never c.if-not-stand.true (c.stand.ensures.shown Left (before c.args.member front back) shown refl))
+pub returns-then-not-may_hold-clause-removed : goal.returns-then-not-may_hold-clause-removed
+returns-then-not-may_hold-clause-removed c front back shown =
+    absurd (never c.if-not-may_hold.true (c.may_hold.ensures.shown front back shown))
 
 pub unlink-requires : goal.unlink-requires
 unlink-requires c =
     let v = lent_table c.args.links.now in
     let law = in_range c.args.links.now in
-    (has_place v, closed v _ (end_in v law _ (c.stand.ensures.root c.if-not-stand.false)), (has v law c.args.member (c.stand.ensures.at c.if-not-stand.false c.args.member refl), tt))
+    (has_place v, closed v _ (end_in v law _ (c.may_hold.ensures.root c.if-not-may_hold.false)), (has v law c.args.member (c.may_hold.ensures.at c.if-not-may_hold.false c.args.member refl), tt))
 
 pub returns-clause-removed : goal.returns-clause-removed
 returns-clause-removed c front back shown =

@@ -16,22 +16,22 @@ use Rattle.ic_raw.proofs.Seen.{seen_changes}
 use Rattle.ic_raw.proofs.Trees.{in_range, in_kept, has, end_in, closed, seen_shown, told_kept, told_with, told, frame_told}
 use Rattle.ic_raw.proofs.tree.replace.Goals as goal
 
-pub returns-then-not-stand-clause-replaced : goal.returns-then-not-stand-clause-replaced
-returns-then-not-stand-clause-replaced c front back p shown is free =
-    absurd (never c.if-not-stand.true (c.stand.ensures.shown Left (before c.args.member front back) shown refl))
+pub returns-then-not-may_hold-clause-replaced : goal.returns-then-not-may_hold-clause-replaced
+returns-then-not-may_hold-clause-replaced c front back p shown is free =
+    absurd (never c.if-not-may_hold.true (c.may_hold.ensures.shown front back shown))
 
 pub take_place-requires-clause-safe : goal.take_place-requires-clause-safe
 take_place-requires-clause-safe c =
     let old = lent_table c.args.links.now in
     let mid = lent_table c.acquire.new.links in
     let law = in_range c.args.links.now in
-    let ok = c.if-not-stand.false in
+    let ok = c.if-not-may_hold.false in
     let taken = c.in-Some.is in
     let extent = (c.acquire.ensures.frame _ taken).extent in (
       has_place mid,
-      weaker seen_node (closed mid _ (in_kept old mid _ extent (end_in old law _ (c.stand.ensures.root ok)))) (Some c.in-Some.place),
+      weaker seen_node (closed mid _ (in_kept old mid _ extent (end_in old law _ (c.may_hold.ensures.root ok)))) (Some c.in-Some.place),
       (
-        in_kept old mid (Some c.args.member) extent (end_in old law _ (c.stand.ensures.at ok)),
+        in_kept old mid (Some c.args.member) extent (end_in old law _ (c.may_hold.ensures.at ok)),
         (has mid (in_range c.acquire.new.links) c.in-Some.place (c.acquire.ensures.linked _ taken), tt),
       ),
     )
