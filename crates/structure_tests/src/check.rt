@@ -12,9 +12,12 @@ ghost use Rattle.ic_rbtree.specs.Tree.{root_of};
 
 use crate::asserts::assert_true;
 use ic_chain::Chain;
-use ic_check::{NamesItsNext, TellsLinks, check, check_all, check_tree, is_sorted};
+use ic_check::{
+    NamesItsNext, TellsLinks, TellsNeighbors, check, check_all, check_both, check_marking, check_tree,
+    is_sorted,
+};
 use ic_link_ops::linked_list::LinkedListOps;
-use ic_link_ops::{OneWord, PlainTable, Words, linked_list, rbtree, singly_linked_list};
+use ic_link_ops::{OneWord, PlainTable, Words, linked_list, rbtree, singly_linked_list, xor_linked_list};
 use ic_linked_list::{DoublyLinked, LinkedList};
 use ic_rbtree::{KeyAdapter, RBTree};
 use ic_singly_linked_list::SinglyLinked;
@@ -22,12 +25,13 @@ use ic_test_support::answers::{object, placed};
 use ic_test_support::notes::{Answer, Text};
 use ic_test_support::tables::are_placed;
 use ic_unsafe_ref::{Objects, Place, UnsafeRef};
+use ic_xor_linked_list::XorLinkedList;
 use std::alloc::Global;
 use std::process::Abort;
 
 // The place of that index.
 fn place(index: usize) -> Place
-    requires { index < 3 }
+    requires { index < 4 }
     ensures { index_of result ≡ index }
 {
     Place::new(index).unwrap()
@@ -43,7 +47,7 @@ fn write_found(notes: &mut Text, found: Option<usize>) {
 }
 
 // A list of the objects at the first three places.
-fn list_of_three<K: NamesItsNext<PlainTable<W>>, W: Words>(
+fn list_of_three<K: TellsNeighbors<PlainTable<W>>, W: Words>(
     links: &mut PlainTable<W>,
 ) -> Chain<K, u64>
     requires covered { (table W.width W.unlinked links.old).extent.places ≡ 3 }
@@ -104,6 +108,23 @@ fn a_whole_table_is_checked(rt: HostRuntime) {
     assert_true(&rt, notes.has_words("3 none"));
 }
 
+// The second of three members leaves an XOR list, whose other entries still lead to it. The marks are set before each check, which does not
+// ask what they were.
+#[test]
+fn an_xor_list_is_checked(rt: HostRuntime) {
+    let alloc = rt.alloc();
+    let mut notes = Text::new(alloc);
+    let mut links = xor_linked_list::LinkOps::new(alloc);
+    let _ = links.cover(3);
+    assert!(rt; links.covers() == 3);
+    let list: XorLinkedList<u64> = list_of_three(&mut links);
+    let mut marks = [true; 3];
+    write_found(&mut notes, check_marking(&list, &links, &mut marks));
+    links.force_unlink(place(1));
+    write_found(&mut notes, check_marking(&list, &links, &mut marks));
+    assert_true(&rt, notes.has_words("3 none"));
+}
+
 // Says that a number is its own key.
 #[derive(Clone, Copy, Default)]
 struct OwnKey;
@@ -146,6 +167,26 @@ fn a_tree_is_checked(rt: HostRuntime) {
     links.force_unlink(place(1));
     write_found(&mut notes, check_tree(&tree, &links));
     assert_true(&rt, notes.has_words("3 none"));
+}
+
+// A list of the fourth place and a tree of the other three share a table of tree links. Without the list a linked place is left over, and with
+// the tree twice each of its places is.
+#[test]
+fn a_table_of_a_list_and_a_tree_is_checked(rt: HostRuntime) {
+    let alloc = rt.alloc();
+    let mut notes = Text::new(alloc);
+    let mut links = rbtree::LinkOps::new(alloc);
+    let _ = links.cover(4);
+    assert!(rt; links.covers() == 4);
+    let mut list: LinkedList<u64> = LinkedList::new();
+    let _ = list.push_front(&mut links, UnsafeRef::new(place(3)));
+    let trees = [tree_of_three(&mut links)];
+    let mut marks = [true; 4];
+    write_found(&mut notes, check_both(&[list], &trees, &links, &mut marks));
+    let none: [LinkedList<u64>; 0] = [];
+    write_found(&mut notes, check_both(&none, &trees, &links, &mut marks));
+    write_found(&mut notes, check_both(&trees, &trees, &links, &mut marks));
+    assert_true(&rt, notes.has_words("4 none none"));
 }
 
 // Notes whether a tree of three objects with these keys is in their order.
