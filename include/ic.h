@@ -71,6 +71,14 @@ extern "C" {
 #endif
 #endif
 
+/* The length of an array. The calls take 64 bits for it, so on a processor whose size_t has 32 it is a longer number. The compiler converts
+ * each length of yours to it. */
+#if SIZE_MAX >= UINT64_MAX
+typedef size_t ic_length;
+#else
+typedef uint64_t ic_length;
+#endif
+
 /* Names no place. As a cursor of a list it is the position between the last member and the first. */
 #define IC_NONE UINT32_MAX
 
@@ -172,12 +180,12 @@ static inline uint32_t ic_place(uint64_t word) {
  */
 
 /* How many places of a table can be named. */
-static inline uint32_t ic_bound(size_t places) {
+static inline uint32_t ic_bound(ic_length places) {
     return places < IC_NONE ? (uint32_t)places : IC_NONE;
 }
 
 /* The place of the table that a word names, or IC_NONE. */
-static inline uint32_t ic_place_within(size_t places, uint64_t word) {
+static inline uint32_t ic_place_within(ic_length places, uint64_t word) {
     uint32_t place = ic_place(word);
     return place < ic_bound(places) ? place : IC_NONE;
 }
@@ -196,7 +204,7 @@ static inline uint32_t ic_place_within(size_t places, uint64_t word) {
  */
 
 /* Whether a place is in a list of the table. */
-static inline int ic_list_is_linked(const struct ic_link2 *table, size_t places, uint32_t place) {
+static inline int ic_list_is_linked(const struct ic_link2 *table, ic_length places, uint32_t place) {
     return place < ic_bound(places) && (table[place].next & 1);
 }
 
@@ -216,12 +224,12 @@ static inline uint32_t ic_list_last(const struct ic_list *list) {
 }
 
 /* The member behind a member, or IC_NONE. */
-static inline uint32_t ic_list_next(const struct ic_link2 *table, size_t places, uint32_t at) {
+static inline uint32_t ic_list_next(const struct ic_link2 *table, ic_length places, uint32_t at) {
     return ic_list_is_linked(table, places, at) ? ic_place_within(places, table[at].next) : IC_NONE;
 }
 
 /* The member in front of a member, or IC_NONE. */
-static inline uint32_t ic_list_prev(const struct ic_link2 *table, size_t places, uint32_t at) {
+static inline uint32_t ic_list_prev(const struct ic_link2 *table, ic_length places, uint32_t at) {
     return ic_list_is_linked(table, places, at) ? ic_place_within(places, table[at].prev) : IC_NONE;
 }
 
@@ -244,104 +252,104 @@ static inline uint32_t ic_list_prev(const struct ic_link2 *table, size_t places,
 /* Links a place at the front.
  * IC_OUT_OF_RANGE or IC_LINKED: of `place`. IC_BROKEN: the first member is none of this table. */
 IC_NODISCARD
-uint32_t ic_list_push_front(struct ic_link2 *table, size_t places, struct ic_list *list, uint32_t place);
+uint32_t ic_list_push_front(struct ic_link2 *table, ic_length places, struct ic_list *list, uint32_t place);
 
 /* Links a place at the back.
  * IC_OUT_OF_RANGE or IC_LINKED: of `place`. IC_BROKEN: the last member is none of this table. */
 IC_NODISCARD
-uint32_t ic_list_push_back(struct ic_link2 *table, size_t places, struct ic_list *list, uint32_t place);
+uint32_t ic_list_push_back(struct ic_link2 *table, ic_length places, struct ic_list *list, uint32_t place);
 
 /* Takes the first member off, and sets *popped to it.
  * IC_NULL: the list is empty. IC_BROKEN: its first member is none of this table. */
 IC_NODISCARD
-uint32_t ic_list_pop_front(struct ic_link2 *table, size_t places, struct ic_list *list, uint32_t *popped);
+uint32_t ic_list_pop_front(struct ic_link2 *table, ic_length places, struct ic_list *list, uint32_t *popped);
 
 /* Takes the last member off, and sets *popped to it.
  * IC_NULL: the list is empty. IC_BROKEN: its last member is none of this table. */
 IC_NODISCARD
-uint32_t ic_list_pop_back(struct ic_link2 *table, size_t places, struct ic_list *list, uint32_t *popped);
+uint32_t ic_list_pop_back(struct ic_link2 *table, ic_length places, struct ic_list *list, uint32_t *popped);
 
 /* Links a place behind the member `at`, or at the front where `at` is IC_NONE.
  * IC_OUT_OF_RANGE: `at` or `place` is. IC_LINKED: `place` is. IC_NOT_LINKED: `at` is not. IC_BROKEN: `at` is no member. */
 IC_NODISCARD
-uint32_t ic_list_insert_after(struct ic_link2 *table, size_t places, struct ic_list *list, uint32_t at, uint32_t place);
+uint32_t ic_list_insert_after(struct ic_link2 *table, ic_length places, struct ic_list *list, uint32_t at, uint32_t place);
 
 /* Links a place in front of the member `at`, or at the back where `at` is IC_NONE. Refusals as of ic_list_insert_after. */
 IC_NODISCARD
-uint32_t ic_list_insert_before(struct ic_link2 *table, size_t places, struct ic_list *list, uint32_t at, uint32_t place);
+uint32_t ic_list_insert_before(struct ic_link2 *table, ic_length places, struct ic_list *list, uint32_t at, uint32_t place);
 
 /* Takes the member `at` off.
  * IC_NULL: `at` is IC_NONE. IC_OUT_OF_RANGE or IC_NOT_LINKED: of `at`. IC_BROKEN: `at` is no member. */
 IC_NODISCARD
-uint32_t ic_list_remove(struct ic_link2 *table, size_t places, struct ic_list *list, uint32_t at);
+uint32_t ic_list_remove(struct ic_link2 *table, ic_length places, struct ic_list *list, uint32_t at);
 
 /* Links a place where the member `at` is, which is taken off.
  * IC_NULL: `at` is IC_NONE. IC_OUT_OF_RANGE: `at` or `place` is. IC_LINKED: `place` is, as where it is `at`. IC_NOT_LINKED: `at` is not.
  * IC_BROKEN: `at` is no member. */
 IC_NODISCARD
-uint32_t ic_list_replace(struct ic_link2 *table, size_t places, struct ic_list *list, uint32_t at, uint32_t place);
+uint32_t ic_list_replace(struct ic_link2 *table, ic_length places, struct ic_list *list, uint32_t at, uint32_t place);
 
 /* Moves the member `place` behind the member `at`, or to the front where `at` is IC_NONE. It stays linked. Where it is there already, and
  * where `at` is `place`, nothing changes.
  * IC_NULL: `place` is IC_NONE. IC_OUT_OF_RANGE or IC_NOT_LINKED: of `at` or `place`. IC_BROKEN: one of them is no member. */
 IC_NODISCARD
-uint32_t ic_list_move_after(struct ic_link2 *table, size_t places, struct ic_list *list, uint32_t at, uint32_t place);
+uint32_t ic_list_move_after(struct ic_link2 *table, ic_length places, struct ic_list *list, uint32_t at, uint32_t place);
 
 /* Moves the member `place` in front of the member `at`, or to the back where `at` is IC_NONE. As ic_list_move_after in all else. */
 IC_NODISCARD
-uint32_t ic_list_move_before(struct ic_link2 *table, size_t places, struct ic_list *list, uint32_t at, uint32_t place);
+uint32_t ic_list_move_before(struct ic_link2 *table, ic_length places, struct ic_list *list, uint32_t at, uint32_t place);
 
 /* Moves the member `place` to the front, as a cache does with what was used last. It stays linked.
  * IC_NULL: `place` is IC_NONE. IC_OUT_OF_RANGE or IC_NOT_LINKED: of `place`. IC_BROKEN: `place` is no member, or the first member is none of
  * this table. */
 IC_NODISCARD
-uint32_t ic_list_move_to_front(struct ic_link2 *table, size_t places, struct ic_list *list, uint32_t place);
+uint32_t ic_list_move_to_front(struct ic_link2 *table, ic_length places, struct ic_list *list, uint32_t place);
 
 /* Moves the member `place` to the back. Refusals as of ic_list_move_to_front, but for the last member in place of the first. */
 IC_NODISCARD
-uint32_t ic_list_move_to_back(struct ic_link2 *table, size_t places, struct ic_list *list, uint32_t place);
+uint32_t ic_list_move_to_back(struct ic_link2 *table, ic_length places, struct ic_list *list, uint32_t place);
 
 /* Moves all members of `given` behind the member `at`, or to the front where `at` is IC_NONE, in their order. `given` is empty then.
  * IC_OUT_OF_RANGE or IC_NOT_LINKED: of `at`. IC_BROKEN: `at` is no member, or `given` is no list of this table, or begins with the same
  * member as the list, as the list itself does. */
 IC_NODISCARD
-uint32_t ic_list_splice_after(struct ic_link2 *table, size_t places, struct ic_list *list, uint32_t at, struct ic_list *given);
+uint32_t ic_list_splice_after(struct ic_link2 *table, ic_length places, struct ic_list *list, uint32_t at, struct ic_list *given);
 
 /* Moves all members of `given` in front of the member `at`, or to the back where `at` is IC_NONE. Refusals as of ic_list_splice_after. */
 IC_NODISCARD
-uint32_t ic_list_splice_before(struct ic_link2 *table, size_t places, struct ic_list *list, uint32_t at, struct ic_list *given);
+uint32_t ic_list_splice_before(struct ic_link2 *table, ic_length places, struct ic_list *list, uint32_t at, struct ic_list *given);
 
 /* Moves all members of `given` to the back, in their order. `given` is empty then.
  * IC_BROKEN: the last member is none of this table, or `given` is no list of it, or begins with the same member as the list, as the list
  * itself does. */
 IC_NODISCARD
-uint32_t ic_list_append(struct ic_link2 *table, size_t places, struct ic_list *list, struct ic_list *given);
+uint32_t ic_list_append(struct ic_link2 *table, ic_length places, struct ic_list *list, struct ic_list *given);
 
 /* Links `count` places, `first` and those behind it, and puts them at the back in the order of their numbers. O(count). With `count` 0 it
  * changes nothing.
  * IC_OUT_OF_RANGE or IC_LINKED: of the first of these places that is. IC_BROKEN: the last member is none of this table. */
 IC_NODISCARD
-uint32_t ic_list_fill(struct ic_link2 *table, size_t places, struct ic_list *list, uint32_t first, uint32_t count);
+uint32_t ic_list_fill(struct ic_link2 *table, ic_length places, struct ic_list *list, uint32_t first, uint32_t count);
 
 /* Takes all members off. O(n).
  * IC_BROKEN: the links do not lead from the first member to the last, each to the next and back. */
 IC_NODISCARD
-uint32_t ic_list_clear(struct ic_link2 *table, size_t places, struct ic_list *list);
+uint32_t ic_list_clear(struct ic_link2 *table, ic_length places, struct ic_list *list);
 
 /* Moves the members behind `at` to `rest`, or all of them where `at` is IC_NONE. Hand in an empty `rest`.
  * IC_OUT_OF_RANGE or IC_NOT_LINKED: of `at`. IC_BROKEN: `at` is no member, or `rest` has members. */
 IC_NODISCARD
-uint32_t ic_list_split_after(struct ic_link2 *table, size_t places, struct ic_list *list, uint32_t at, struct ic_list *rest);
+uint32_t ic_list_split_after(struct ic_link2 *table, ic_length places, struct ic_list *list, uint32_t at, struct ic_list *rest);
 
 /* Moves the members in front of `at` to `rest`, or all of them where `at` is IC_NONE. As ic_list_split_after in all else. */
 IC_NODISCARD
-uint32_t ic_list_split_before(struct ic_link2 *table, size_t places, struct ic_list *list, uint32_t at, struct ic_list *rest);
+uint32_t ic_list_split_before(struct ic_link2 *table, ic_length places, struct ic_list *list, uint32_t at, struct ic_list *rest);
 
 /* Sets *members to how many members the list has. O(n). Of a list that comes from a file or from memory that others write: if the status is
  * IC_OK, each call does what it says of a list that the table holds.
  * IC_BROKEN: the links do not lead from the first member to the last, each to the next and back. */
 IC_NODISCARD
-uint32_t ic_list_check(const struct ic_link2 *table, size_t places, const struct ic_list *list, uint64_t *members);
+uint32_t ic_list_check(const struct ic_link2 *table, ic_length places, const struct ic_list *list, uint64_t *members);
 
 /* ---- Lists by keys ----
  *
@@ -352,14 +360,14 @@ uint32_t ic_list_check(const struct ic_link2 *table, size_t places, const struct
 /* Puts the members in the order of their keys. Those with equal keys keep their order. O(n log n).
  * IC_OUT_OF_RANGE: there are fewer keys than places. IC_BROKEN: as of ic_list_check. */
 IC_NODISCARD
-uint32_t ic_list_sort(struct ic_link2 *table, size_t places, const uint64_t *keys, size_t key_count, struct ic_list *list);
+uint32_t ic_list_sort(struct ic_link2 *table, ic_length places, const uint64_t *keys, ic_length key_count, struct ic_list *list);
 
 /* Moves all members of `given` to where their keys belong, if both lists are in order. Of members with equal keys those of `list` are in
  * front. `given` is empty then. O(n).
  * IC_OUT_OF_RANGE: there are fewer keys than places. IC_BROKEN: as of ic_list_check, of either list, or both begin with the same member, as
  * a list and itself do. */
 IC_NODISCARD
-uint32_t ic_list_merge(struct ic_link2 *table, size_t places, const uint64_t *keys, size_t key_count, struct ic_list *list,
+uint32_t ic_list_merge(struct ic_link2 *table, ic_length places, const uint64_t *keys, ic_length key_count, struct ic_list *list,
                        struct ic_list *given);
 
 /* ---- Rings: 16 bytes a place, all calls O(1) ---------------------------------------------------------------------------------------
@@ -378,22 +386,22 @@ uint32_t ic_list_merge(struct ic_link2 *table, size_t places, const uint64_t *ke
  */
 
 /* Whether a place stands in a ring or a list of the table. */
-static inline int ic_ring_is_linked(const struct ic_link2 *table, size_t places, uint32_t place) {
+static inline int ic_ring_is_linked(const struct ic_link2 *table, ic_length places, uint32_t place) {
     return ic_list_is_linked(table, places, place);
 }
 
 /* The place behind one that stands in a ring, or IC_NONE: behind a head the first member, behind the last member the head. */
-static inline uint32_t ic_ring_next(const struct ic_link2 *table, size_t places, uint32_t at) {
+static inline uint32_t ic_ring_next(const struct ic_link2 *table, ic_length places, uint32_t at) {
     return ic_list_next(table, places, at);
 }
 
 /* The place in front of one that stands in a ring, or IC_NONE. */
-static inline uint32_t ic_ring_prev(const struct ic_link2 *table, size_t places, uint32_t at) {
+static inline uint32_t ic_ring_prev(const struct ic_link2 *table, ic_length places, uint32_t at) {
     return ic_list_prev(table, places, at);
 }
 
 /* Whether a head has no members. */
-static inline int ic_ring_is_empty(const struct ic_link2 *table, size_t places, uint32_t head) {
+static inline int ic_ring_is_empty(const struct ic_link2 *table, ic_length places, uint32_t head) {
     return ic_ring_next(table, places, head) == head;
 }
 
@@ -414,46 +422,46 @@ static inline int ic_ring_is_empty(const struct ic_link2 *table, size_t places, 
 /* Makes a place the head of a ring with no members. Linux: INIT_LIST_HEAD.
  * IC_OUT_OF_RANGE or IC_LINKED: of `head`. */
 IC_NODISCARD
-uint32_t ic_ring_init(struct ic_link2 *table, size_t places, uint32_t head);
+uint32_t ic_ring_init(struct ic_link2 *table, ic_length places, uint32_t head);
 
 /* Links a place behind one that stands in a ring: behind a head it is the first member. Linux: list_add.
  * IC_NULL: `at` is IC_NONE. IC_OUT_OF_RANGE: `at` or `place` is. IC_LINKED: `place` is. IC_NOT_LINKED: `at` is not. IC_BROKEN: `at` stands in
  * no ring. */
 IC_NODISCARD
-uint32_t ic_ring_insert_after(struct ic_link2 *table, size_t places, uint32_t at, uint32_t place);
+uint32_t ic_ring_insert_after(struct ic_link2 *table, ic_length places, uint32_t at, uint32_t place);
 
 /* Links a place in front of one that stands in a ring: in front of a head it is the last member. Linux: list_add_tail.
  * Refusals as of ic_ring_insert_after. */
 IC_NODISCARD
-uint32_t ic_ring_insert_before(struct ic_link2 *table, size_t places, uint32_t at, uint32_t place);
+uint32_t ic_ring_insert_before(struct ic_link2 *table, ic_length places, uint32_t at, uint32_t place);
 
 /* Takes a place out of its ring. A head without members leaves too, and its ring is gone then. Linux: list_del.
  * IC_NULL: `place` is IC_NONE. IC_OUT_OF_RANGE or IC_NOT_LINKED: of `place`. IC_BROKEN: it stands in no ring. */
 IC_NODISCARD
-uint32_t ic_ring_remove(struct ic_link2 *table, size_t places, uint32_t place);
+uint32_t ic_ring_remove(struct ic_link2 *table, ic_length places, uint32_t place);
 
 /* Two places that stand in rings exchange what stands behind them. So two rings become one, and one becomes two. The same call again takes
  * it back. With the last member of a ring and the head of another, all members of the second, and then its head, stand behind the first.
  * IC_NULL: one of them is IC_NONE. IC_OUT_OF_RANGE or IC_NOT_LINKED: of one of them. IC_BROKEN: one of them stands in no ring. */
 IC_NODISCARD
-uint32_t ic_ring_exchange(struct ic_link2 *table, size_t places, uint32_t one, uint32_t other);
+uint32_t ic_ring_exchange(struct ic_link2 *table, ic_length places, uint32_t one, uint32_t other);
 
 /* ---- What is made of these, which is tested and not proved ---- */
 
 /* Links a place as the first member of a head, or as the last. */
 IC_NODISCARD
-static inline uint32_t ic_ring_push_front(struct ic_link2 *table, size_t places, uint32_t head, uint32_t place) {
+static inline uint32_t ic_ring_push_front(struct ic_link2 *table, ic_length places, uint32_t head, uint32_t place) {
     return ic_ring_insert_after(table, places, head, place);
 }
 
 IC_NODISCARD
-static inline uint32_t ic_ring_push_back(struct ic_link2 *table, size_t places, uint32_t head, uint32_t place) {
+static inline uint32_t ic_ring_push_back(struct ic_link2 *table, ic_length places, uint32_t head, uint32_t place) {
     return ic_ring_insert_before(table, places, head, place);
 }
 
 /* Takes `first` off, which stands beside a head, and sets *popped to it. */
 IC_NODISCARD
-static inline uint32_t ic_ring_pop(struct ic_link2 *table, size_t places, uint32_t head, uint32_t first, uint32_t *popped) {
+static inline uint32_t ic_ring_pop(struct ic_link2 *table, ic_length places, uint32_t head, uint32_t first, uint32_t *popped) {
     uint32_t status;
     if (first == IC_NONE)
         return ic_ring_is_linked(table, places, head) ? (uint32_t)IC_BROKEN : ic_ring_remove(table, places, head);
@@ -467,18 +475,18 @@ static inline uint32_t ic_ring_pop(struct ic_link2 *table, size_t places, uint32
 
 /* Takes the first member of a head off, or the last one, and sets *popped to it. IC_NULL: there is none. Else as ic_ring_remove. */
 IC_NODISCARD
-static inline uint32_t ic_ring_pop_front(struct ic_link2 *table, size_t places, uint32_t head, uint32_t *popped) {
+static inline uint32_t ic_ring_pop_front(struct ic_link2 *table, ic_length places, uint32_t head, uint32_t *popped) {
     return ic_ring_pop(table, places, head, ic_ring_next(table, places, head), popped);
 }
 
 IC_NODISCARD
-static inline uint32_t ic_ring_pop_back(struct ic_link2 *table, size_t places, uint32_t head, uint32_t *popped) {
+static inline uint32_t ic_ring_pop_back(struct ic_link2 *table, ic_length places, uint32_t head, uint32_t *popped) {
     return ic_ring_pop(table, places, head, ic_ring_prev(table, places, head), popped);
 }
 
 /* Links a place where another one stands in a ring, which is taken off. Linux: list_replace. Refusals as of both calls. */
 IC_NODISCARD
-static inline uint32_t ic_ring_replace(struct ic_link2 *table, size_t places, uint32_t at, uint32_t place) {
+static inline uint32_t ic_ring_replace(struct ic_link2 *table, ic_length places, uint32_t at, uint32_t place) {
     uint32_t status = ic_ring_insert_before(table, places, at, place);
     if (status != IC_OK)
         return status;
@@ -492,7 +500,7 @@ static inline uint32_t ic_ring_replace(struct ic_link2 *table, size_t places, ui
  * the place is back where it was. Where `at` is `place`, nothing changes. Linux: list_move, list_move_tail.
  * Refusals as of ic_ring_remove and ic_ring_insert_after. */
 IC_NODISCARD
-static inline uint32_t ic_ring_move(struct ic_link2 *table, size_t places, uint32_t at, uint32_t place, int is_after) {
+static inline uint32_t ic_ring_move(struct ic_link2 *table, ic_length places, uint32_t at, uint32_t place, int is_after) {
     uint32_t prev = ic_ring_prev(table, places, place), status;
     if (at == place)
         return ic_ring_exchange(table, places, at, at); /* changes nothing, and says whether it stands in a ring */
@@ -507,19 +515,19 @@ static inline uint32_t ic_ring_move(struct ic_link2 *table, size_t places, uint3
 }
 
 IC_NODISCARD
-static inline uint32_t ic_ring_move_after(struct ic_link2 *table, size_t places, uint32_t at, uint32_t place) {
+static inline uint32_t ic_ring_move_after(struct ic_link2 *table, ic_length places, uint32_t at, uint32_t place) {
     return ic_ring_move(table, places, at, place, 1);
 }
 
 IC_NODISCARD
-static inline uint32_t ic_ring_move_before(struct ic_link2 *table, size_t places, uint32_t at, uint32_t place) {
+static inline uint32_t ic_ring_move_before(struct ic_link2 *table, ic_length places, uint32_t at, uint32_t place) {
     return ic_ring_move(table, places, at, place, 0);
 }
 
 /* Moves all members of the head `given` behind a place of another ring, or in front of it. `given` has no members then. Linux:
  * list_splice_init, list_splice_tail_init. Refusals as of ic_ring_exchange, and IC_BROKEN beside the head `given` itself. */
 IC_NODISCARD
-static inline uint32_t ic_ring_splice_after(struct ic_link2 *table, size_t places, uint32_t at, uint32_t given) {
+static inline uint32_t ic_ring_splice_after(struct ic_link2 *table, ic_length places, uint32_t at, uint32_t given) {
     uint32_t last = ic_ring_prev(table, places, given), status;
     if (last == IC_NONE)
         return ic_ring_is_linked(table, places, given) ? (uint32_t)IC_BROKEN : ic_ring_exchange(table, places, given, at);
@@ -535,7 +543,7 @@ static inline uint32_t ic_ring_splice_after(struct ic_link2 *table, size_t place
 }
 
 IC_NODISCARD
-static inline uint32_t ic_ring_splice_before(struct ic_link2 *table, size_t places, uint32_t at, uint32_t given) {
+static inline uint32_t ic_ring_splice_before(struct ic_link2 *table, ic_length places, uint32_t at, uint32_t given) {
     uint32_t before = ic_ring_prev(table, places, at);
     if (before == IC_NONE)
         return ic_ring_is_linked(table, places, at) ? (uint32_t)IC_BROKEN : ic_ring_exchange(table, places, at, given);
@@ -549,7 +557,7 @@ static inline uint32_t ic_ring_splice_before(struct ic_link2 *table, size_t plac
  */
 
 /* Whether a place is in a list of the table. */
-static inline int ic_stack_is_linked(const struct ic_link1 *table, size_t places, uint32_t place) {
+static inline int ic_stack_is_linked(const struct ic_link1 *table, ic_length places, uint32_t place) {
     return place < ic_bound(places) && (table[place].next & 1);
 }
 
@@ -564,13 +572,13 @@ static inline uint32_t ic_stack_first(const struct ic_stack *list) {
 }
 
 /* The member behind a member, or IC_NONE. */
-static inline uint32_t ic_stack_next(const struct ic_link1 *table, size_t places, uint32_t at) {
+static inline uint32_t ic_stack_next(const struct ic_link1 *table, ic_length places, uint32_t at) {
     return ic_stack_is_linked(table, places, at) ? ic_place_within(places, table[at].next) : IC_NONE;
 }
 
 /* The member to go on to from `place`, which was behind *before, or first where that is IC_NONE. If `place` is still there, it is
  * *before from now on. If it has been taken off, the member that is there now is next. */
-static inline uint32_t ic_stack_go_on(const struct ic_link1 *table, size_t places, const struct ic_stack *list, uint32_t *before,
+static inline uint32_t ic_stack_go_on(const struct ic_link1 *table, ic_length places, const struct ic_stack *list, uint32_t *before,
                                       uint32_t place) {
     uint32_t behind = *before == IC_NONE ? ic_stack_first(list) : ic_stack_next(table, places, *before);
     if (behind != place)
@@ -595,56 +603,56 @@ static inline uint32_t ic_stack_go_on(const struct ic_link1 *table, size_t place
 /* Links a place at the front.
  * IC_OUT_OF_RANGE or IC_LINKED: of `place`. IC_BROKEN: the first member is none of this table. */
 IC_NODISCARD
-uint32_t ic_stack_push_front(struct ic_link1 *table, size_t places, struct ic_stack *list, uint32_t place);
+uint32_t ic_stack_push_front(struct ic_link1 *table, ic_length places, struct ic_stack *list, uint32_t place);
 
 /* Takes the first member off, and sets *popped to it.
  * IC_NULL: the list is empty. IC_BROKEN: its first member is none of this table. */
 IC_NODISCARD
-uint32_t ic_stack_pop_front(struct ic_link1 *table, size_t places, struct ic_stack *list, uint32_t *popped);
+uint32_t ic_stack_pop_front(struct ic_link1 *table, ic_length places, struct ic_stack *list, uint32_t *popped);
 
 /* Links a place behind the member `at`, or at the front.
  * IC_OUT_OF_RANGE: `at` or `place` is. IC_LINKED: `place` is. IC_NOT_LINKED: `at` is not. IC_BROKEN: the member behind is none of this
  * table. */
 IC_NODISCARD
-uint32_t ic_stack_insert_after(struct ic_link1 *table, size_t places, struct ic_stack *list, uint32_t at, uint32_t place);
+uint32_t ic_stack_insert_after(struct ic_link1 *table, ic_length places, struct ic_stack *list, uint32_t at, uint32_t place);
 
 /* Takes the member behind `at` off, or the first, and sets *removed to it.
  * IC_NULL: there is none. IC_OUT_OF_RANGE or IC_NOT_LINKED: of `at`. IC_BROKEN: the member behind is none of this table. */
 IC_NODISCARD
-uint32_t ic_stack_remove_after(struct ic_link1 *table, size_t places, struct ic_stack *list, uint32_t at, uint32_t *removed);
+uint32_t ic_stack_remove_after(struct ic_link1 *table, ic_length places, struct ic_stack *list, uint32_t at, uint32_t *removed);
 
 /* Links a place where the member behind `at` is, or the first, takes that off, and sets *out to it.
  * IC_NULL: there is none. IC_OUT_OF_RANGE: `at` or `place` is. IC_LINKED: `place` is. IC_NOT_LINKED: `at` is not. IC_BROKEN: the member
  * behind is none of this table. */
 IC_NODISCARD
-uint32_t ic_stack_replace_after(struct ic_link1 *table, size_t places, struct ic_stack *list, uint32_t at, uint32_t place, uint32_t *out);
+uint32_t ic_stack_replace_after(struct ic_link1 *table, ic_length places, struct ic_stack *list, uint32_t at, uint32_t place, uint32_t *out);
 
 /* Moves all members of `given` behind the member `at`, or to the front, in their order. `given` is empty then. O(members of `given`).
  * IC_OUT_OF_RANGE or IC_NOT_LINKED: of `at`. IC_BROKEN: `given` is no list of this table, has no end within `places`
  * steps, or begins with the same member as the list, as the list itself does. */
 IC_NODISCARD
-uint32_t ic_stack_splice_after(struct ic_link1 *table, size_t places, struct ic_stack *list, uint32_t at, struct ic_stack *given);
+uint32_t ic_stack_splice_after(struct ic_link1 *table, ic_length places, struct ic_stack *list, uint32_t at, struct ic_stack *given);
 
 /* Moves the members behind `at` to `rest`, or all of them where `at` is IC_NONE. Hand in an empty `rest`.
  * IC_OUT_OF_RANGE or IC_NOT_LINKED: of `at`. IC_BROKEN: the member behind is none of this table, or `rest` has members. */
 IC_NODISCARD
-uint32_t ic_stack_split_after(struct ic_link1 *table, size_t places, struct ic_stack *list, uint32_t at, struct ic_stack *rest);
+uint32_t ic_stack_split_after(struct ic_link1 *table, ic_length places, struct ic_stack *list, uint32_t at, struct ic_stack *rest);
 
 /* Links `count` places, `first` and those behind it, and puts them at the front in the order of their numbers: `first` is the first member
  * then. O(count). With `count` 0 it changes nothing.
  * IC_OUT_OF_RANGE or IC_LINKED: of the first of these places that is. IC_BROKEN: the first member is not linked. */
 IC_NODISCARD
-uint32_t ic_stack_fill(struct ic_link1 *table, size_t places, struct ic_stack *list, uint32_t first, uint32_t count);
+uint32_t ic_stack_fill(struct ic_link1 *table, ic_length places, struct ic_stack *list, uint32_t first, uint32_t count);
 
 /* Takes all members off. O(n).
  * IC_BROKEN: the links lead to no end within `places` steps. */
 IC_NODISCARD
-uint32_t ic_stack_clear(struct ic_link1 *table, size_t places, struct ic_stack *list);
+uint32_t ic_stack_clear(struct ic_link1 *table, ic_length places, struct ic_stack *list);
 
 /* Sets *members to how many members the list has. O(n). As ic_list_check.
  * IC_BROKEN: the links lead from the first member to no end within the table. */
 IC_NODISCARD
-uint32_t ic_stack_check(const struct ic_link1 *table, size_t places, const struct ic_stack *list, uint64_t *members);
+uint32_t ic_stack_check(const struct ic_link1 *table, ic_length places, const struct ic_stack *list, uint64_t *members);
 
 /* ---- Hash tables: 8 bytes a place and 8 a bucket ---------------------------------------------------------------------------------------
  *
@@ -669,7 +677,7 @@ uint32_t ic_stack_check(const struct ic_link1 *table, size_t places, const struc
  */
 
 /* The first member of the chain of a hash, or IC_NONE. */
-static inline uint32_t ic_hash_first(const struct ic_stack *buckets, size_t bucket_count, uint64_t hash) {
+static inline uint32_t ic_hash_first(const struct ic_stack *buckets, ic_length bucket_count, uint64_t hash) {
     return bucket_count ? ic_stack_first(&buckets[hash % bucket_count]) : IC_NONE;
 }
 
@@ -681,26 +689,28 @@ static inline uint32_t ic_hash_first(const struct ic_stack *buckets, size_t buck
 /* Links a place at the front of its chain. O(1).
  * IC_OUT_OF_RANGE: `place` is, or there is no bucket. IC_LINKED: `place` is. IC_BROKEN: the first member of the chain is none of this table. */
 IC_NODISCARD
-uint32_t ic_hash_insert(struct ic_link1 *table, size_t places, struct ic_stack *buckets, size_t bucket_count, uint64_t hash, uint32_t place);
+uint32_t ic_hash_insert(struct ic_link1 *table, ic_length places, struct ic_stack *buckets, ic_length bucket_count, uint64_t hash,
+                        uint32_t place);
 
 /* Takes a place off its chain, wherever it is in it. O(members of the chain).
  * IC_NULL: `place` is IC_NONE. IC_OUT_OF_RANGE: `place` is, or there is no bucket. IC_NOT_LINKED: `place` is not. IC_BROKEN: it is no member of
  * this chain, as with another hash, or the chain is none of this table. */
 IC_NODISCARD
-uint32_t ic_hash_remove(struct ic_link1 *table, size_t places, struct ic_stack *buckets, size_t bucket_count, uint64_t hash, uint32_t place);
+uint32_t ic_hash_remove(struct ic_link1 *table, ic_length places, struct ic_stack *buckets, ic_length bucket_count, uint64_t hash,
+                        uint32_t place);
 
 /* Sets *found to the first member of the chain whose key is `key`: of several, the one that was inserted last. O(members of the chain).
  * IC_NULL: there is none. IC_OUT_OF_RANGE: there are fewer keys than places, or there is no bucket. IC_BROKEN: the chain is none of this
  * table. */
 IC_NODISCARD
-uint32_t ic_hash_find(const struct ic_link1 *table, size_t places, const uint64_t *keys, size_t key_count, const struct ic_stack *buckets,
-                      size_t bucket_count, uint64_t hash, uint64_t key, uint32_t *found);
+uint32_t ic_hash_find(const struct ic_link1 *table, ic_length places, const uint64_t *keys, ic_length key_count, const struct ic_stack *buckets,
+                      ic_length bucket_count, uint64_t hash, uint64_t key, uint32_t *found);
 
 /* Sets *found to the next member behind the member `at`, in its chain, whose key is keys[at].
  * IC_NULL: there is none, or `at` is IC_NONE. IC_OUT_OF_RANGE: `at` is, or there are fewer keys than places. IC_NOT_LINKED: `at` is not.
  * IC_BROKEN: the chain is none of this table. */
 IC_NODISCARD
-uint32_t ic_hash_next_equal(const struct ic_link1 *table, size_t places, const uint64_t *keys, size_t key_count, uint32_t at,
+uint32_t ic_hash_next_equal(const struct ic_link1 *table, ic_length places, const uint64_t *keys, ic_length key_count, uint32_t at,
                             uint32_t *found);
 
 /* ---- XOR lists: 8 bytes a place, all calls O(1) but ic_xor_fill and ic_xor_clear ---------------------------------------------------
@@ -716,7 +726,7 @@ uint32_t ic_hash_next_equal(const struct ic_link1 *table, size_t places, const u
  */
 
 /* Whether a place is in a list of the table. */
-static inline int ic_xor_is_linked(const struct ic_link1 *table, size_t places, uint32_t place) {
+static inline int ic_xor_is_linked(const struct ic_link1 *table, ic_length places, uint32_t place) {
     return place < ic_bound(places) && (table[place].next & 1);
 }
 
@@ -738,12 +748,12 @@ static inline uint32_t ic_xor_last(const struct ic_xor_list *list) {
 /* The neighbor of the member `at` on the other side than its neighbor `from`, or IC_NONE. `from` is IC_NONE at an end of the list.
  * From the first member with IC_NONE it leads to the back, and from the last to the front. If `from` is no neighbor, the step leads to
  * some place of the table or to IC_NONE. */
-static inline uint32_t ic_xor_step(const struct ic_link1 *table, size_t places, uint32_t from, uint32_t at) {
+static inline uint32_t ic_xor_step(const struct ic_link1 *table, ic_length places, uint32_t from, uint32_t at) {
     return ic_xor_is_linked(table, places, at) ? ic_place_within(places, table[at].next ^ ic_word(from)) : IC_NONE;
 }
 
 /* The member to go on to from `place`, which was reached from *from. *from is `place` then. */
-static inline uint32_t ic_xor_go_on(const struct ic_link1 *table, size_t places, uint32_t *from, uint32_t place) {
+static inline uint32_t ic_xor_go_on(const struct ic_link1 *table, ic_length places, uint32_t *from, uint32_t place) {
     uint32_t next = ic_xor_step(table, places, *from, place);
     *from = place;
     return next;
@@ -781,68 +791,68 @@ static inline uint32_t ic_xor_go_on(const struct ic_link1 *table, size_t places,
 /* Links a place at the front.
  * IC_OUT_OF_RANGE or IC_LINKED: of `place`. IC_BROKEN: the first member is none of this table. */
 IC_NODISCARD
-uint32_t ic_xor_push_front(struct ic_link1 *table, size_t places, struct ic_xor_list *list, uint32_t place);
+uint32_t ic_xor_push_front(struct ic_link1 *table, ic_length places, struct ic_xor_list *list, uint32_t place);
 
 /* Links a place at the back.
  * IC_OUT_OF_RANGE or IC_LINKED: of `place`. IC_BROKEN: the last member is none of this table. */
 IC_NODISCARD
-uint32_t ic_xor_push_back(struct ic_link1 *table, size_t places, struct ic_xor_list *list, uint32_t place);
+uint32_t ic_xor_push_back(struct ic_link1 *table, ic_length places, struct ic_xor_list *list, uint32_t place);
 
 /* Takes the first member off, and sets *popped to it.
  * IC_NULL: the list is empty. IC_BROKEN: its first member is none of this table. */
 IC_NODISCARD
-uint32_t ic_xor_pop_front(struct ic_link1 *table, size_t places, struct ic_xor_list *list, uint32_t *popped);
+uint32_t ic_xor_pop_front(struct ic_link1 *table, ic_length places, struct ic_xor_list *list, uint32_t *popped);
 
 /* Takes the last member off, and sets *popped to it.
  * IC_NULL: the list is empty. IC_BROKEN: its last member is none of this table. */
 IC_NODISCARD
-uint32_t ic_xor_pop_back(struct ic_link1 *table, size_t places, struct ic_xor_list *list, uint32_t *popped);
+uint32_t ic_xor_pop_back(struct ic_link1 *table, ic_length places, struct ic_xor_list *list, uint32_t *popped);
 
 /* Links a place in the gap between `before` and `behind`.
  * IC_OUT_OF_RANGE: one of the three is. IC_LINKED: `place` is. IC_NOT_LINKED: a neighbor is not. IC_BROKEN: there is no such gap. */
 IC_NODISCARD
-uint32_t ic_xor_insert_between(struct ic_link1 *table, size_t places, struct ic_xor_list *list, uint32_t before, uint32_t place,
+uint32_t ic_xor_insert_between(struct ic_link1 *table, ic_length places, struct ic_xor_list *list, uint32_t before, uint32_t place,
                                uint32_t behind);
 
 /* Takes the member `at` off, whose neighbor in front is `before`.
  * IC_NULL: `at` is IC_NONE. IC_OUT_OF_RANGE or IC_NOT_LINKED: of `before` or `at`. IC_BROKEN: they are no such members. */
 IC_NODISCARD
-uint32_t ic_xor_remove(struct ic_link1 *table, size_t places, struct ic_xor_list *list, uint32_t before, uint32_t at);
+uint32_t ic_xor_remove(struct ic_link1 *table, ic_length places, struct ic_xor_list *list, uint32_t before, uint32_t at);
 
 /* Links a place where the member `at` is, whose neighbor in front is `before`, and takes `at` off.
  * IC_NULL: `at` is IC_NONE. IC_OUT_OF_RANGE: one of the three is. IC_LINKED: `place` is. IC_NOT_LINKED: `before` or `at` is not.
  * IC_BROKEN: they are no such members. */
 IC_NODISCARD
-uint32_t ic_xor_replace(struct ic_link1 *table, size_t places, struct ic_xor_list *list, uint32_t before, uint32_t at, uint32_t place);
+uint32_t ic_xor_replace(struct ic_link1 *table, ic_length places, struct ic_xor_list *list, uint32_t before, uint32_t at, uint32_t place);
 
 /* Moves all members of `given` into the gap between `before` and `behind`, in their order. `given` is empty then.
  * IC_OUT_OF_RANGE or IC_NOT_LINKED: of a neighbor. IC_BROKEN: there is no such gap, or `given` is no list of this table, or begins with
  * the same member as the list, as the list itself does. */
 IC_NODISCARD
-uint32_t ic_xor_splice_between(struct ic_link1 *table, size_t places, struct ic_xor_list *list, uint32_t before, struct ic_xor_list *given,
+uint32_t ic_xor_splice_between(struct ic_link1 *table, ic_length places, struct ic_xor_list *list, uint32_t before, struct ic_xor_list *given,
                                uint32_t behind);
 
 /* Moves all members of `given` to the back, in their order. `given` is empty then.
  * IC_BROKEN: an end of either list is none of this table, or `given` begins with the same member as the list, as the list itself does. */
 IC_NODISCARD
-uint32_t ic_xor_append(struct ic_link1 *table, size_t places, struct ic_xor_list *list, struct ic_xor_list *given);
+uint32_t ic_xor_append(struct ic_link1 *table, ic_length places, struct ic_xor_list *list, struct ic_xor_list *given);
 
 /* Links `count` places, `first` and those behind it, and puts them at the back in the order of their numbers. O(count). With `count` 0 it
  * changes nothing.
  * IC_OUT_OF_RANGE or IC_LINKED: of the first of these places that is. IC_BROKEN: the last member is none of this table. */
 IC_NODISCARD
-uint32_t ic_xor_fill(struct ic_link1 *table, size_t places, struct ic_xor_list *list, uint32_t first, uint32_t count);
+uint32_t ic_xor_fill(struct ic_link1 *table, ic_length places, struct ic_xor_list *list, uint32_t first, uint32_t count);
 
 /* Takes all members off. O(n).
  * IC_BROKEN: an end of the list is none of this table, or the links do not lead from one end to the other within `places` steps. */
 IC_NODISCARD
-uint32_t ic_xor_clear(struct ic_link1 *table, size_t places, struct ic_xor_list *list);
+uint32_t ic_xor_clear(struct ic_link1 *table, ic_length places, struct ic_xor_list *list);
 
 /* Moves the members from `behind` on to `rest`, and `before` is the last member then. All move where `before` is IC_NONE, and none where
  * `behind` is. Hand in an empty `rest`.
  * IC_OUT_OF_RANGE or IC_NOT_LINKED: of a neighbor. IC_BROKEN: there is no such gap, or `rest` has members. */
 IC_NODISCARD
-uint32_t ic_xor_split_between(struct ic_link1 *table, size_t places, struct ic_xor_list *list, uint32_t before, uint32_t behind,
+uint32_t ic_xor_split_between(struct ic_link1 *table, ic_length places, struct ic_xor_list *list, uint32_t before, uint32_t behind,
                               struct ic_xor_list *rest);
 
 /* Reverses the list. It reads and writes no table. IC_OK always. */
@@ -871,7 +881,7 @@ uint32_t ic_xor_reverse(struct ic_xor_list *list);
  */
 
 /* Whether a place is in a tree of the table. */
-static inline int ic_tree_is_linked(const struct ic_link3 *table, size_t places, uint32_t place) {
+static inline int ic_tree_is_linked(const struct ic_link3 *table, ic_length places, uint32_t place) {
     return place < ic_bound(places) && (table[place].left & 1);
 }
 
@@ -886,17 +896,17 @@ static inline uint32_t ic_tree_root(const struct ic_tree *tree) {
 }
 
 /* The left child of a member, or IC_NONE. The members under it are in front of the member. */
-static inline uint32_t ic_tree_left(const struct ic_link3 *table, size_t places, uint32_t at) {
+static inline uint32_t ic_tree_left(const struct ic_link3 *table, ic_length places, uint32_t at) {
     return ic_tree_is_linked(table, places, at) ? ic_place_within(places, table[at].left) : IC_NONE;
 }
 
 /* The right child of a member, or IC_NONE. The members under it are behind the member. */
-static inline uint32_t ic_tree_right(const struct ic_link3 *table, size_t places, uint32_t at) {
+static inline uint32_t ic_tree_right(const struct ic_link3 *table, ic_length places, uint32_t at) {
     return ic_tree_is_linked(table, places, at) ? ic_place_within(places, table[at].right) : IC_NONE;
 }
 
 /* The parent of a member, or IC_NONE. */
-static inline uint32_t ic_tree_parent(const struct ic_link3 *table, size_t places, uint32_t at) {
+static inline uint32_t ic_tree_parent(const struct ic_link3 *table, ic_length places, uint32_t at) {
     return ic_tree_is_linked(table, places, at) ? ic_place_within(places, table[at].parent) : IC_NONE;
 }
 
@@ -905,34 +915,34 @@ static inline uint32_t ic_tree_parent(const struct ic_link3 *table, size_t place
  * IC_OUT_OF_RANGE: `at` or `place` is. IC_LINKED: `place` is. IC_NOT_LINKED: `at` is not. IC_BROKEN: `at` has a left child, or is IC_NONE
  * and the tree has members, or the root is none of this table. */
 IC_NODISCARD
-uint32_t ic_tree_insert_left(struct ic_link3 *table, size_t places, struct ic_tree *tree, uint32_t at, uint32_t place);
+uint32_t ic_tree_insert_left(struct ic_link3 *table, ic_length places, struct ic_tree *tree, uint32_t at, uint32_t place);
 
 /* Links a place as the right child of the member `at`, which has none: the place is just behind `at`. As ic_tree_insert_left otherwise. */
 IC_NODISCARD
-uint32_t ic_tree_insert_right(struct ic_link3 *table, size_t places, struct ic_tree *tree, uint32_t at, uint32_t place);
+uint32_t ic_tree_insert_right(struct ic_link3 *table, ic_length places, struct ic_tree *tree, uint32_t at, uint32_t place);
 
 /* Takes the member `at` off.
  * IC_NULL: `at` is IC_NONE. IC_OUT_OF_RANGE or IC_NOT_LINKED: of `at`. IC_BROKEN: the root is none of this table, or `at` is another tree's. */
 IC_NODISCARD
-uint32_t ic_tree_remove(struct ic_link3 *table, size_t places, struct ic_tree *tree, uint32_t at);
+uint32_t ic_tree_remove(struct ic_link3 *table, ic_length places, struct ic_tree *tree, uint32_t at);
 
 /* Links a place where the member `at` is, which is taken off. Nothing is compared, so hand in a place that belongs there. O(1).
  * IC_NULL: `at` is IC_NONE. IC_OUT_OF_RANGE: `at` or `place` is. IC_LINKED: `place` is, as where it is `at`. IC_NOT_LINKED: `at` is not.
  * IC_BROKEN: the root is none of this table, or `at` is the root of another tree. */
 IC_NODISCARD
-uint32_t ic_tree_replace(struct ic_link3 *table, size_t places, struct ic_tree *tree, uint32_t at, uint32_t place);
+uint32_t ic_tree_replace(struct ic_link3 *table, ic_length places, struct ic_tree *tree, uint32_t at, uint32_t place);
 
 /* Takes all members off. O(n).
  * IC_BROKEN: the root is none of this table, or the steps of ic_tree_next from the first member come to a place that is not linked, or to no
  * end within `places` steps. */
 IC_NODISCARD
-uint32_t ic_tree_clear(struct ic_link3 *table, size_t places, struct ic_tree *tree);
+uint32_t ic_tree_clear(struct ic_link3 *table, ic_length places, struct ic_tree *tree);
 
 /* Sets *members to how many members the tree has. O(n). As ic_list_check, whatever the keys are. It calls itself, at most 67 times within
  * one another.
  * IC_BROKEN: the links are no red-black tree from the root on: a parent, a color or a child is wrong. */
 IC_NODISCARD
-uint32_t ic_tree_check(const struct ic_link3 *table, size_t places, const struct ic_tree *tree, uint64_t *members);
+uint32_t ic_tree_check(const struct ic_link3 *table, ic_length places, const struct ic_tree *tree, uint64_t *members);
 
 /* ---- Trees by keys ----
  *
@@ -943,18 +953,18 @@ uint32_t ic_tree_check(const struct ic_link3 *table, size_t places, const struct
 /* Links a place by its key: behind all members whose keys are not greater than keys[place].
  * IC_OUT_OF_RANGE: `place` is, or there are fewer keys than places. IC_LINKED: `place` is. IC_BROKEN: the root is none of this table. */
 IC_NODISCARD
-uint32_t ic_tree_insert(struct ic_link3 *table, size_t places, const uint64_t *keys, size_t key_count, struct ic_tree *tree,
+uint32_t ic_tree_insert(struct ic_link3 *table, ic_length places, const uint64_t *keys, ic_length key_count, struct ic_tree *tree,
                         uint32_t place);
 
 /* Sets *found to the first member whose key is `key`.
  * IC_NULL: there is none. IC_OUT_OF_RANGE: there are fewer keys than places. IC_BROKEN: the root is none of this table. */
 IC_NODISCARD
-uint32_t ic_tree_find(const struct ic_link3 *table, size_t places, const uint64_t *keys, size_t key_count, const struct ic_tree *tree,
+uint32_t ic_tree_find(const struct ic_link3 *table, ic_length places, const uint64_t *keys, ic_length key_count, const struct ic_tree *tree,
                       uint64_t key, uint32_t *found);
 
 /* Sets *found to the first member whose key is not less than `key`. Refusals as of ic_tree_find. */
 IC_NODISCARD
-uint32_t ic_tree_lower_bound(const struct ic_link3 *table, size_t places, const uint64_t *keys, size_t key_count,
+uint32_t ic_tree_lower_bound(const struct ic_link3 *table, ic_length places, const uint64_t *keys, ic_length key_count,
                              const struct ic_tree *tree, uint64_t key, uint32_t *found);
 
 /* Sets *found to the LAST member whose key is NOT GREATER than `key`. Refusals as of ic_tree_find.
@@ -962,7 +972,7 @@ uint32_t ic_tree_lower_bound(const struct ic_link3 *table, size_t places, const 
  * returns IC_NULL. Both bounds are named as in the Rust crate intrusive-collections: where members have keys from `low` to `high`, the
  * lower bound of `low` is the first of these, and the upper bound of `high` is the last. */
 IC_NODISCARD
-uint32_t ic_tree_upper_bound(const struct ic_link3 *table, size_t places, const uint64_t *keys, size_t key_count,
+uint32_t ic_tree_upper_bound(const struct ic_link3 *table, ic_length places, const uint64_t *keys, ic_length key_count,
                              const struct ic_tree *tree, uint64_t key, uint32_t *found);
 
 /* ---- Steps through a tree ----
@@ -973,32 +983,32 @@ uint32_t ic_tree_upper_bound(const struct ic_link3 *table, size_t places, const 
 /* Sets *found to the member behind the member `at`, from IC_NONE to the first one.
  * IC_NULL: `at` is the last one, or the tree is empty. IC_OUT_OF_RANGE or IC_NOT_LINKED: of `at`. IC_BROKEN: the root is none of this table. */
 IC_NODISCARD
-uint32_t ic_tree_next(const struct ic_link3 *table, size_t places, const struct ic_tree *tree, uint32_t at, uint32_t *found);
+uint32_t ic_tree_next(const struct ic_link3 *table, ic_length places, const struct ic_tree *tree, uint32_t at, uint32_t *found);
 
 /* Sets *found to the member in front of the member `at`, from IC_NONE to the last one. As ic_tree_next otherwise. */
 IC_NODISCARD
-uint32_t ic_tree_prev(const struct ic_link3 *table, size_t places, const struct ic_tree *tree, uint32_t at, uint32_t *found);
+uint32_t ic_tree_prev(const struct ic_link3 *table, ic_length places, const struct ic_tree *tree, uint32_t at, uint32_t *found);
 
 /* Sets *found to the first member. IC_NULL: the tree is empty. */
 IC_NODISCARD
-static inline uint32_t ic_tree_first(const struct ic_link3 *table, size_t places, const struct ic_tree *tree, uint32_t *found) {
+static inline uint32_t ic_tree_first(const struct ic_link3 *table, ic_length places, const struct ic_tree *tree, uint32_t *found) {
     return ic_tree_next(table, places, tree, IC_NONE, found);
 }
 
 /* Sets *found to the last member. IC_NULL: the tree is empty. */
 IC_NODISCARD
-static inline uint32_t ic_tree_last(const struct ic_link3 *table, size_t places, const struct ic_tree *tree, uint32_t *found) {
+static inline uint32_t ic_tree_last(const struct ic_link3 *table, ic_length places, const struct ic_tree *tree, uint32_t *found) {
     return ic_tree_prev(table, places, tree, IC_NONE, found);
 }
 
 /* The member behind the member `at`, from IC_NONE the first one, or IC_NONE if there is none. */
-static inline uint32_t ic_tree_behind(const struct ic_link3 *table, size_t places, const struct ic_tree *tree, uint32_t at) {
+static inline uint32_t ic_tree_behind(const struct ic_link3 *table, ic_length places, const struct ic_tree *tree, uint32_t at) {
     uint32_t found;
     return ic_tree_next(table, places, tree, at, &found) == IC_OK ? found : IC_NONE;
 }
 
 /* The member in front of the member `at`, from IC_NONE the last one, or IC_NONE if there is none. */
-static inline uint32_t ic_tree_before(const struct ic_link3 *table, size_t places, const struct ic_tree *tree, uint32_t at) {
+static inline uint32_t ic_tree_before(const struct ic_link3 *table, ic_length places, const struct ic_tree *tree, uint32_t at) {
     uint32_t found;
     return ic_tree_prev(table, places, tree, at, &found) == IC_OK ? found : IC_NONE;
 }

@@ -1,4 +1,4 @@
-"""How much stack the functions of a text for Linux take, by the directives of its unwind tables, which tell the depth at each instruction."""
+"""How much stack the functions of a text take, by the directives of its unwind tables, which tell the depth at each instruction."""
 
 import collections
 import re
@@ -8,8 +8,12 @@ FUNCTION = re.compile(r"^(?!\.)([\w.$]+):\n(.*?)^\.Lfunc_end\d+:", re.M | re.S)
 Processor = collections.namedtuple("Processor", "entry call jump")
 # The functions that call themselves, and how often one stands within itself at most: by a run of each level, and by each level of a tree.
 LEVELS = {"sort_front": 34, "check_below": 67}
+THUMB = Processor(0, re.compile(r"bl\s+([\w.$]+)"), re.compile(r"b(?:[a-z]{2})?(?:\.[nw])?\s+([a-z_][\w.$]*)$"))
 PROCESSORS = {
     "x86_64": Processor(8, re.compile(r"callq\s+([\w.$]+)"), re.compile(r"j\w+\s+([a-z_][\w.$]*)$")),
+    "thumbv7em": THUMB,
+    "thumbv6m": THUMB,
+    "riscv32imac": Processor(0, re.compile(r"call\s+([\w.$]+)"), re.compile(r"(?:tail|j|b\w+\s.*,)\s+([a-z_][\w.$]*)$")),
     "aarch64": Processor(0, re.compile(r"bl\s+([\w.$]+)"), re.compile(r"(?:b|b\.\w+|cbn?z\s.*,|tbn?z\s.*,)\s+([a-z_][\w.$]*)$")),
 }
 

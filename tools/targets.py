@@ -26,6 +26,7 @@ HEADER = ROOT / "include/ic.h"
 # which clang calls attributes and module flags. Words for clang. How its assembly text begins a comment.
 Target = collections.namedtuple("Target", "triple module attributes flags words comment")
 BRANCHES = ("cf-protection-branch", "cf-protection-return")
+BARE = ("-ffunction-sections", "-fforce-dwarf-frame")
 TARGETS = {
     "x86_64-linux": Target("x86_64-unknown-linux-gnu", None, "noredzone noimplicitfloat uwtable", BRANCHES, (), "#"),
     "aarch64-linux": Target("aarch64-unknown-linux-gnu", None, 'noimplicitfloat uwtable "branch-target-enforcement"',
@@ -36,9 +37,18 @@ TARGETS = {
     "x86_64-windows": Target("x86_64-pc-windows-gnu", "x86_64-linux", "noredzone noimplicitfloat", (), (), "#"),
     # The module of wasm64 reads its stack pointer as 64 bits.
     "wasm32": Target("wasm32-unknown-unknown", "x86_64-linux", "", (), (), "#"),
+    # Processors of 32 bits, often with no system and no library. Where they stand in a call is told by directives that take no memory there.
+    "thumbv7em": Target("thumbv7em-none-eabi", "x86_64-linux", "noimplicitfloat", (), ("-mcpu=cortex-m4", "-mfloat-abi=soft", *BARE), "@"),
+    "thumbv6m": Target("thumbv6m-none-eabi", "x86_64-linux", "noimplicitfloat", (), ("-mcpu=cortex-m0", "-mfloat-abi=soft", *BARE), "@"),
+    "riscv32imac": Target("riscv32-unknown-elf", "x86_64-linux", "noimplicitfloat", (), ("-march=rv32imac", "-mabi=ilp32", *BARE), "#"),
 }
-# What tells other tools of the compiler, or what the text has besides in a note.
-LEFT_OUT = re.compile(r"\s*\.(addrsig|addrsig_sym|ident|file|aeabi_subsection|aeabi_attribute)\b")
+# What tells other tools of the compiler or of one processor, or what the text has besides in a note, and the unwind tables of Arm, which a
+# program without exceptions has no use for.
+LEFT_OUT = re.compile(r"\s*\.(addrsig|addrsig_sym|ident|file|aeabi_subsection|aeabi_attribute|eabi_attribute|attribute|cpu|fpu"
+                      r"|fnstart|fnend|cantunwind|save|pad|setfp)\b")
+# Functions that a text has where its processor lacks an instruction. To fill or to copy a few words takes as many stores in place of a call.
+HELPERS = ROOT / "tools/helpers.ll"
+FEW_STORES = 8
 # A line of the assembly text that has a string, in which no comment begins and no name stands.
 STRING = re.compile(r"\s*\.(ascii|asciz)\s")
 # A name in quotes.
@@ -140,6 +150,8 @@ def write_hardened(module, name, room):
         text = re.sub(r"^(target triple = .*)$", rf'\1\n\nmodule asm ".globl {version_name()}"\nmodule asm "{version_name()} = 1"', text, flags=re.M)
     if name == "wasm32":
         text = re.sub(r'"target-cpu"="[^"]*"', '"target-cpu"="mvp"', text)
+    elif is_bare(name):
+        text = re.sub(r' "target-cpu"="[^"]*"', "", text).replace(" ptrtoaddr ptr ", " ptrtoint ptr ")
     hardened = room / f"{name}.hardened.ll"
     hardened.write_text(text)
     return hardened
@@ -177,14 +189,42 @@ def compile_proved(name, room):
     return make_once(CRATE, name, MADE, room, [*words, "--crate-type", "staticlib"])
 
 
+def is_bare(name):
+    """Whether the text is for a processor of 32 bits with no library, so that it has to be complete in itself."""
+    return set(BARE) <= set(TARGETS[name].words)
+
+
 def compile_other(name, room):
     """Writes ROOM/NAME.s, or .o of WebAssembly, of a kept module for a system that the kit doesn't know."""
     target = TARGETS[name]
     words = (room / f"{target.module}.words").read_text().splitlines()
     same = [it for pair in zip(words, words[1:]) if pair[0] == "-mllvm" for it in pair]
     words = [clang(), f"--target={target.triple}", *target.words, *same, "-O3", "--no-default-config", "-Wno-override-module", "-x", "ir"]
-    words += [write_hardened(target.module, name, room)]
-    run([*words, *(["-c", "-o", room / f"{name}.o"] if name == "wasm32" else ["-S", "-o", room / f"{name}.s"])])
+    module = write_hardened(target.module, name, room)
+    if is_bare(name):
+        whole = room / f"{name}.whole.ll"
+        run([*words, module, "-S", "-emit-llvm", "-o", whole])
+        whole.write_text(with_helpers(whole.read_text()))
+        words[1:1], module = ["-Xclang", "-disable-llvm-passes"], whole
+    run([*words, module, *(["-c", "-o", room / f"{name}.o"] if name == "wasm32" else ["-S", "-o", room / f"{name}.s"])])
+
+
+def with_helpers(text):
+    """The optimized module with the functions of tools/helpers.ll that it calls, in place of those that its processor has in a library."""
+    def called(it):
+        count, words = re.search(r", i64 (\d+), i1 false\)$", it[0]), min([4, *map(int, re.findall(r"\balign (\d+)", it[0]))])
+        is_few = count and "align" in it[0] and int(count[1]) <= FEW_STORES * words
+        return it[0] if is_few else it[0].replace(it[1], "@ic.fill" if "set" in it[1] else "@ic.copy")
+
+    text = re.sub(r"= urem i64 ([^,\n]+), ([^,\n]+)", r"= call i64 @ic.remainder(i64 \1, i64 \2)", text)
+    text = re.sub(r"call void (@llvm\.mem(?:set\.p0|cpy\.p0\.p0)\.i64)\(.*?, i1 false\)", called, text)
+    functions = re.findall(r"^define .*?^}$", HELPERS.read_text(), re.M | re.S)
+    return "\n\n".join([text, *(it for it in functions if re.search(r"@[\w.]+\(", it)[0] in text)]) + "\n"
+
+
+def needed(name, text, room):
+    """The names that the text needs of others."""
+    return sorted(set(re.findall(r"^.*\*UND\*\s+\S+ (\S+)$", run(["llvm-objdump", "-t", assembled(name, text, room)], executable=clang()), re.M)))
 
 
 def compile_all(room, names=TARGETS):
@@ -222,7 +262,7 @@ def portable(name, text):
     for line in text.splitlines():
         if not STRING.match(line):
             line = comment.sub("", QUOTED.sub(lambda it: quoted[it[1]], line)).rstrip()
-        if line and not LEFT_OUT.match(line):
+        if line and not LEFT_OUT.match(line) and not (is_bare(name) and ".note.GNU-stack" in line):
             lines.append(line)
     return "".join(f"{line}\n" for line in lines)
 
@@ -244,7 +284,8 @@ def has_other_code(name, text, room):
 def assembled(name, text, room):
     """The object file that the kit's clang makes of the text."""
     made = room / f"{name}.of-text.o"
-    run([clang(), f"--target={TARGETS[name].triple}", "-c", text, "-o", made])
+    words = [it for it in TARGETS[name].words if it.startswith("-m")]
+    run([clang(), f"--target={TARGETS[name].triple}", *words, "-c", text, "-o", made])
     return made
 
 

@@ -9,6 +9,17 @@
 #include "ic-aarch64-macos.s"
 #elif defined(__x86_64__) && defined(_WIN32)
 #include "ic-x86_64-windows.s"
+// Thumb instructions of 32 bits beside those of 16: Cortex-M4 and M7, M33 and M55 with DSP, and Cortex-A. Else Thumb of any Cortex-M.
+#elif defined(__thumb2__) && defined(__ARM_FEATURE_DSP) && defined(__ELF__) && !defined(__ARM_BIG_ENDIAN)
+#include "ic-thumbv7em.s"
+#elif defined(__thumb__) && defined(__ELF__) && !defined(__ARM_BIG_ENDIAN)
+#include "ic-thumbv6m.s"
+#elif defined(__riscv) && __riscv_xlen == 32 && defined(__ELF__) && !defined(__riscv_32e)
+#include "ic-riscv32imac.s"
 #else
 #error "ic has no code for this processor and system"
+#endif
+// Linux is told that no code is on the stack. Where there is no system, a linker would ask each file for this note.
+#if defined(__linux__) && (defined(__arm__) || defined(__riscv))
+	.section .note.GNU-stack,"",%progbits
 #endif

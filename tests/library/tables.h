@@ -1,12 +1,15 @@
 /* Tables of links whose words are right or random, between pages that can't be touched. The program defines _DEFAULT_SOURCE before it
- * includes this, for mmap of no file. */
+ * includes this, for mmap of no file. On a processor with no system there are no pages, and so no guards. */
 #ifndef TABLES_H
 #define TABLES_H
 
 #include "common.h"
 #include <string.h>
+
+#ifdef __unix__
 #include <sys/mman.h>
 #include <unistd.h>
+#endif
 
 enum { MOST = 24 }; /* how many places a table has at most */
 
@@ -25,12 +28,13 @@ static inline uint32_t place(size_t places) {
 }
 
 static inline uint64_t word(size_t places) {
-    switch (below(6)) {
+    uint32_t choice = below(6), bits = below(8), at = below((uint32_t)places + 1);
+    switch (choice) {
     case 0: return any();
-    case 1: return below(2);
-    case 2: return ic_word((uint32_t)places) + below(2);
-    case 3: return (ic_word(below((uint32_t)places + 1)) + below(8)) ^ any() << 35; /* bit 35 makes it a place of no table */
-    default: return ic_word(below((uint32_t)places + 1)) + below(2);
+    case 1: return bits & 1;
+    case 2: return ic_word((uint32_t)places) + (bits & 1);
+    case 3: return (ic_word(at) + bits) ^ any() << 35; /* bit 35 makes it a place of no table */
+    default: return ic_word(at) + (bits & 1);
     }
 }
 
@@ -77,6 +81,7 @@ static inline struct ic_list lead_through(enum kind kind, void *table, const uin
     return (struct ic_list){grow(table, members, count, IC_NONE, depth), 0};
 }
 
+#ifdef __unix__
 /* The end of a page between two that can't be touched. Before it are `count` words that can be read and written. */
 static inline uint64_t *end_between_guards(size_t count) {
     size_t page = (size_t)sysconf(_SC_PAGESIZE);
@@ -85,5 +90,24 @@ static inline uint64_t *end_between_guards(size_t count) {
         exit(2);
     return (uint64_t *)(pages + 2 * page);
 }
+
+/* Lets nobody write to the page that ends there. */
+static inline void guard_writes(uint64_t *end) {
+    size_t page = (size_t)sysconf(_SC_PAGESIZE);
+    if (mprotect((char *)end - page, page, PROT_READ))
+        exit(2);
+}
+#else
+static inline uint64_t *end_between_guards(size_t count) {
+    uint64_t *words = malloc(count * sizeof *words);
+    if (!words)
+        exit(2);
+    return words + count;
+}
+
+static inline void guard_writes(uint64_t *end) {
+    (void)end;
+}
+#endif
 
 #endif

@@ -109,8 +109,9 @@ static uint64_t any_key(void) {
 /* Gives an unlinked place a key that is not below that of one member, nor above that of another. */
 static void give_key(uint32_t place, uint32_t low, uint32_t high) {
     uint64_t least = low == IC_NONE ? 0 : keys[low], range = (high == IC_NONE ? UINT64_MAX : keys[high]) - least;
+    uint64_t most = below(2) && range > 8 ? 8 : range < UINT64_MAX ? range + 1 : range;
     if (place < PLACES && owner[place] == NOBODY)
-        keys[place] = least + (below(4) ? any() % (below(2) && range > 8 ? 8 : range < UINT64_MAX ? range + 1 : range) : 0);
+        keys[place] = least + (below(4) ? any() % most : 0);
 }
 
 /* How many members have a smaller key, or one that is not greater. */
@@ -280,7 +281,9 @@ static enum call choose(void) {
 int main(int count, char **words) {
     uint64_t wanted = calls_wanted(count, words);
     for (int place = 0; place < PLACES; place++) {
-        table[place] = (struct ic_link3){any() << 1, any(), any()};
+        table[place].left = any() << 1;
+        table[place].right = any();
+        table[place].parent = any();
         owner[place] = NOBODY;
     }
     while (done < wanted) {
