@@ -16,7 +16,7 @@ VIRT = ["--specs=picolibc.specs", "--oslib=semihost", "--crt0=semihost", "-Wl,--
         "-Wl,--defsym=__ram=0x80400000", "-Wl,--defsym=__ram_size=0x200000"]
 OTHERS = [
     Machine("aarch64 in Linux", ["aarch64-linux-gnu-gcc", "-static"], [], ["qemu-aarch64"], False),
-    Machine("Thumb of 32 bits in Linux", ["arm-linux-gnueabihf-gcc", "-static"], [], ["qemu-arm"], False),
+    Machine("Thumb of 32 bits in Linux", ["arm-linux-gnueabihf-gcc", "-static", "-mcpu=cortex-a7"], [], ["qemu-arm"], False),
     Machine("Cortex-M4", ["arm-none-eabi-gcc", "-mcpu=cortex-m4"], [*CORTEX_M, "-Wl,--defsym=board_stack=0x20400000"],
             ["qemu-system-arm", "-M", "mps2-an386", *BOARD], True),
     Machine("Cortex-M0", ["arm-none-eabi-gcc", "-mcpu=cortex-m0"], [*CORTEX_M, "-Wl,-Tdata=0x20000000", "-Wl,--defsym=board_stack=0x20004000"],

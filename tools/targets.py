@@ -204,22 +204,28 @@ def compile_other(name, room):
     if is_bare(name):
         whole = room / f"{name}.whole.ll"
         run([*words, module, "-S", "-emit-llvm", "-o", whole])
-        whole.write_text(with_helpers(whole.read_text()))
+        whole.write_text(with_helpers(whole.read_text(), name != "thumbv6m"))
         words[1:1], module = ["-Xclang", "-disable-llvm-passes"], whole
     run([*words, module, *(["-c", "-o", room / f"{name}.o"] if name == "wasm32" else ["-S", "-o", room / f"{name}.s"])])
 
 
-def with_helpers(text):
+def with_helpers(text, has_division):
     """The optimized module with the functions of tools/helpers.ll that it calls, in place of those that its processor has in a library."""
     def called(it):
         count, words = re.search(r", i64 (\d+), i1 false\)$", it[0]), min([4, *map(int, re.findall(r"\balign (\d+)", it[0]))])
-        is_few = count and "align" in it[0] and int(count[1]) <= FEW_STORES * words
-        return it[0] if is_few else it[0].replace(it[1], "@ic.fill" if "set" in it[1] else "@ic.copy")
+        if count and "align" in it[0] and int(count[1]) <= FEW_STORES * words:
+            return it[0]
+        if "memset" in it[0] and ", i8 0, " not in it[0]:
+            raise ValueError(f"no helper writes what {it[0]} does")
+        return it[0].replace(it[1], "@ic.clear" if "memset" in it[1] else "@ic.copy")
 
-    text = re.sub(r"= urem i64 ([^,\n]+), ([^,\n]+)", r"= call i64 @ic.remainder(i64 \1, i64 \2)", text)
+    remainder = "@ic.remainder.divided" if has_division else "@ic.remainder"
+    text = re.sub(r"= urem i64 ([^,\n]+), ([^,\n]+)", rf"= call i64 {remainder}(i64 \1, i64 \2)", text)
     text = re.sub(r"call void (@llvm\.mem(?:set\.p0|cpy\.p0\.p0)\.i64)\(.*?, i1 false\)", called, text)
-    functions = re.findall(r"^define .*?^}$", HELPERS.read_text(), re.M | re.S)
-    return "\n\n".join([text, *(it for it in functions if re.search(r"@[\w.]+\(", it)[0] in text)]) + "\n"
+    for function in re.findall(r"^define .*?^}$", HELPERS.read_text(), re.M | re.S):
+        if re.search(r"@[\w.]+\(", function)[0] in text:
+            text += f"\n{function}\n"
+    return text
 
 
 def needed(name, text, room):

@@ -4,7 +4,6 @@
  * does. The functions timed_* are what is timed, and what callgrind counts. */
 
 #include "ic.h"
-#include <inttypes.h>
 #include <stdio.h>
 #include <stdlib.h>
 #include <string.h>
@@ -24,7 +23,7 @@ static uint64_t below(uint64_t *state, uint64_t bound) {
 }
 
 static void *room_for(uint64_t count, size_t size) {
-    void *memory = calloc(count, size);
+    void *memory = calloc((size_t)count, size);
     if (!memory)
         exit(1);
     return memory;
@@ -43,11 +42,15 @@ static uint32_t *shuffled(uint64_t *state, uint32_t count) {
     return numbers;
 }
 
+#ifdef __unix__
 static uint64_t now(void) {
     struct timespec time;
     clock_gettime(CLOCK_MONOTONIC, &time);
     return (uint64_t)time.tv_sec * 1000000000u + (uint64_t)time.tv_nsec;
 }
+#else
+uint64_t now(void); /* of board.c, which is for a processor with no system */
+#endif
 
 /* Stops the program if a call that prepares a workload is refused. */
 static void must(uint32_t status) {
@@ -203,6 +206,29 @@ static uint64_t xor_list(const struct room *room, uint64_t *time) {
     IC_XOR_FOREACH(at, links, members, &list)
         hash = hash * 31 + room->values[at];
     return hash + checksum;
+}
+
+/* ---- The hash table: its places have the hashes of their values, in a power of two of buckets or in another number of them ---- */
+
+TIMED timed_hash_find(const struct ic_link1 *links, const struct room *room, const struct ic_stack *buckets, uint32_t count) {
+    uint64_t random = 1, sum = 0;
+    for (uint64_t operations = room->operations; operations--;) {
+        uint32_t found;
+        uint64_t key = 2 * below(&random, room->members), hash = key * UINT64_C(0x9E3779B97F4A7C15);
+        if (ic_hash_find(links, room->members, room->values, room->members, buckets, count, hash, key, &found) == IC_OK)
+            sum += room->values[found];
+    }
+    return sum;
+}
+
+static uint64_t hashed(const struct room *room, uint32_t count, uint64_t *time) {
+    struct ic_link1 *links = room_for(room->members, sizeof *links);
+    struct ic_stack *buckets = room_for(count, sizeof *buckets);
+    for (uint32_t place = 0; place < room->members; place++)
+        must(ic_hash_insert(links, room->members, buckets, count, room->values[place] * UINT64_C(0x9E3779B97F4A7C15), place));
+    uint64_t start = now(), sum = timed_hash_find(links, room, buckets, count);
+    *time = now() - start;
+    return sum;
 }
 
 /* ---- The tree, whose keys are the values ---- */
@@ -379,8 +405,10 @@ int main(int count, char **words) {
     uint64_t checksum = !strcmp(words[1], "singly") ? singly(&room, &time)
                         : !strcmp(words[1], "sort") ? sorted(&room, &time)
                         : !strcmp(words[1], "xor")  ? xor_list(&room, &time)
+                        : !strcmp(words[1], "hash") ? hashed(&room, 1024, &time)
+                        : !strcmp(words[1], "hash_prime") ? hashed(&room, 1021, &time)
                         : is_doubly                 ? doubly(words[1], &room, &time)
                                                     : tree(words[1], &room, &time);
-    printf("%" PRIu64 " %" PRIu64 "\n", time, checksum);
+    printf("%llu %llu\n", (unsigned long long)time, (unsigned long long)checksum);
     return 0;
 }

@@ -9,8 +9,8 @@
 #include "ic-aarch64-macos.s"
 #elif defined(__x86_64__) && defined(_WIN32)
 #include "ic-x86_64-windows.s"
-// Thumb instructions of 32 bits beside those of 16: Cortex-M4 and M7, M33 and M55 with DSP, and Cortex-A. Else Thumb of any Cortex-M.
-#elif defined(__thumb2__) && defined(__ARM_FEATURE_DSP) && defined(__ELF__) && !defined(__ARM_BIG_ENDIAN)
+// Cortex-M4 and M7, M33 and M55 with DSP, and Cortex-A with divisions; and any other Cortex-M
+#elif defined(__thumb2__) && defined(__ARM_FEATURE_DSP) && defined(__ARM_FEATURE_IDIV) && defined(__ELF__) && !defined(__ARM_BIG_ENDIAN)
 #include "ic-thumbv7em.s"
 #elif defined(__thumb__) && defined(__ELF__) && !defined(__ARM_BIG_ENDIAN)
 #include "ic-thumbv6m.s"
