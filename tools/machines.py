@@ -39,6 +39,20 @@ def build_for(machine, source, target):
     return run(words)[1]
 
 
+def build_in_cpp(machine, source, target):
+    """The same of a program in C++ for a board with a Cortex-M, or None where the compiler has no library for it."""
+    cross, objects = [machine.compiler[0].replace("gcc", "g++"), *machine.compiler[1:]], [target.with_suffix(".ic.o"), target.with_suffix(".board.o")]
+    flags = ["-std=c++17", "-O2", "-fno-exceptions", "-fno-rtti", *WARNINGS, "-Wno-psabi", f"-I{ROOT}/include"]
+    if not shutil.which(cross[0]) or run([*cross, *flags, "-fsyntax-only", "-x", "c++", "-include", "map", "/dev/null"])[1]:
+        return None
+    wrong = ""
+    for part, made in zip((TEXT, TESTS / "board.c"), objects):
+        wrong = wrong or run([*machine.compiler, "-c", part, "-o", made])[1]
+    more = [it for it in machine.more if it != TESTS / "board.c"]
+    # The library of C++ would ask a system for random numbers.
+    return wrong or run([*cross, *flags, source, *objects, *more, "-Wl,--defsym=getentropy=0", "-o", target])[1]
+
+
 def run_on(machine, program, *words, **more):
     """What the program prints on the machine, by these words of its command line, and what is wrong with how it ended."""
     if not machine.is_board:

@@ -505,7 +505,7 @@ void step(chains &it) {
     const std::uint32_t place = below(places);
     const bool is_linked = (it.table[place].next & 1) != 0;
     const std::uint64_t key = below(8), hash = key * 7;
-    auto &plain = it.plain[hash % 5];
+    auto &plain = it.plain[static_cast<std::size_t>(hash % 5)];
     const auto has_key = [&](std::uint32_t at) { return it.keys[at] == key; };
     const auto found = std::find_if(plain.begin(), plain.end(), has_key);
     const auto first = found == plain.end() ? std::nullopt : std::optional(*found);
@@ -556,7 +556,7 @@ void check_any() {
         if (const auto members = view.check())
             expect(*members == static_cast<std::uint64_t>(std::distance(view.begin(), view.end())), "a check counts other members than a loop");
     if constexpr (View::kind::is_bidirectional)
-        expect(std::distance(view.rbegin(), view.rend()) <= count, "a loop backwards over any words gives too many places");
+        expect(static_cast<std::uint64_t>(std::distance(view.rbegin(), view.rend())) <= count, "a loop backwards over any words gives too many places");
     if (const auto popped = view.pop_front())
         expect(*popped < count && !view.is_linked(*popped), "a pop from any words gives a place that is none");
     rounds = 0;
