@@ -249,107 +249,129 @@ static inline uint32_t ic_list_prev(const struct ic_link2 *table, ic_length plac
 #define IC_LIST_FOREACH_REVERSE_SAFE(place, prev, table, places, list) \
     IC_LOOP_SAFE(place, prev, ic_list_last(list), places, ic_list_is_linked(table, places, place), ic_list_prev(table, places, place))
 
-/* Links a place at the front.
- * IC_OUT_OF_RANGE or IC_LINKED: of `place`. IC_BROKEN: the first member is none of this table. */
+/* tools/c-calls --write writes from here: list */
+
+/* Inserts `place` at the front. O(1).
+ * IC_OUT_OF_RANGE: `place` is not below `places`. IC_LINKED: `place` is linked already. IC_BROKEN: the first member does not belong to this
+ * table. */
 IC_NODISCARD
 uint32_t ic_list_push_front(struct ic_link2 *table, ic_length places, struct ic_list *list, uint32_t place);
 
-/* Links a place at the back.
- * IC_OUT_OF_RANGE or IC_LINKED: of `place`. IC_BROKEN: the last member is none of this table. */
+/* Inserts `place` at the back. O(1).
+ * IC_OUT_OF_RANGE: `place` is not below `places`. IC_LINKED: `place` is linked already. IC_BROKEN: the last member does not belong to this
+ * table. */
 IC_NODISCARD
 uint32_t ic_list_push_back(struct ic_link2 *table, ic_length places, struct ic_list *list, uint32_t place);
 
-/* Takes the first member off, and sets *popped to it.
- * IC_NULL: the list is empty. IC_BROKEN: its first member is none of this table. */
+/* Removes the first member, and sets *popped to it. O(1).
+ * IC_NULL: the list is empty. IC_BROKEN: the first member does not belong to this table. */
 IC_NODISCARD
 uint32_t ic_list_pop_front(struct ic_link2 *table, ic_length places, struct ic_list *list, uint32_t *popped);
 
-/* Takes the last member off, and sets *popped to it.
- * IC_NULL: the list is empty. IC_BROKEN: its last member is none of this table. */
+/* Removes the last member, and sets *popped to it. O(1).
+ * IC_NULL: the list is empty. IC_BROKEN: the last member does not belong to this table. */
 IC_NODISCARD
 uint32_t ic_list_pop_back(struct ic_link2 *table, ic_length places, struct ic_list *list, uint32_t *popped);
 
-/* Links a place behind the member `at`, or at the front where `at` is IC_NONE.
- * IC_OUT_OF_RANGE: `at` or `place` is. IC_LINKED: `place` is. IC_NOT_LINKED: `at` is not. IC_BROKEN: `at` is no member. */
+/* Inserts `place` after the member `at`, or at the front if `at` is IC_NONE. O(1).
+ * IC_OUT_OF_RANGE: `at` or `place` is not below `places`. IC_LINKED: `place` is linked already. IC_NOT_LINKED: `at` is not linked.
+ * IC_BROKEN: `at` is no member of the list. */
 IC_NODISCARD
 uint32_t ic_list_insert_after(struct ic_link2 *table, ic_length places, struct ic_list *list, uint32_t at, uint32_t place);
 
-/* Links a place in front of the member `at`, or at the back where `at` is IC_NONE. Refusals as of ic_list_insert_after. */
+/* Inserts `place` before the member `at`, or at the back if `at` is IC_NONE. O(1).
+ * IC_OUT_OF_RANGE: `at` or `place` is not below `places`. IC_LINKED: `place` is linked already. IC_NOT_LINKED: `at` is not linked.
+ * IC_BROKEN: `at` is no member of the list. */
 IC_NODISCARD
 uint32_t ic_list_insert_before(struct ic_link2 *table, ic_length places, struct ic_list *list, uint32_t at, uint32_t place);
 
-/* Takes the member `at` off.
- * IC_NULL: `at` is IC_NONE. IC_OUT_OF_RANGE or IC_NOT_LINKED: of `at`. IC_BROKEN: `at` is no member. */
+/* Removes the member `at`. O(1).
+ * IC_NULL: `at` is IC_NONE. IC_OUT_OF_RANGE: `at` is not below `places`. IC_NOT_LINKED: `at` is not linked. IC_BROKEN: `at` is no member of
+ * the list. */
 IC_NODISCARD
 uint32_t ic_list_remove(struct ic_link2 *table, ic_length places, struct ic_list *list, uint32_t at);
 
-/* Links a place where the member `at` is, which is taken off.
- * IC_NULL: `at` is IC_NONE. IC_OUT_OF_RANGE: `at` or `place` is. IC_LINKED: `place` is, as where it is `at`. IC_NOT_LINKED: `at` is not.
- * IC_BROKEN: `at` is no member. */
+/* Removes the member `at`, and inserts `place` where it was. O(1).
+ * IC_NULL: `at` is IC_NONE. IC_OUT_OF_RANGE: `at` or `place` is not below `places`. IC_LINKED: `place` is linked already, as it is if `at`
+ * and `place` are the same. IC_NOT_LINKED: `at` is not linked. IC_BROKEN: `at` is no member of the list. */
 IC_NODISCARD
 uint32_t ic_list_replace(struct ic_link2 *table, ic_length places, struct ic_list *list, uint32_t at, uint32_t place);
 
-/* Moves the member `place` behind the member `at`, or to the front where `at` is IC_NONE. It stays linked. Where it is there already, and
- * where `at` is `place`, nothing changes.
- * IC_NULL: `place` is IC_NONE. IC_OUT_OF_RANGE or IC_NOT_LINKED: of `at` or `place`. IC_BROKEN: one of them is no member. */
+/* Moves the member `place` after the member `at`, or to the front if `at` is IC_NONE. O(1). The place stays linked. If it is there already,
+ * or if `at` and `place` are the same, nothing changes.
+ * IC_NULL: `place` is IC_NONE. IC_OUT_OF_RANGE: `at` or `place` is not below `places`. IC_NOT_LINKED: `at` or `place` is not linked.
+ * IC_BROKEN: `at` or `place` is no member of the list. */
 IC_NODISCARD
 uint32_t ic_list_move_after(struct ic_link2 *table, ic_length places, struct ic_list *list, uint32_t at, uint32_t place);
 
-/* Moves the member `place` in front of the member `at`, or to the back where `at` is IC_NONE. As ic_list_move_after in all else. */
+/* Moves the member `place` before the member `at`, or to the back if `at` is IC_NONE. O(1). The place stays linked. If it is there already,
+ * or if `at` and `place` are the same, nothing changes.
+ * IC_NULL: `place` is IC_NONE. IC_OUT_OF_RANGE: `at` or `place` is not below `places`. IC_NOT_LINKED: `at` or `place` is not linked.
+ * IC_BROKEN: `at` or `place` is no member of the list. */
 IC_NODISCARD
 uint32_t ic_list_move_before(struct ic_link2 *table, ic_length places, struct ic_list *list, uint32_t at, uint32_t place);
 
-/* Moves the member `place` to the front, as a cache does with what was used last. It stays linked.
- * IC_NULL: `place` is IC_NONE. IC_OUT_OF_RANGE or IC_NOT_LINKED: of `place`. IC_BROKEN: `place` is no member, or the first member is none of
- * this table. */
+/* Moves the member `place` to the front, as a cache does with the object that it used last. O(1). The place stays linked.
+ * IC_NULL: `place` is IC_NONE. IC_OUT_OF_RANGE: `place` is not below `places`. IC_NOT_LINKED: `place` is not linked. IC_BROKEN: `place` is
+ * no member of the list, or the first member does not belong to this table. */
 IC_NODISCARD
 uint32_t ic_list_move_to_front(struct ic_link2 *table, ic_length places, struct ic_list *list, uint32_t place);
 
-/* Moves the member `place` to the back. Refusals as of ic_list_move_to_front, but for the last member in place of the first. */
+/* Moves the member `place` to the back. O(1). The place stays linked.
+ * IC_NULL: `place` is IC_NONE. IC_OUT_OF_RANGE: `place` is not below `places`. IC_NOT_LINKED: `place` is not linked. IC_BROKEN: `place` is
+ * no member of the list, or the last member does not belong to this table. */
 IC_NODISCARD
 uint32_t ic_list_move_to_back(struct ic_link2 *table, ic_length places, struct ic_list *list, uint32_t place);
 
-/* Moves all members of `given` behind the member `at`, or to the front where `at` is IC_NONE, in their order. `given` is empty then.
- * IC_OUT_OF_RANGE or IC_NOT_LINKED: of `at`. IC_BROKEN: `at` is no member, or `given` is no list of this table, or begins with the same
- * member as the list, as the list itself does. */
+/* Moves all members of `given`, in their order, after the member `at`, or to the front if `at` is IC_NONE. O(1). Then `given` is empty.
+ * IC_OUT_OF_RANGE: `at` is not below `places`. IC_NOT_LINKED: `at` is not linked. IC_BROKEN: `at` is no member of the list, or `given` is
+ * no list of this table, or both lists begin with the same member, as a list and its copy do. */
 IC_NODISCARD
 uint32_t ic_list_splice_after(struct ic_link2 *table, ic_length places, struct ic_list *list, uint32_t at, struct ic_list *given);
 
-/* Moves all members of `given` in front of the member `at`, or to the back where `at` is IC_NONE. Refusals as of ic_list_splice_after. */
+/* Moves all members of `given`, in their order, before the member `at`, or to the back if `at` is IC_NONE. O(1). Then `given` is empty.
+ * IC_OUT_OF_RANGE: `at` is not below `places`. IC_NOT_LINKED: `at` is not linked. IC_BROKEN: `at` is no member of the list, or `given` is
+ * no list of this table, or both lists begin with the same member, as a list and its copy do. */
 IC_NODISCARD
 uint32_t ic_list_splice_before(struct ic_link2 *table, ic_length places, struct ic_list *list, uint32_t at, struct ic_list *given);
 
-/* Moves all members of `given` to the back, in their order. `given` is empty then.
- * IC_BROKEN: the last member is none of this table, or `given` is no list of it, or begins with the same member as the list, as the list
- * itself does. */
+/* Moves all members of `given`, in their order, to the back. O(1). Then `given` is empty.
+ * IC_BROKEN: the last member does not belong to this table, or `given` is no list of this table, or both lists begin with the same member,
+ * as a list and its copy do. */
 IC_NODISCARD
 uint32_t ic_list_append(struct ic_link2 *table, ic_length places, struct ic_list *list, struct ic_list *given);
 
-/* Links `count` places, `first` and those behind it, and puts them at the back in the order of their numbers. O(count). With `count` 0 it
- * changes nothing.
- * IC_OUT_OF_RANGE or IC_LINKED: of the first of these places that is. IC_BROKEN: the last member is none of this table. */
+/* Inserts `count` places, `first` and those after it, at the back in the order of their numbers. O(count). If `count` is 0, nothing
+ * changes.
+ * IC_OUT_OF_RANGE: the first of these places that the call refuses is not below `places`. IC_LINKED: the first of these places that the
+ * call refuses is linked already. IC_BROKEN: the last member does not belong to this table. */
 IC_NODISCARD
 uint32_t ic_list_fill(struct ic_link2 *table, ic_length places, struct ic_list *list, uint32_t first, uint32_t count);
 
-/* Takes all members off. O(n).
- * IC_BROKEN: the links do not lead from the first member to the last, each to the next and back. */
+/* Removes all members. O(n).
+ * IC_BROKEN: the links do not lead from the first member to the last, each to the next one and back. */
 IC_NODISCARD
 uint32_t ic_list_clear(struct ic_link2 *table, ic_length places, struct ic_list *list);
 
-/* Moves the members behind `at` to `rest`, or all of them where `at` is IC_NONE. Hand in an empty `rest`.
- * IC_OUT_OF_RANGE or IC_NOT_LINKED: of `at`. IC_BROKEN: `at` is no member, or `rest` has members. */
+/* Moves the members after the member `at`, or all members if `at` is IC_NONE, to `rest`, which has to be empty. O(1).
+ * IC_OUT_OF_RANGE: `at` is not below `places`. IC_NOT_LINKED: `at` is not linked. IC_BROKEN: `at` is no member of the list, or `rest` has
+ * members. */
 IC_NODISCARD
 uint32_t ic_list_split_after(struct ic_link2 *table, ic_length places, struct ic_list *list, uint32_t at, struct ic_list *rest);
 
-/* Moves the members in front of `at` to `rest`, or all of them where `at` is IC_NONE. As ic_list_split_after in all else. */
+/* Moves the members before the member `at`, or all members if `at` is IC_NONE, to `rest`, which has to be empty. O(1).
+ * IC_OUT_OF_RANGE: `at` is not below `places`. IC_NOT_LINKED: `at` is not linked. IC_BROKEN: `at` is no member of the list, or `rest` has
+ * members. */
 IC_NODISCARD
 uint32_t ic_list_split_before(struct ic_link2 *table, ic_length places, struct ic_list *list, uint32_t at, struct ic_list *rest);
 
-/* Sets *members to how many members the list has. O(n). Of a list that comes from a file or from memory that others write: if the status is
- * IC_OK, each call does what it says of a list that the table holds.
- * IC_BROKEN: the links do not lead from the first member to the last, each to the next and back. */
+/* Counts the members, and sets *members to how many there are. O(n). Call it if the words come from a file, or from memory that others
+ * write: if the status is IC_OK, each call does what it says of a list that the table holds.
+ * IC_BROKEN: the links do not lead from the first member to the last, each to the next one and back. */
 IC_NODISCARD
 uint32_t ic_list_check(const struct ic_link2 *table, ic_length places, const struct ic_list *list, uint64_t *members);
+
+/* to here */
 
 /* ---- Lists by keys ----
  *
@@ -357,18 +379,23 @@ uint32_t ic_list_check(const struct ic_link2 *table, ic_length places, const str
  * calls check the lists first, so they are never half done. A sort calls itself, at most 33 times within one another.
  */
 
-/* Puts the members in the order of their keys. Those with equal keys keep their order. O(n log n).
- * IC_OUT_OF_RANGE: there are fewer keys than places. IC_BROKEN: as of ic_list_check. */
+/* tools/c-calls --write writes from here: list-keys */
+
+/* Sorts the members by their keys. O(n log n). Members with equal keys keep their order.
+ * IC_OUT_OF_RANGE: there are fewer keys than places. IC_BROKEN: the links do not lead from the first member to the last, each to the next
+ * one and back. */
 IC_NODISCARD
 uint32_t ic_list_sort(struct ic_link2 *table, ic_length places, const uint64_t *keys, ic_length key_count, struct ic_list *list);
 
-/* Moves all members of `given` to where their keys belong, if both lists are in order. Of members with equal keys those of `list` are in
- * front. `given` is empty then. O(n).
- * IC_OUT_OF_RANGE: there are fewer keys than places. IC_BROKEN: as of ic_list_check, of either list, or both begin with the same member, as
- * a list and itself do. */
+/* Moves all members of `given` to where their keys belong, if both lists are in the order of their keys. O(n). Of members with equal keys,
+ * those of `list` come first. Then `given` is empty.
+ * IC_OUT_OF_RANGE: there are fewer keys than places. IC_BROKEN: the links of one of the lists do not lead from its first member to its
+ * last, each to the next one and back, or both lists begin with the same member, as a list and its copy do. */
 IC_NODISCARD
 uint32_t ic_list_merge(struct ic_link2 *table, ic_length places, const uint64_t *keys, ic_length key_count, struct ic_list *list,
                        struct ic_list *given);
+
+/* to here */
 
 /* ---- Rings: 16 bytes a place, all calls O(1) ---------------------------------------------------------------------------------------
  *
@@ -419,32 +446,42 @@ static inline int ic_ring_is_empty(const struct ic_link2 *table, ic_length place
     IC_LOOP_SAFE(place, prev, ic_ring_prev(table, places, head), places, place != (head) && ic_ring_is_linked(table, places, place),  \
                  ic_ring_prev(table, places, place))
 
-/* Makes a place the head of a ring with no members. Linux: INIT_LIST_HEAD.
- * IC_OUT_OF_RANGE or IC_LINKED: of `head`. */
+/* tools/c-calls --write writes from here: ring */
+
+/* Makes `head` the head of a ring with no members. O(1). Linux calls this INIT_LIST_HEAD.
+ * IC_OUT_OF_RANGE: `head` is not below `places`. IC_LINKED: `head` is linked already. */
 IC_NODISCARD
 uint32_t ic_ring_init(struct ic_link2 *table, ic_length places, uint32_t head);
 
-/* Links a place behind one that stands in a ring: behind a head it is the first member. Linux: list_add.
- * IC_NULL: `at` is IC_NONE. IC_OUT_OF_RANGE: `at` or `place` is. IC_LINKED: `place` is. IC_NOT_LINKED: `at` is not. IC_BROKEN: `at` stands in
- * no ring. */
+/* Inserts `place` after the place `at` of a ring. O(1). If `at` is a head, `place` becomes the first member. Linux calls this list_add.
+ * IC_NULL: `at` is IC_NONE. IC_OUT_OF_RANGE: `at` or `place` is not below `places`. IC_LINKED: `place` is linked already, as it is if `at`
+ * and `place` are the same. IC_NOT_LINKED: `at` is not linked. IC_BROKEN: `at` is in no ring. */
 IC_NODISCARD
 uint32_t ic_ring_insert_after(struct ic_link2 *table, ic_length places, uint32_t at, uint32_t place);
 
-/* Links a place in front of one that stands in a ring: in front of a head it is the last member. Linux: list_add_tail.
- * Refusals as of ic_ring_insert_after. */
+/* Inserts `place` before the place `at` of a ring. O(1). If `at` is a head, `place` becomes the last member. Linux calls this
+ * list_add_tail.
+ * IC_NULL: `at` is IC_NONE. IC_OUT_OF_RANGE: `at` or `place` is not below `places`. IC_LINKED: `place` is linked already, as it is if `at`
+ * and `place` are the same. IC_NOT_LINKED: `at` is not linked. IC_BROKEN: `at` is in no ring. */
 IC_NODISCARD
 uint32_t ic_ring_insert_before(struct ic_link2 *table, ic_length places, uint32_t at, uint32_t place);
 
-/* Takes a place out of its ring. A head without members leaves too, and its ring is gone then. Linux: list_del.
- * IC_NULL: `place` is IC_NONE. IC_OUT_OF_RANGE or IC_NOT_LINKED: of `place`. IC_BROKEN: it stands in no ring. */
+/* Removes `place` from its ring, whichever that is. O(1). If `place` is a head without members, its ring is gone then. Linux calls this
+ * list_del.
+ * IC_NULL: `place` is IC_NONE. IC_OUT_OF_RANGE: `place` is not below `places`. IC_NOT_LINKED: `place` is not linked. IC_BROKEN: `place` is
+ * in no ring. */
 IC_NODISCARD
 uint32_t ic_ring_remove(struct ic_link2 *table, ic_length places, uint32_t place);
 
-/* Two places that stand in rings exchange what stands behind them. So two rings become one, and one becomes two. The same call again takes
- * it back. With the last member of a ring and the head of another, all members of the second, and then its head, stand behind the first.
- * IC_NULL: one of them is IC_NONE. IC_OUT_OF_RANGE or IC_NOT_LINKED: of one of them. IC_BROKEN: one of them stands in no ring. */
+/* Exchanges the places after `one` and after `other`, which are in rings. O(1). So two rings become one, and one becomes two, and the same
+ * call again undoes it. If `one` is the last member of a ring and `other` the head of another one, all members of the second ring, and then
+ * its head, come after `one`.
+ * IC_NULL: `one` or `other` is IC_NONE. IC_OUT_OF_RANGE: `one` or `other` is not below `places`. IC_NOT_LINKED: `one` or `other` is not
+ * linked. IC_BROKEN: `one` or `other` is in no ring. */
 IC_NODISCARD
 uint32_t ic_ring_exchange(struct ic_link2 *table, ic_length places, uint32_t one, uint32_t other);
+
+/* to here */
 
 /* ---- What is made of these, which is tested and not proved ---- */
 
@@ -600,59 +637,70 @@ static inline uint32_t ic_stack_go_on(const struct ic_link1 *table, ic_length pl
          ic_stack_is_linked(table, places, place) && ic_rounds_##place--;                               \
          place = ic_stack_go_on(table, places, list, &before, place))
 
-/* Links a place at the front.
- * IC_OUT_OF_RANGE or IC_LINKED: of `place`. IC_BROKEN: the first member is none of this table. */
+/* tools/c-calls --write writes from here: stack */
+
+/* Inserts `place` at the front. O(1).
+ * IC_OUT_OF_RANGE: `place` is not below `places`. IC_LINKED: `place` is linked already. IC_BROKEN: the first member does not belong to this
+ * table. */
 IC_NODISCARD
 uint32_t ic_stack_push_front(struct ic_link1 *table, ic_length places, struct ic_stack *list, uint32_t place);
 
-/* Takes the first member off, and sets *popped to it.
- * IC_NULL: the list is empty. IC_BROKEN: its first member is none of this table. */
+/* Removes the first member, and sets *popped to it. O(1).
+ * IC_NULL: the list is empty. IC_BROKEN: the first member does not belong to this table. */
 IC_NODISCARD
 uint32_t ic_stack_pop_front(struct ic_link1 *table, ic_length places, struct ic_stack *list, uint32_t *popped);
 
-/* Links a place behind the member `at`, or at the front.
- * IC_OUT_OF_RANGE: `at` or `place` is. IC_LINKED: `place` is. IC_NOT_LINKED: `at` is not. IC_BROKEN: the member behind is none of this
- * table. */
+/* Inserts `place` after the member `at`, or at the front if `at` is IC_NONE. O(1).
+ * IC_OUT_OF_RANGE: `at` or `place` is not below `places`. IC_LINKED: `place` is linked already. IC_NOT_LINKED: `at` is not linked.
+ * IC_BROKEN: the next member does not belong to this table. */
 IC_NODISCARD
 uint32_t ic_stack_insert_after(struct ic_link1 *table, ic_length places, struct ic_stack *list, uint32_t at, uint32_t place);
 
-/* Takes the member behind `at` off, or the first, and sets *removed to it.
- * IC_NULL: there is none. IC_OUT_OF_RANGE or IC_NOT_LINKED: of `at`. IC_BROKEN: the member behind is none of this table. */
+/* Removes the member after the member `at`, or the first member if `at` is IC_NONE, and sets *removed to it. O(1).
+ * IC_NULL: there is no such member. IC_OUT_OF_RANGE: `at` is not below `places`. IC_NOT_LINKED: `at` is not linked. IC_BROKEN: the next
+ * member does not belong to this table. */
 IC_NODISCARD
 uint32_t ic_stack_remove_after(struct ic_link1 *table, ic_length places, struct ic_stack *list, uint32_t at, uint32_t *removed);
 
-/* Links a place where the member behind `at` is, or the first, takes that off, and sets *out to it.
- * IC_NULL: there is none. IC_OUT_OF_RANGE: `at` or `place` is. IC_LINKED: `place` is. IC_NOT_LINKED: `at` is not. IC_BROKEN: the member
- * behind is none of this table. */
+/* Removes the member after the member `at`, or the first member if `at` is IC_NONE, inserts `place` where it was, and sets *replaced to the
+ * removed member. O(1).
+ * IC_NULL: there is no such member. IC_OUT_OF_RANGE: `at` or `place` is not below `places`. IC_LINKED: `place` is linked already.
+ * IC_NOT_LINKED: `at` is not linked. IC_BROKEN: the next member does not belong to this table. */
 IC_NODISCARD
-uint32_t ic_stack_replace_after(struct ic_link1 *table, ic_length places, struct ic_stack *list, uint32_t at, uint32_t place, uint32_t *out);
+uint32_t ic_stack_replace_after(struct ic_link1 *table, size_t places, struct ic_stack *list, uint32_t at, uint32_t place, uint32_t *replaced);
 
-/* Moves all members of `given` behind the member `at`, or to the front, in their order. `given` is empty then. O(members of `given`).
- * IC_OUT_OF_RANGE or IC_NOT_LINKED: of `at`. IC_BROKEN: `given` is no list of this table, has no end within `places`
- * steps, or begins with the same member as the list, as the list itself does. */
+/* Moves all members of `given`, in their order, after the member `at`, or to the front if `at` is IC_NONE. O(members of `given`). Then
+ * `given` is empty.
+ * IC_OUT_OF_RANGE: `at` is not below `places`. IC_NOT_LINKED: `at` is not linked. IC_BROKEN: `given` is no list of this table, or has no
+ * end within as many steps as the table has places, or both lists begin with the same member, as a list and its copy do. */
 IC_NODISCARD
 uint32_t ic_stack_splice_after(struct ic_link1 *table, ic_length places, struct ic_stack *list, uint32_t at, struct ic_stack *given);
 
-/* Moves the members behind `at` to `rest`, or all of them where `at` is IC_NONE. Hand in an empty `rest`.
- * IC_OUT_OF_RANGE or IC_NOT_LINKED: of `at`. IC_BROKEN: the member behind is none of this table, or `rest` has members. */
+/* Moves the members after the member `at`, or all members if `at` is IC_NONE, to `rest`, which has to be empty. O(1).
+ * IC_OUT_OF_RANGE: `at` is not below `places`. IC_NOT_LINKED: `at` is not linked. IC_BROKEN: the next member does not belong to this table,
+ * or `rest` has members. */
 IC_NODISCARD
 uint32_t ic_stack_split_after(struct ic_link1 *table, ic_length places, struct ic_stack *list, uint32_t at, struct ic_stack *rest);
 
-/* Links `count` places, `first` and those behind it, and puts them at the front in the order of their numbers: `first` is the first member
- * then. O(count). With `count` 0 it changes nothing.
- * IC_OUT_OF_RANGE or IC_LINKED: of the first of these places that is. IC_BROKEN: the first member is not linked. */
+/* Inserts `count` places, `first` and those after it, at the front in the order of their numbers, so that `first` becomes the first member.
+ * O(count). If `count` is 0, nothing changes.
+ * IC_OUT_OF_RANGE: the first of these places that the call refuses is not below `places`. IC_LINKED: the first of these places that the
+ * call refuses is linked already. IC_BROKEN: the first member is not linked. */
 IC_NODISCARD
 uint32_t ic_stack_fill(struct ic_link1 *table, ic_length places, struct ic_stack *list, uint32_t first, uint32_t count);
 
-/* Takes all members off. O(n).
- * IC_BROKEN: the links lead to no end within `places` steps. */
+/* Removes all members. O(n).
+ * IC_BROKEN: the links lead to no end within as many steps as the table has places. */
 IC_NODISCARD
 uint32_t ic_stack_clear(struct ic_link1 *table, ic_length places, struct ic_stack *list);
 
-/* Sets *members to how many members the list has. O(n). As ic_list_check.
+/* Counts the members, and sets *members to how many there are. O(n). Call it if the words come from a file, or from memory that others
+ * write: if the status is IC_OK, each call does what it says of a list that the table holds.
  * IC_BROKEN: the links lead from the first member to no end within the table. */
 IC_NODISCARD
 uint32_t ic_stack_check(const struct ic_link1 *table, ic_length places, const struct ic_stack *list, uint64_t *members);
+
+/* to here */
 
 /* ---- Hash tables: 8 bytes a place and 8 a bucket ---------------------------------------------------------------------------------------
  *
@@ -686,32 +734,37 @@ static inline uint32_t ic_hash_first(const struct ic_stack *buckets, ic_length b
     IC_LOOP(place, ic_hash_first(buckets, bucket_count, hash), places, ic_stack_is_linked(table, places, place),                        \
             ic_stack_next(table, places, place))
 
-/* Links a place at the front of its chain. O(1).
- * IC_OUT_OF_RANGE: `place` is, or there is no bucket. IC_LINKED: `place` is. IC_BROKEN: the first member of the chain is none of this table. */
+/* tools/c-calls --write writes from here: hash */
+
+/* Inserts `place` at the front of the chain of `hash`. O(1).
+ * IC_OUT_OF_RANGE: there is no bucket, or `place` is not below `places`. IC_LINKED: `place` is linked already. IC_BROKEN: the first member
+ * of the chain does not belong to this table. */
 IC_NODISCARD
 uint32_t ic_hash_insert(struct ic_link1 *table, ic_length places, struct ic_stack *buckets, ic_length bucket_count, uint64_t hash,
                         uint32_t place);
 
-/* Takes a place off its chain, wherever it is in it. O(members of the chain).
- * IC_NULL: `place` is IC_NONE. IC_OUT_OF_RANGE: `place` is, or there is no bucket. IC_NOT_LINKED: `place` is not. IC_BROKEN: it is no member of
- * this chain, as with another hash, or the chain is none of this table. */
+/* Removes `place` from the chain of `hash`, wherever it is in it. O(members of the chain).
+ * IC_NULL: `place` is IC_NONE. IC_OUT_OF_RANGE: there is no bucket, or `place` is not below `places`. IC_NOT_LINKED: `place` is not linked.
+ * IC_BROKEN: `place` is no member of this chain, but perhaps of the chain of another hash, or the chain does not belong to this table. */
 IC_NODISCARD
 uint32_t ic_hash_remove(struct ic_link1 *table, ic_length places, struct ic_stack *buckets, ic_length bucket_count, uint64_t hash,
                         uint32_t place);
 
-/* Sets *found to the first member of the chain whose key is `key`: of several, the one that was inserted last. O(members of the chain).
- * IC_NULL: there is none. IC_OUT_OF_RANGE: there are fewer keys than places, or there is no bucket. IC_BROKEN: the chain is none of this
- * table. */
+/* Finds the first member of the chain of `hash` whose key is `key`, and sets *found to it. O(members of the chain). Of several such
+ * members, the first is the one that was inserted last.
+ * IC_NULL: there is no such member. IC_OUT_OF_RANGE: there are fewer keys than places, or there is no bucket. IC_BROKEN: the chain does not
+ * belong to this table. */
 IC_NODISCARD
 uint32_t ic_hash_find(const struct ic_link1 *table, ic_length places, const uint64_t *keys, ic_length key_count, const struct ic_stack *buckets,
                       ic_length bucket_count, uint64_t hash, uint64_t key, uint32_t *found);
 
-/* Sets *found to the next member behind the member `at`, in its chain, whose key is keys[at].
- * IC_NULL: there is none, or `at` is IC_NONE. IC_OUT_OF_RANGE: `at` is, or there are fewer keys than places. IC_NOT_LINKED: `at` is not.
- * IC_BROKEN: the chain is none of this table. */
+/* Finds the next member after the member `at`, in its chain, that has the same key as `at`, and sets *found to it. O(members of the chain).
+ * IC_NULL: `at` is IC_NONE, or there is no such member. IC_OUT_OF_RANGE: there are fewer keys than places, or `at` is not below `places`.
+ * IC_NOT_LINKED: `at` is not linked. IC_BROKEN: the chain does not belong to this table. */
 IC_NODISCARD
-uint32_t ic_hash_next_equal(const struct ic_link1 *table, ic_length places, const uint64_t *keys, ic_length key_count, uint32_t at,
-                            uint32_t *found);
+uint32_t ic_hash_next_equal(const struct ic_link1 *table, size_t places, const uint64_t *keys, size_t key_count, uint32_t at, uint32_t *found);
+
+/* to here */
 
 /* ---- XOR lists: 8 bytes a place, all calls O(1) but ic_xor_fill and ic_xor_clear ---------------------------------------------------
  *
@@ -788,75 +841,87 @@ static inline uint32_t ic_xor_go_on(const struct ic_link1 *table, ic_length plac
          from = ic_xor_step(table, places, ic_beyond_##place, next), place = next, next = ic_beyond_##place,         \
                   ic_beyond_##place = ic_xor_step(table, places, place, next))
 
-/* Links a place at the front.
- * IC_OUT_OF_RANGE or IC_LINKED: of `place`. IC_BROKEN: the first member is none of this table. */
+/* tools/c-calls --write writes from here: xor */
+
+/* Inserts `place` at the front. O(1).
+ * IC_OUT_OF_RANGE: `place` is not below `places`. IC_LINKED: `place` is linked already. IC_BROKEN: the first member does not belong to this
+ * table. */
 IC_NODISCARD
 uint32_t ic_xor_push_front(struct ic_link1 *table, ic_length places, struct ic_xor_list *list, uint32_t place);
 
-/* Links a place at the back.
- * IC_OUT_OF_RANGE or IC_LINKED: of `place`. IC_BROKEN: the last member is none of this table. */
+/* Inserts `place` at the back. O(1).
+ * IC_OUT_OF_RANGE: `place` is not below `places`. IC_LINKED: `place` is linked already. IC_BROKEN: the last member does not belong to this
+ * table. */
 IC_NODISCARD
 uint32_t ic_xor_push_back(struct ic_link1 *table, ic_length places, struct ic_xor_list *list, uint32_t place);
 
-/* Takes the first member off, and sets *popped to it.
- * IC_NULL: the list is empty. IC_BROKEN: its first member is none of this table. */
+/* Removes the first member, and sets *popped to it. O(1).
+ * IC_NULL: the list is empty. IC_BROKEN: the first member does not belong to this table. */
 IC_NODISCARD
 uint32_t ic_xor_pop_front(struct ic_link1 *table, ic_length places, struct ic_xor_list *list, uint32_t *popped);
 
-/* Takes the last member off, and sets *popped to it.
- * IC_NULL: the list is empty. IC_BROKEN: its last member is none of this table. */
+/* Removes the last member, and sets *popped to it. O(1).
+ * IC_NULL: the list is empty. IC_BROKEN: the last member does not belong to this table. */
 IC_NODISCARD
 uint32_t ic_xor_pop_back(struct ic_link1 *table, ic_length places, struct ic_xor_list *list, uint32_t *popped);
 
-/* Links a place in the gap between `before` and `behind`.
- * IC_OUT_OF_RANGE: one of the three is. IC_LINKED: `place` is. IC_NOT_LINKED: a neighbor is not. IC_BROKEN: there is no such gap. */
+/* Inserts `place` in the gap between the members `before` and `behind`. O(1).
+ * IC_OUT_OF_RANGE: `before`, `place`, or `behind` is not below `places`. IC_LINKED: `place` is linked already. IC_NOT_LINKED: `before` or
+ * `behind` is not linked. IC_BROKEN: there is no such gap. */
 IC_NODISCARD
 uint32_t ic_xor_insert_between(struct ic_link1 *table, ic_length places, struct ic_xor_list *list, uint32_t before, uint32_t place,
                                uint32_t behind);
 
-/* Takes the member `at` off, whose neighbor in front is `before`.
- * IC_NULL: `at` is IC_NONE. IC_OUT_OF_RANGE or IC_NOT_LINKED: of `before` or `at`. IC_BROKEN: they are no such members. */
+/* Removes the member `at`. O(1). The member before it is `before`, or IC_NONE if `at` is the first member.
+ * IC_NULL: `at` is IC_NONE. IC_OUT_OF_RANGE: `before` or `at` is not below `places`. IC_NOT_LINKED: `before` or `at` is not linked.
+ * IC_BROKEN: there are no two such members. */
 IC_NODISCARD
 uint32_t ic_xor_remove(struct ic_link1 *table, ic_length places, struct ic_xor_list *list, uint32_t before, uint32_t at);
 
-/* Links a place where the member `at` is, whose neighbor in front is `before`, and takes `at` off.
- * IC_NULL: `at` is IC_NONE. IC_OUT_OF_RANGE: one of the three is. IC_LINKED: `place` is. IC_NOT_LINKED: `before` or `at` is not.
- * IC_BROKEN: they are no such members. */
+/* Removes the member `at`, and inserts `place` where it was. O(1). The member before `at` is `before`, or IC_NONE if `at` is the first
+ * member.
+ * IC_NULL: `at` is IC_NONE. IC_OUT_OF_RANGE: `before`, `at`, or `place` is not below `places`. IC_LINKED: `place` is linked already, as it
+ * is if `at` and `place` are the same. IC_NOT_LINKED: `before` or `at` is not linked. IC_BROKEN: there are no two such members. */
 IC_NODISCARD
 uint32_t ic_xor_replace(struct ic_link1 *table, ic_length places, struct ic_xor_list *list, uint32_t before, uint32_t at, uint32_t place);
 
-/* Moves all members of `given` into the gap between `before` and `behind`, in their order. `given` is empty then.
- * IC_OUT_OF_RANGE or IC_NOT_LINKED: of a neighbor. IC_BROKEN: there is no such gap, or `given` is no list of this table, or begins with
- * the same member as the list, as the list itself does. */
+/* Moves all members of `given`, in their order, into the gap between the members `before` and `behind`. O(1). Then `given` is empty.
+ * IC_OUT_OF_RANGE: `before` or `behind` is not below `places`. IC_NOT_LINKED: `before` or `behind` is not linked. IC_BROKEN: there is no
+ * such gap, or `given` is no list of this table, or both lists begin with the same member, as a list and its copy do. */
 IC_NODISCARD
 uint32_t ic_xor_splice_between(struct ic_link1 *table, ic_length places, struct ic_xor_list *list, uint32_t before, struct ic_xor_list *given,
                                uint32_t behind);
 
-/* Moves all members of `given` to the back, in their order. `given` is empty then.
- * IC_BROKEN: an end of either list is none of this table, or `given` begins with the same member as the list, as the list itself does. */
+/* Moves all members of `given`, in their order, to the back. O(1). Then `given` is empty.
+ * IC_BROKEN: an end of one of the lists does not belong to this table, or both lists begin with the same member, as a list and its copy do. */
 IC_NODISCARD
 uint32_t ic_xor_append(struct ic_link1 *table, ic_length places, struct ic_xor_list *list, struct ic_xor_list *given);
 
-/* Links `count` places, `first` and those behind it, and puts them at the back in the order of their numbers. O(count). With `count` 0 it
- * changes nothing.
- * IC_OUT_OF_RANGE or IC_LINKED: of the first of these places that is. IC_BROKEN: the last member is none of this table. */
+/* Inserts `count` places, `first` and those after it, at the back in the order of their numbers. O(count). If `count` is 0, nothing
+ * changes.
+ * IC_OUT_OF_RANGE: the first of these places that the call refuses is not below `places`. IC_LINKED: the first of these places that the
+ * call refuses is linked already. IC_BROKEN: the last member does not belong to this table. */
 IC_NODISCARD
 uint32_t ic_xor_fill(struct ic_link1 *table, ic_length places, struct ic_xor_list *list, uint32_t first, uint32_t count);
 
-/* Takes all members off. O(n).
- * IC_BROKEN: an end of the list is none of this table, or the links do not lead from one end to the other within `places` steps. */
+/* Removes all members. O(n).
+ * IC_BROKEN: an end of the list does not belong to this table, or the links do not lead from one end to the other within as many steps as
+ * the table has places. */
 IC_NODISCARD
 uint32_t ic_xor_clear(struct ic_link1 *table, ic_length places, struct ic_xor_list *list);
 
-/* Moves the members from `behind` on to `rest`, and `before` is the last member then. All move where `before` is IC_NONE, and none where
- * `behind` is. Hand in an empty `rest`.
- * IC_OUT_OF_RANGE or IC_NOT_LINKED: of a neighbor. IC_BROKEN: there is no such gap, or `rest` has members. */
+/* Moves the members from `behind` on to `rest`, which has to be empty, so that `before` becomes the last member. O(1). All members move if
+ * `before` is IC_NONE, and none if `behind` is IC_NONE.
+ * IC_OUT_OF_RANGE: `before` or `behind` is not below `places`. IC_NOT_LINKED: `before` or `behind` is not linked. IC_BROKEN: there is no
+ * such gap, or `rest` has members. */
 IC_NODISCARD
 uint32_t ic_xor_split_between(struct ic_link1 *table, ic_length places, struct ic_xor_list *list, uint32_t before, uint32_t behind,
                               struct ic_xor_list *rest);
 
-/* Reverses the list. It reads and writes no table. IC_OK always. */
+/* Reverses the list. O(1). The call reads and writes no table, and is never refused. */
 uint32_t ic_xor_reverse(struct ic_xor_list *list);
+
+/* to here */
 
 /* ---- Red-black trees: 24 bytes a place, all calls O(log n) but ic_tree_clear and ic_tree_check ------------------------------------
  *
@@ -910,39 +975,48 @@ static inline uint32_t ic_tree_parent(const struct ic_link3 *table, ic_length pl
     return ic_tree_is_linked(table, places, at) ? ic_place_within(places, table[at].parent) : IC_NONE;
 }
 
-/* Links a place as the left child of the member `at`, which has none, and balances the tree: the place is just in front of `at`. Where
- * `at` is IC_NONE, the tree has to be empty, and the place is its root.
- * IC_OUT_OF_RANGE: `at` or `place` is. IC_LINKED: `place` is. IC_NOT_LINKED: `at` is not. IC_BROKEN: `at` has a left child, or is IC_NONE
- * and the tree has members, or the root is none of this table. */
+/* tools/c-calls --write writes from here: tree */
+
+/* Inserts `place` as the left child of the member `at`, which has none, and balances the tree. O(log n). The place comes directly before
+ * `at`. If `at` is IC_NONE, the tree has to be empty, and `place` becomes its root.
+ * IC_OUT_OF_RANGE: `at` or `place` is not below `places`. IC_LINKED: `place` is linked already. IC_NOT_LINKED: `at` is not linked.
+ * IC_BROKEN: `at` has a left child, or `at` is IC_NONE and the tree has members, or the root does not belong to this table. */
 IC_NODISCARD
 uint32_t ic_tree_insert_left(struct ic_link3 *table, ic_length places, struct ic_tree *tree, uint32_t at, uint32_t place);
 
-/* Links a place as the right child of the member `at`, which has none: the place is just behind `at`. As ic_tree_insert_left otherwise. */
+/* Inserts `place` as the right child of the member `at`, which has none, and balances the tree. O(log n). The place comes directly after
+ * `at`. If `at` is IC_NONE, the tree has to be empty, and `place` becomes its root.
+ * IC_OUT_OF_RANGE: `at` or `place` is not below `places`. IC_LINKED: `place` is linked already. IC_NOT_LINKED: `at` is not linked.
+ * IC_BROKEN: `at` has a right child, or `at` is IC_NONE and the tree has members, or the root does not belong to this table. */
 IC_NODISCARD
 uint32_t ic_tree_insert_right(struct ic_link3 *table, ic_length places, struct ic_tree *tree, uint32_t at, uint32_t place);
 
-/* Takes the member `at` off.
- * IC_NULL: `at` is IC_NONE. IC_OUT_OF_RANGE or IC_NOT_LINKED: of `at`. IC_BROKEN: the root is none of this table, or `at` is another tree's. */
+/* Removes the member `at`. O(log n).
+ * IC_NULL: `at` is IC_NONE. IC_OUT_OF_RANGE: `at` is not below `places`. IC_NOT_LINKED: `at` is not linked. IC_BROKEN: the root does not
+ * belong to this table. */
 IC_NODISCARD
 uint32_t ic_tree_remove(struct ic_link3 *table, ic_length places, struct ic_tree *tree, uint32_t at);
 
-/* Links a place where the member `at` is, which is taken off. Nothing is compared, so hand in a place that belongs there. O(1).
- * IC_NULL: `at` is IC_NONE. IC_OUT_OF_RANGE: `at` or `place` is. IC_LINKED: `place` is, as where it is `at`. IC_NOT_LINKED: `at` is not.
- * IC_BROKEN: the root is none of this table, or `at` is the root of another tree. */
+/* Removes the member `at`, and inserts `place` where it was. O(1). The call compares nothing, so hand in a place that belongs there.
+ * IC_NULL: `at` is IC_NONE. IC_OUT_OF_RANGE: `at` or `place` is not below `places`. IC_LINKED: `place` is linked already, as it is if `at`
+ * and `place` are the same. IC_NOT_LINKED: `at` is not linked. IC_BROKEN: the root does not belong to this table. */
 IC_NODISCARD
 uint32_t ic_tree_replace(struct ic_link3 *table, ic_length places, struct ic_tree *tree, uint32_t at, uint32_t place);
 
-/* Takes all members off. O(n).
- * IC_BROKEN: the root is none of this table, or the steps of ic_tree_next from the first member come to a place that is not linked, or to no
- * end within `places` steps. */
+/* Removes all members. O(n).
+ * IC_BROKEN: the root does not belong to this table, or the steps from the first member on come to a place that is not linked, or to no end
+ * within as many steps as the table has places. */
 IC_NODISCARD
 uint32_t ic_tree_clear(struct ic_link3 *table, ic_length places, struct ic_tree *tree);
 
-/* Sets *members to how many members the tree has. O(n). As ic_list_check, whatever the keys are. It calls itself, at most 67 times within
- * one another.
- * IC_BROKEN: the links are no red-black tree from the root on: a parent, a color or a child is wrong. */
+/* Counts the members, and sets *members to how many there are. O(n). Call it if the words come from a file, or from memory that others
+ * write: if the status is IC_OK, each call does what it says of a tree that the table holds. The check reads no keys. It calls itself, at
+ * most 67 times within one another.
+ * IC_BROKEN: the links form no red-black tree from the root on, because a parent, a color or a child is wrong. */
 IC_NODISCARD
 uint32_t ic_tree_check(const struct ic_link3 *table, ic_length places, const struct ic_tree *tree, uint64_t *members);
+
+/* to here */
 
 /* ---- Trees by keys ----
  *
@@ -950,44 +1024,56 @@ uint32_t ic_tree_check(const struct ic_link3 *table, ic_length places, const str
  * the place to insert. The searches are for trees whose members are in order by their keys. In others they find some member or none.
  */
 
-/* Links a place by its key: behind all members whose keys are not greater than keys[place].
- * IC_OUT_OF_RANGE: `place` is, or there are fewer keys than places. IC_LINKED: `place` is. IC_BROKEN: the root is none of this table. */
-IC_NODISCARD
-uint32_t ic_tree_insert(struct ic_link3 *table, ic_length places, const uint64_t *keys, ic_length key_count, struct ic_tree *tree,
-                        uint32_t place);
+/* tools/c-calls --write writes from here: tree-keys */
 
-/* Sets *found to the first member whose key is `key`.
- * IC_NULL: there is none. IC_OUT_OF_RANGE: there are fewer keys than places. IC_BROKEN: the root is none of this table. */
+/* Inserts `place` by its key, after all members whose keys are not greater than keys[place]. O(log n).
+ * IC_OUT_OF_RANGE: there are fewer keys than places, or `place` is not below `places`. IC_LINKED: `place` is linked already. IC_BROKEN: the
+ * root does not belong to this table. */
+IC_NODISCARD
+uint32_t ic_tree_insert(struct ic_link3 *table, size_t places, const uint64_t *keys, size_t key_count, struct ic_tree *tree, uint32_t place);
+
+/* Finds the first member whose key is `key`, and sets *found to it. O(log n).
+ * IC_NULL: there is no such member. IC_OUT_OF_RANGE: there are fewer keys than places. IC_BROKEN: the root does not belong to this table. */
 IC_NODISCARD
 uint32_t ic_tree_find(const struct ic_link3 *table, ic_length places, const uint64_t *keys, ic_length key_count, const struct ic_tree *tree,
                       uint64_t key, uint32_t *found);
 
-/* Sets *found to the first member whose key is not less than `key`. Refusals as of ic_tree_find. */
+/* Finds the first member whose key is not less than `key`, and sets *found to it. O(log n).
+ * IC_NULL: there is no such member. IC_OUT_OF_RANGE: there are fewer keys than places. IC_BROKEN: the root does not belong to this table. */
 IC_NODISCARD
-uint32_t ic_tree_lower_bound(const struct ic_link3 *table, ic_length places, const uint64_t *keys, ic_length key_count,
-                             const struct ic_tree *tree, uint64_t key, uint32_t *found);
+uint32_t ic_tree_lower_bound(const struct ic_link3 *table, size_t places, const uint64_t *keys, size_t key_count, const struct ic_tree *tree,
+                             uint64_t key, uint32_t *found);
 
-/* Sets *found to the LAST member whose key is NOT GREATER than `key`. Refusals as of ic_tree_find.
- * That is not the upper_bound of C++, which is the first member whose key is greater: the one behind this, or the first member where this
- * returns IC_NULL. Both bounds are named as in the Rust crate intrusive-collections: where members have keys from `low` to `high`, the
- * lower bound of `low` is the first of these, and the upper bound of `high` is the last. */
+/* Finds the LAST member whose key is NOT GREATER than `key`, and sets *found to it. O(log n). The upper_bound of C++ finds another one, the
+ * first member whose key is greater. Both bounds are named as in the Rust crate intrusive-collections: if there are members with keys from
+ * `low` to `high`, the lower bound of `low` is the first of them, and the upper bound of `high` is the last.
+ * IC_NULL: there is no such member. IC_OUT_OF_RANGE: there are fewer keys than places. IC_BROKEN: the root does not belong to this table. */
 IC_NODISCARD
-uint32_t ic_tree_upper_bound(const struct ic_link3 *table, ic_length places, const uint64_t *keys, ic_length key_count,
-                             const struct ic_tree *tree, uint64_t key, uint32_t *found);
+uint32_t ic_tree_upper_bound(const struct ic_link3 *table, size_t places, const uint64_t *keys, size_t key_count, const struct ic_tree *tree,
+                             uint64_t key, uint32_t *found);
+
+/* to here */
 
 /* ---- Steps through a tree ----
  *
  * A walk over all n members takes O(n) steps. The step from a member is to be made before the member is taken off.
  */
 
-/* Sets *found to the member behind the member `at`, from IC_NONE to the first one.
- * IC_NULL: `at` is the last one, or the tree is empty. IC_OUT_OF_RANGE or IC_NOT_LINKED: of `at`. IC_BROKEN: the root is none of this table. */
+/* tools/c-calls --write writes from here: tree-steps */
+
+/* Finds the member after the member `at`, or the first member if `at` is IC_NONE, and sets *found to it. O(log n).
+ * IC_NULL: `at` is the last member, or the tree is empty. IC_OUT_OF_RANGE: `at` is not below `places`. IC_NOT_LINKED: `at` is not linked.
+ * IC_BROKEN: the root does not belong to this table. */
 IC_NODISCARD
 uint32_t ic_tree_next(const struct ic_link3 *table, ic_length places, const struct ic_tree *tree, uint32_t at, uint32_t *found);
 
-/* Sets *found to the member in front of the member `at`, from IC_NONE to the last one. As ic_tree_next otherwise. */
+/* Finds the member before the member `at`, or the last member if `at` is IC_NONE, and sets *found to it. O(log n).
+ * IC_NULL: `at` is the first member, or the tree is empty. IC_OUT_OF_RANGE: `at` is not below `places`. IC_NOT_LINKED: `at` is not linked.
+ * IC_BROKEN: the root does not belong to this table. */
 IC_NODISCARD
 uint32_t ic_tree_prev(const struct ic_link3 *table, ic_length places, const struct ic_tree *tree, uint32_t at, uint32_t *found);
+
+/* to here */
 
 /* Sets *found to the first member. IC_NULL: the tree is empty. */
 IC_NODISCARD

@@ -50,12 +50,11 @@ export class Library {
   at(address) {
     return this.isWide ? BigInt(address) : address;
   }
-  /** Zeroed memory. It is given back with the whole module. */
+  /** Zeroed memory. It is given back with the whole module. If it does not fit, nothing is taken. */
   take(bytes) {
-    const at = Math.ceil(this.top / 8) * 8;
-    this.top = at + bytes;
-    const { memory } = this.calls, lacking = Math.ceil((this.top - memory.buffer.byteLength) / 65536);
-    if (lacking > 0) grow(memory, lacking, this.isWide);
+    const at = Math.ceil(this.top / 8) * 8, top = at + bytes;
+    grow(this.calls.memory, top, this.isWide);
+    this.top = top;
     return at;
   }
   links1(places) { return new Words(this, places, 1); }
@@ -80,8 +79,19 @@ export class Library {
   }
 }
 
+/** Makes the memory at least `top` bytes long. */
+function grow(memory, top, isWide) {
+  const pages = Math.ceil((top - memory.buffer.byteLength) / 65536);
+  if (pages <= 0) return;
+  try {
+    growBy(memory, pages, isWide);
+  } catch (error) {
+    throw new RangeError(`the memory has no room for ${top} bytes`, { cause: error });
+  }
+}
+
 // Engines differ in whether a page count of a wide memory is a BigInt.
-function grow(memory, pages, isWide) {
+function growBy(memory, pages, isWide) {
   try {
     memory.grow(isWide ? BigInt(pages) : pages);
   } catch (error) {
@@ -90,9 +100,32 @@ function grow(memory, pages, isWide) {
   }
 }
 
+function refuseNumber(value, name, range) {
+  throw new RangeError(`${name} is ${String(value)}, which is no integer ${range}`);
+}
+/** A number of 32 bits, which the call takes as it is. */
+function u32(value, name) {
+  if (value >>> 0 !== value) refuseNumber(value, name, "from 0 to 4294967295");
+  return value;
+}
+/** A place as the calls take it. */
+function placeNumber(place, name) {
+  return place === null ? NONE : u32(place, name);
+}
+/** A number of 64 bits as the calls take it: a BigInt. */
+function u64(value, name) {
+  const isIn = typeof value === "bigint" ? BigInt.asUintN(64, value) === value : Number.isInteger(value) && value >= 0 && value < 2 ** 64;
+  if (!isIn) refuseNumber(value, name, "from 0 to 18446744073709551615");
+  return BigInt(value);
+}
+function count(value, name) {
+  if (!Number.isSafeInteger(value) || value < 0) refuseNumber(value, name, "from 0 to 9007199254740991");
+  return value;
+}
+
 /** A table of links, keys, buckets, or the words of a list: `width` words for each of `length` places. */
 export class Words {
-  constructor(library, length, width, address = library.take(8 * width * length)) {
+  constructor(library, length, width, address = library.take(8 * width * count(length, "length"))) {
     Object.assign(this, { library, length, width, address });
   }
   /** All words. Take it anew after memory was taken. */
@@ -102,28 +135,46 @@ export class Words {
     return this.seen;
   }
   word(place, which = 0) {
+    if (!(u32(place, "place") < this.length)) refuseNumber(place, "place", `below ${this.length}`);
+    if (!(u32(which, "which") < this.width)) refuseNumber(which, "which", `below ${this.width}`);
     return this.words[this.width * place + which];
   }
-  /** The place that a word names, or null. */
-  place(place, which = 0) {
-    if (!(place < this.length)) return null;
-    const { buffer } = this.library.calls.memory, at = 2 * (this.width * place + which);
-    if (this.halves?.buffer !== buffer) this.halves = new Uint32Array(buffer, this.address, 2 * this.width * this.length);
-    return fromHalves(this.halves[at], this.halves[at + 1] & 7);
-  }
+  /** Whether a place is in a list, a ring or a tree of the table. */
   isLinked(place) {
-    return place !== null && place < this.length && (this.word(place) & 1n) === 1n;
+    const at = placeNumber(place, "place");
+    return at < this.length && at !== NONE && (this.half(2 * this.width * at) & 1) === 1;
+  }
+  /** The place that a word of the table names, or null. */
+  place(place, which) {
+    const at = 2 * (this.width * place + which);
+    return fromHalves(this.half(at), this.half(at + 1) & 15);
+  }
+  /** The place of the table that the link of `at` leads to, or null if `at` is not linked or the link leads out of the table. */
+  beside(at, which) {
+    return this.isLinked(at) ? this.within(this.place(at, which)) : null;
+  }
+  within(place) {
+    return place !== null && place < this.length ? place : null;
+  }
+  // Half a word, of which the lower half comes first.
+  half(at) {
+    const { buffer } = this.library.calls.memory;
+    if (this.halves?.buffer !== buffer) this.halves = new Uint32Array(buffer, this.address, 2 * this.width * this.length);
+    return this.halves[at];
   }
   get parts() {
     return [this.library.at(this.address), BigInt(this.length)];
   }
 }
 
-export const wordOf = (place) => BigInt((place ?? NONE) + 1 >>> 0) * 8n;
-export const placeOf = (word) => fromHalves(Number(word & 0xffffffffn), Number(word >> 32n & 7n));
-const fromHalves = (low, high) => orNull((high << 29 | low >>> 3) - 1 >>> 0);
+export const wordOf = (place) => BigInt(placeNumber(place, "place") + 1 >>> 0) * 8n;
+export function placeOf(word) {
+  const number = u64(word, "word");
+  return fromHalves(Number(number & 0xffffffffn), Number(number >> 32n & 15n));
+}
+// A number of 2^32 or more is no place's.
+const fromHalves = (low, high) => (high & 8 ? null : orNull((high << 29 | low >>> 3) - 1 >>> 0));
 const orNull = (place) => (place === NONE ? null : place);
-const number = (place) => place ?? NONE;
 
 function checkWidth(links, width) {
   if (links.width !== width) throw new TypeError(`its table has ${width} words for each place`);
@@ -135,42 +186,43 @@ function keyParts(keys, { library }) {
   return keys?.parts ?? [library.at(0), 0n];
 }
 
-class Collection {
-  constructor(links, width, linkWidth, ends = new Words(links.library, 1, width)) {
+/** What makes calls over a table of links. */
+class Calls {
+  constructor(links, linkWidth) {
     checkWidth(links, linkWidth);
-    this.links = links;
-    this.library = links.library;
-    this.ends = ends;
+    Object.assign(this, { links, library: links.library, calls: links.library.calls });
     [this.table, this.places] = links.parts;
-    this.self = this.library.at(this.ends.address);
     this.out = this.library.at(this.library.out);
   }
+  done(status) { this.library.done(status); }
+  member(status) { return this.library.member(status); }
+  counted(status) { return this.library.counted(status); }
+}
+
+class Collection extends Calls {
+  constructor(links, width, linkWidth, ends = new Words(links.library, 1, width)) {
+    super(links, linkWidth);
+    this.ends = ends;
+    this.self = this.library.at(ends.address);
+  }
   get isEmpty() {
-    return this.ends.word(0) === 0n;
-  }
-  // Calls take no notice of arguments beyond their parameters.
-  edit(call, x, y, z) {
-    this.library.done(call(this.table, this.places, this.self, number(x), number(y), number(z)));
-  }
-  taken(call) {
-    return this.library.member(call(this.table, this.places, this.self, this.out));
-  }
-  beside(call, at) {
-    return this.library.member(call(this.table, this.places, this.self, number(at), this.out));
-  }
-  counted(call) {
-    return this.library.counted(call(this.table, this.places, this.self, this.out));
+    return (this.ends.half(0) >>> 3 | this.ends.half(1) & 15) === 0;
   }
   /** Another collection of this table, whose members move to this one. */
   given(other) {
     if (other.self === this.self || other.links !== this.links) throw new TypeError("what is given is another list of the same table");
     return other.self;
   }
-  split(call, ...more) {
+  split(call) {
     const rest = new this.constructor(this.links);
-    this.edit(call, ...more, rest.self);
+    this.done(call(rest.self));
     return rest;
   }
+}
+
+/** The members from `at` on, each after `next`, at most as many as the table has places. It ends at a place that is not linked. */
+function* walk(links, at, next) {
+  for (let left = links.length; left > 0 && links.isLinked(at); left--, at = next(at)) yield at;
 }
 
 /** A doubly linked list over links2. */
@@ -178,95 +230,82 @@ export class List extends Collection {
   constructor(links) { super(links, 2, 2); }
   get first() { return this.ends.place(0, 0); }
   get last() { return this.ends.place(0, 1); }
-  next(at) { return this.links.place(at, 0); }
-  prev(at) { return this.links.place(at, 1); }
-  *[Symbol.iterator]() {
-    let at = this.first;
-    for (let left = this.links.length; at !== null && left > 0; left--, at = this.next(at)) yield at;
-  }
-  pushFront(place) { this.edit(this.library.calls.ic_list_push_front, place); }
-  pushBack(place) { this.edit(this.library.calls.ic_list_push_back, place); }
-  popFront() { return this.taken(this.library.calls.ic_list_pop_front); }
-  popBack() { return this.taken(this.library.calls.ic_list_pop_back); }
-  insertAfter(at, place) { this.edit(this.library.calls.ic_list_insert_after, at, place); }
-  insertBefore(at, place) { this.edit(this.library.calls.ic_list_insert_before, at, place); }
-  remove(at) { this.edit(this.library.calls.ic_list_remove, at); }
-  replace(at, place) { this.edit(this.library.calls.ic_list_replace, at, place); }
-  spliceAfter(at, given) { this.edit(this.library.calls.ic_list_splice_after, at, this.given(given)); }
-  spliceBefore(at, given) { this.edit(this.library.calls.ic_list_splice_before, at, this.given(given)); }
-  splitAfter(at) { return this.split(this.library.calls.ic_list_split_after, at); }
-  splitBefore(at) { return this.split(this.library.calls.ic_list_split_before, at); }
-  append(given) { this.edit(this.library.calls.ic_list_append, this.given(given)); }
-  moveAfter(at, place) { this.edit(this.library.calls.ic_list_move_after, at, place); }
-  moveBefore(at, place) { this.edit(this.library.calls.ic_list_move_before, at, place); }
-  moveToFront(place) { this.edit(this.library.calls.ic_list_move_to_front, place); }
-  moveToBack(place) { this.edit(this.library.calls.ic_list_move_to_back, place); }
-  fill(first, count) { this.edit(this.library.calls.ic_list_fill, first, count); }
-  clear() { this.edit(this.library.calls.ic_list_clear); }
-  check() { return this.counted(this.library.calls.ic_list_check); }
-  sort(keys) { this.library.done(this.library.calls.ic_list_sort(this.table, this.places, ...keyParts(keys, this.links), this.self)); }
-  merge(keys, given) {
-    const others = this.given(given);
-    this.library.done(this.library.calls.ic_list_merge(this.table, this.places, ...keyParts(keys, this.links), this.self, others));
-  }
+  next(at) { return this.links.beside(at, 0); }
+  prev(at) { return this.links.beside(at, 1); }
+  [Symbol.iterator]() { return walk(this.links, this.first, (at) => this.next(at)); }
+  // tools/c-calls --write writes from here: list list-keys
+  pushFront(place) { this.done(this.calls.ic_list_push_front(this.table, this.places, this.self, placeNumber(place, "place"))); }
+  pushBack(place) { this.done(this.calls.ic_list_push_back(this.table, this.places, this.self, placeNumber(place, "place"))); }
+  popFront() { return this.member(this.calls.ic_list_pop_front(this.table, this.places, this.self, this.out)); }
+  popBack() { return this.member(this.calls.ic_list_pop_back(this.table, this.places, this.self, this.out)); }
+  insertAfter(at, place) { this.done(this.calls.ic_list_insert_after(this.table, this.places, this.self, placeNumber(at, "at"), placeNumber(place, "place"))); }
+  insertBefore(at, place) { this.done(this.calls.ic_list_insert_before(this.table, this.places, this.self, placeNumber(at, "at"), placeNumber(place, "place"))); }
+  remove(at) { this.done(this.calls.ic_list_remove(this.table, this.places, this.self, placeNumber(at, "at"))); }
+  replace(at, place) { this.done(this.calls.ic_list_replace(this.table, this.places, this.self, placeNumber(at, "at"), placeNumber(place, "place"))); }
+  moveAfter(at, place) { this.done(this.calls.ic_list_move_after(this.table, this.places, this.self, placeNumber(at, "at"), placeNumber(place, "place"))); }
+  moveBefore(at, place) { this.done(this.calls.ic_list_move_before(this.table, this.places, this.self, placeNumber(at, "at"), placeNumber(place, "place"))); }
+  moveToFront(place) { this.done(this.calls.ic_list_move_to_front(this.table, this.places, this.self, placeNumber(place, "place"))); }
+  moveToBack(place) { this.done(this.calls.ic_list_move_to_back(this.table, this.places, this.self, placeNumber(place, "place"))); }
+  spliceAfter(at, given) { this.done(this.calls.ic_list_splice_after(this.table, this.places, this.self, placeNumber(at, "at"), this.given(given))); }
+  spliceBefore(at, given) { this.done(this.calls.ic_list_splice_before(this.table, this.places, this.self, placeNumber(at, "at"), this.given(given))); }
+  append(given) { this.done(this.calls.ic_list_append(this.table, this.places, this.self, this.given(given))); }
+  fill(first, count) { this.done(this.calls.ic_list_fill(this.table, this.places, this.self, u32(first, "first"), u32(count, "count"))); }
+  clear() { this.done(this.calls.ic_list_clear(this.table, this.places, this.self)); }
+  splitAfter(at) { return this.split((rest) => this.calls.ic_list_split_after(this.table, this.places, this.self, placeNumber(at, "at"), rest)); }
+  splitBefore(at) { return this.split((rest) => this.calls.ic_list_split_before(this.table, this.places, this.self, placeNumber(at, "at"), rest)); }
+  check() { return this.counted(this.calls.ic_list_check(this.table, this.places, this.self, this.out)); }
+  sort(keys) { this.done(this.calls.ic_list_sort(this.table, this.places, ...keyParts(keys, this.links), this.self)); }
+  merge(keys, given) { this.done(this.calls.ic_list_merge(this.table, this.places, ...keyParts(keys, this.links), this.self, this.given(given))); }
+  // to here
 }
 
 /** A ring over links2, whose head is a place of the table. What ic.h makes of several calls is made of the same calls here. */
-export class Ring {
+export class Ring extends Calls {
   constructor(links, head) {
-    checkWidth(links, 2);
-    Object.assign(this, { links, head, library: links.library });
-    [this.table, this.places] = links.parts;
-    this.edit(this.library.calls.ic_ring_init, head);
+    super(links, 2);
+    this.head = head;
+    this.done(this.calls.ic_ring_init(this.table, this.places, placeNumber(head, "head")));
   }
   get isEmpty() { return this.next(this.head) === this.head; }
-  get first() { return this.member(this.next(this.head)); }
-  get last() { return this.member(this.prev(this.head)); }
-  next(at) { return this.beside(at, 0); }
-  prev(at) { return this.beside(at, 1); }
-  *[Symbol.iterator]() {
-    let at = this.first;
-    for (let left = this.links.length; at !== null && left > 0; left--, at = this.member(this.next(at))) yield at;
-  }
+  get first() { return this.unlessHead(this.next(this.head)); }
+  get last() { return this.unlessHead(this.prev(this.head)); }
+  next(at) { return this.links.beside(at, 0); }
+  prev(at) { return this.links.beside(at, 1); }
+  [Symbol.iterator]() { return walk(this.links, this.first, (at) => this.unlessHead(this.next(at))); }
+  // tools/c-calls --write writes from here: ring
+  insertAfter(at, place) { this.done(this.calls.ic_ring_insert_after(this.table, this.places, placeNumber(at, "at"), placeNumber(place, "place"))); }
+  insertBefore(at, place) { this.done(this.calls.ic_ring_insert_before(this.table, this.places, placeNumber(at, "at"), placeNumber(place, "place"))); }
+  remove(place) { this.done(this.calls.ic_ring_remove(this.table, this.places, placeNumber(place, "place"))); }
+  exchange(one, other) { this.done(this.calls.ic_ring_exchange(this.table, this.places, placeNumber(one, "one"), placeNumber(other, "other"))); }
+  // to here
   pushFront(place) { this.insertAfter(this.head, place); }
   pushBack(place) { this.insertBefore(this.head, place); }
   popFront() { return this.pop(this.next(this.head)); }
   popBack() { return this.pop(this.prev(this.head)); }
-  insertAfter(at, place) { this.edit(this.library.calls.ic_ring_insert_after, at, place); }
-  insertBefore(at, place) { this.edit(this.library.calls.ic_ring_insert_before, at, place); }
-  remove(at) { this.edit(this.library.calls.ic_ring_remove, at); }
   replace(at, place) {
-    const { ic_ring_remove } = this.library.calls;
     this.insertBefore(at, place);
-    this.doneOr(this.status(ic_ring_remove, at), () => this.status(ic_ring_remove, place));
+    this.doneOr(this.status(this.calls.ic_ring_remove, at), () => this.status(this.calls.ic_ring_remove, place));
   }
-  moveAfter(at, place) { this.move(this.library.calls.ic_ring_insert_after, at, place); }
-  moveBefore(at, place) { this.move(this.library.calls.ic_ring_insert_before, at, place); }
+  moveAfter(at, place) { this.move(this.calls.ic_ring_insert_after, at, place); }
+  moveBefore(at, place) { this.move(this.calls.ic_ring_insert_before, at, place); }
   spliceAfter(at, given) { this.splice(at, this.given(given)); }
   spliceBefore(at, given) {
     const head = this.given(given), before = this.prev(at);
     if (before === null) this.refuse(at);
     this.splice(before, head);
   }
-  exchange(one, other) { this.edit(this.library.calls.ic_ring_exchange, one, other); }
-  status(call, x, y) { return call(this.table, this.places, number(x), number(y)); }
-  edit(call, x, y) { this.library.done(this.status(call, x, y)); }
-  // Of two edits the second has this status. If it is refused, `back` takes the first one back.
+  status(call, at, place) { return call(this.table, this.places, placeNumber(at, "at"), place); }
+  // Of two edits the second has this status. If it is refused, `back` undoes the first one.
   doneOr(status, back) {
     if (status !== OK) throw new Refused(back() === OK ? status : BROKEN);
   }
-  // What stands beside a place of a ring.
-  beside(at, which) {
-    const place = this.links.isLinked(at) ? this.links.place(at, which) : null;
-    return place < this.links.length ? place : null;
-  }
-  member(place) { return place === this.head ? null : place; }
+  unlessHead(place) { return place === this.head ? null : place; }
   /** The head of another ring of this table. */
   given(other) {
     if (other === this || other.links !== this.links) throw new TypeError("what is given is another ring of the same table");
     return other.head;
   }
-  // Says why nothing stands beside a place.
+  // Says why there is nothing beside a place.
   refuse(at) {
     if (this.links.isLinked(at)) throw new Refused(BROKEN);
     this.remove(at);
@@ -278,68 +317,67 @@ export class Ring {
     return first;
   }
   move(insert, at, place) {
-    const { ic_ring_init, ic_ring_insert_after } = this.library.calls, prev = this.prev(place);
-    if (at === place) throw new Refused(LINKED);
+    const to = placeNumber(at, "at"), from = placeNumber(place, "place"), prev = this.prev(place);
+    if (to === from) throw new Refused(LINKED);
     this.remove(place);
-    this.doneOr(this.status(insert, at, place), () =>
-      prev === place ? this.status(ic_ring_init, place) : this.status(ic_ring_insert_after, prev, place),
+    this.doneOr(this.status(insert, at, from), () =>
+      prev === place ? this.status(this.calls.ic_ring_init, place) : this.status(this.calls.ic_ring_insert_after, prev, from),
     );
   }
   splice(at, head) {
-    const { ic_ring_exchange } = this.library.calls, last = this.prev(head);
+    const last = this.prev(head);
     if (last === null) this.refuse(head);
     this.exchange(last, at);
-    this.doneOr(this.status(ic_ring_exchange, at, head), () => this.status(ic_ring_exchange, last, at));
+    this.doneOr(this.status(this.calls.ic_ring_exchange, at, head), () => this.status(this.calls.ic_ring_exchange, last, placeNumber(at, "at")));
   }
 }
 
 /** A singly linked list over links1. */
 export class Stack extends Collection {
   constructor(links, ends) { super(links, 1, 1, ends); }
-  get first() { return this.ends.place(0); }
-  next(at) { return this.links.place(at); }
-  *[Symbol.iterator]() {
-    let at = this.first;
-    for (let left = this.links.length; at !== null && left > 0; left--, at = this.next(at)) yield at;
-  }
-  pushFront(place) { this.edit(this.library.calls.ic_stack_push_front, place); }
-  popFront() { return this.taken(this.library.calls.ic_stack_pop_front); }
-  insertAfter(at, place) { this.edit(this.library.calls.ic_stack_insert_after, at, place); }
-  removeAfter(at) { return this.beside(this.library.calls.ic_stack_remove_after, at); }
-  replaceAfter(at, place) {
-    return this.library.member(this.library.calls.ic_stack_replace_after(this.table, this.places, this.self, number(at), number(place), this.out));
-  }
-  spliceAfter(at, given) { this.edit(this.library.calls.ic_stack_splice_after, at, this.given(given)); }
-  splitAfter(at) { return this.split(this.library.calls.ic_stack_split_after, at); }
-  fill(first, count) { this.edit(this.library.calls.ic_stack_fill, first, count); }
-  clear() { this.edit(this.library.calls.ic_stack_clear); }
-  check() { return this.counted(this.library.calls.ic_stack_check); }
+  get first() { return this.ends.place(0, 0); }
+  next(at) { return this.links.beside(at, 0); }
+  [Symbol.iterator]() { return walk(this.links, this.first, (at) => this.next(at)); }
+  // tools/c-calls --write writes from here: stack
+  pushFront(place) { this.done(this.calls.ic_stack_push_front(this.table, this.places, this.self, placeNumber(place, "place"))); }
+  popFront() { return this.member(this.calls.ic_stack_pop_front(this.table, this.places, this.self, this.out)); }
+  insertAfter(at, place) { this.done(this.calls.ic_stack_insert_after(this.table, this.places, this.self, placeNumber(at, "at"), placeNumber(place, "place"))); }
+  removeAfter(at) { return this.member(this.calls.ic_stack_remove_after(this.table, this.places, this.self, placeNumber(at, "at"), this.out)); }
+  replaceAfter(at, place) { return this.member(this.calls.ic_stack_replace_after(this.table, this.places, this.self, placeNumber(at, "at"), placeNumber(place, "place"), this.out)); }
+  spliceAfter(at, given) { this.done(this.calls.ic_stack_splice_after(this.table, this.places, this.self, placeNumber(at, "at"), this.given(given))); }
+  splitAfter(at) { return this.split((rest) => this.calls.ic_stack_split_after(this.table, this.places, this.self, placeNumber(at, "at"), rest)); }
+  fill(first, count) { this.done(this.calls.ic_stack_fill(this.table, this.places, this.self, u32(first, "first"), u32(count, "count"))); }
+  clear() { this.done(this.calls.ic_stack_clear(this.table, this.places, this.self)); }
+  check() { return this.counted(this.calls.ic_stack_check(this.table, this.places, this.self, this.out)); }
+  // to here
 }
 
 /** A hash table over links1. Each call for one object takes the same hash. */
-export class HashTable {
+export class HashTable extends Calls {
   constructor(links, buckets, keys = null) {
-    checkWidth(links, 1);
-    Object.assign(this, { links, keys, library: links.library, buckets: new Words(links.library, buckets, 1) });
-    [this.table, this.keyed] = [links.parts, keyParts(keys, links)];
-    this.out = this.library.at(this.library.out);
+    super(links, 1);
+    Object.assign(this, { keys, buckets: new Words(links.library, count(buckets, "buckets"), 1) });
+    [this.keysAt, this.keyCount] = keyParts(keys, links);
+    [this.bucketsAt, this.bucketCount] = this.buckets.parts;
   }
   *[Symbol.iterator]() {
-    for (let bucket = 0; bucket < this.buckets.length; bucket++) yield* this.chain(bucket);
+    let left = this.links.length;
+    for (let bucket = 0; bucket < this.buckets.length; bucket++) {
+      for (const place of this.bucket(bucket)) {
+        if (left-- === 0) return;
+        yield place;
+      }
+    }
   }
   /** The chain of a hash. A list that was made before of the same chain has the same members. */
-  chain(hash) {
-    const bucket = Number(BigInt.asUintN(64, BigInt(hash)) % BigInt(this.buckets.length));
-    return new Stack(this.links, new Words(this.library, 1, 1, this.buckets.address + 8 * bucket));
-  }
-  insert(hash, place) { this.edit(this.library.calls.ic_hash_insert, hash, place); }
-  remove(hash, place) { this.edit(this.library.calls.ic_hash_remove, hash, place); }
-  find(hash, key) {
-    const { ic_hash_find } = this.library.calls;
-    return this.library.member(ic_hash_find(...this.table, ...this.keyed, ...this.buckets.parts, BigInt(hash), BigInt(key), this.out));
-  }
-  nextEqual(at) { return this.library.member(this.library.calls.ic_hash_next_equal(...this.table, ...this.keyed, number(at), this.out)); }
-  edit(call, hash, place) { this.library.done(call(...this.table, ...this.buckets.parts, BigInt(hash), number(place))); }
+  chain(hash) { return this.bucket(Number(u64(hash, "hash") % this.bucketCount)); }
+  bucket(at) { return new Stack(this.links, new Words(this.library, 1, 1, this.buckets.address + 8 * at)); }
+  // tools/c-calls --write writes from here: hash
+  insert(hash, place) { this.done(this.calls.ic_hash_insert(this.table, this.places, this.bucketsAt, this.bucketCount, u64(hash, "hash"), placeNumber(place, "place"))); }
+  remove(hash, place) { this.done(this.calls.ic_hash_remove(this.table, this.places, this.bucketsAt, this.bucketCount, u64(hash, "hash"), placeNumber(place, "place"))); }
+  find(hash, key) { return this.member(this.calls.ic_hash_find(this.table, this.places, this.keysAt, this.keyCount, this.bucketsAt, this.bucketCount, u64(hash, "hash"), u64(key, "key"), this.out)); }
+  nextEqual(at) { return this.member(this.calls.ic_hash_next_equal(this.table, this.places, this.keysAt, this.keyCount, placeNumber(at, "at"), this.out)); }
+  // to here
 }
 
 /** An XOR list over links1. A gap is named by both members beside it. */
@@ -347,27 +385,33 @@ export class XorList extends Collection {
   constructor(links) { super(links, 2, 1); }
   get first() { return this.ends.place(0, 0); }
   get last() { return this.ends.place(0, 1); }
-  step(from, at) { return at < this.links.length ? placeOf(this.links.word(at) ^ wordOf(from)) : null; }
-  *[Symbol.iterator]() {
-    let from = null, at = this.first;
-    for (let left = this.links.length; at !== null && left > 0; left--) {
-      yield at;
-      [from, at] = [at, this.step(from, at)];
-    }
+  step(from, at) {
+    const word = wordOf(from);
+    return this.links.isLinked(at) ? this.links.within(placeOf(this.links.word(at) ^ word)) : null;
   }
-  pushFront(place) { this.edit(this.library.calls.ic_xor_push_front, place); }
-  pushBack(place) { this.edit(this.library.calls.ic_xor_push_back, place); }
-  popFront() { return this.taken(this.library.calls.ic_xor_pop_front); }
-  popBack() { return this.taken(this.library.calls.ic_xor_pop_back); }
-  insertBetween(before, place, behind) { this.edit(this.library.calls.ic_xor_insert_between, before, place, behind); }
-  remove(before, at) { this.edit(this.library.calls.ic_xor_remove, before, at); }
-  replace(before, at, place) { this.edit(this.library.calls.ic_xor_replace, before, at, place); }
-  spliceBetween(before, given, behind) { this.edit(this.library.calls.ic_xor_splice_between, before, this.given(given), behind); }
-  splitBetween(before, behind) { return this.split(this.library.calls.ic_xor_split_between, before, behind); }
-  append(given) { this.edit(this.library.calls.ic_xor_append, this.given(given)); }
-  fill(first, count) { this.edit(this.library.calls.ic_xor_fill, first, count); }
-  clear() { this.edit(this.library.calls.ic_xor_clear); }
-  reverse() { this.library.done(this.library.calls.ic_xor_reverse(this.self)); }
+  [Symbol.iterator]() {
+    let from = null;
+    return walk(this.links, this.first, (at) => {
+      const next = this.step(from, at);
+      from = at;
+      return next;
+    });
+  }
+  // tools/c-calls --write writes from here: xor
+  pushFront(place) { this.done(this.calls.ic_xor_push_front(this.table, this.places, this.self, placeNumber(place, "place"))); }
+  pushBack(place) { this.done(this.calls.ic_xor_push_back(this.table, this.places, this.self, placeNumber(place, "place"))); }
+  popFront() { return this.member(this.calls.ic_xor_pop_front(this.table, this.places, this.self, this.out)); }
+  popBack() { return this.member(this.calls.ic_xor_pop_back(this.table, this.places, this.self, this.out)); }
+  insertBetween(before, place, behind) { this.done(this.calls.ic_xor_insert_between(this.table, this.places, this.self, placeNumber(before, "before"), placeNumber(place, "place"), placeNumber(behind, "behind"))); }
+  remove(before, at) { this.done(this.calls.ic_xor_remove(this.table, this.places, this.self, placeNumber(before, "before"), placeNumber(at, "at"))); }
+  replace(before, at, place) { this.done(this.calls.ic_xor_replace(this.table, this.places, this.self, placeNumber(before, "before"), placeNumber(at, "at"), placeNumber(place, "place"))); }
+  spliceBetween(before, given, behind) { this.done(this.calls.ic_xor_splice_between(this.table, this.places, this.self, placeNumber(before, "before"), this.given(given), placeNumber(behind, "behind"))); }
+  append(given) { this.done(this.calls.ic_xor_append(this.table, this.places, this.self, this.given(given))); }
+  fill(first, count) { this.done(this.calls.ic_xor_fill(this.table, this.places, this.self, u32(first, "first"), u32(count, "count"))); }
+  clear() { this.done(this.calls.ic_xor_clear(this.table, this.places, this.self)); }
+  splitBetween(before, behind) { return this.split((rest) => this.calls.ic_xor_split_between(this.table, this.places, this.self, placeNumber(before, "before"), placeNumber(behind, "behind"), rest)); }
+  reverse() { this.done(this.calls.ic_xor_reverse(this.self)); }
+  // to here
 }
 
 /** A red-black tree over links3, by keys if it is handed any. */
@@ -377,28 +421,29 @@ export class Tree extends Collection {
     this.keys = keys;
     [this.keysAt, this.keyCount] = keyParts(keys, links);
   }
-  get root() { return this.ends.place(0); }
-  left(at) { return this.links.place(at, 0); }
-  right(at) { return this.links.place(at, 1); }
-  parent(at) { return this.links.place(at, 2); }
-  isBlack(at) { return at < this.links.length && (this.links.word(at, 2) & 1n) === 1n; }
-  search(call, key) {
-    return this.library.member(call(this.table, this.places, this.keysAt, this.keyCount, this.self, BigInt(key), this.out));
+  get root() { return this.ends.place(0, 0); }
+  left(at) { return this.links.beside(at, 0); }
+  right(at) { return this.links.beside(at, 1); }
+  parent(at) { return this.links.beside(at, 2); }
+  isBlack(at) { return this.links.isLinked(at) && (this.links.word(at, 2) & 1n) === 1n; }
+  // tools/c-calls --write writes from here: tree tree-keys tree-steps
+  insertLeft(at, place) { this.done(this.calls.ic_tree_insert_left(this.table, this.places, this.self, placeNumber(at, "at"), placeNumber(place, "place"))); }
+  insertRight(at, place) { this.done(this.calls.ic_tree_insert_right(this.table, this.places, this.self, placeNumber(at, "at"), placeNumber(place, "place"))); }
+  remove(at) { this.done(this.calls.ic_tree_remove(this.table, this.places, this.self, placeNumber(at, "at"))); }
+  replace(at, place) { this.done(this.calls.ic_tree_replace(this.table, this.places, this.self, placeNumber(at, "at"), placeNumber(place, "place"))); }
+  clear() { this.done(this.calls.ic_tree_clear(this.table, this.places, this.self)); }
+  check() { return this.counted(this.calls.ic_tree_check(this.table, this.places, this.self, this.out)); }
+  insert(place) { this.done(this.calls.ic_tree_insert(this.table, this.places, this.keysAt, this.keyCount, this.self, placeNumber(place, "place"))); }
+  find(key) { return this.member(this.calls.ic_tree_find(this.table, this.places, this.keysAt, this.keyCount, this.self, u64(key, "key"), this.out)); }
+  lowerBound(key) { return this.member(this.calls.ic_tree_lower_bound(this.table, this.places, this.keysAt, this.keyCount, this.self, u64(key, "key"), this.out)); }
+  upperBound(key) { return this.member(this.calls.ic_tree_upper_bound(this.table, this.places, this.keysAt, this.keyCount, this.self, u64(key, "key"), this.out)); }
+  next(at) { return this.member(this.calls.ic_tree_next(this.table, this.places, this.self, placeNumber(at, "at"), this.out)); }
+  prev(at) { return this.member(this.calls.ic_tree_prev(this.table, this.places, this.self, placeNumber(at, "at"), this.out)); }
+  // to here
+  // The member after one, or null if the call is refused.
+  after(at) {
+    const status = this.calls.ic_tree_next(this.table, this.places, this.self, placeNumber(at, "at"), this.out);
+    return status === OK ? this.member(status) : null;
   }
-  insertLeft(at, place) { this.edit(this.library.calls.ic_tree_insert_left, at, place); }
-  insertRight(at, place) { this.edit(this.library.calls.ic_tree_insert_right, at, place); }
-  insert(place) { this.library.done(this.library.calls.ic_tree_insert(this.table, this.places, this.keysAt, this.keyCount, this.self, number(place))); }
-  remove(at) { this.edit(this.library.calls.ic_tree_remove, at); }
-  replace(at, place) { this.edit(this.library.calls.ic_tree_replace, at, place); }
-  clear() { this.edit(this.library.calls.ic_tree_clear); }
-  check() { return this.counted(this.library.calls.ic_tree_check); }
-  find(key) { return this.search(this.library.calls.ic_tree_find, key); }
-  lowerBound(key) { return this.search(this.library.calls.ic_tree_lower_bound, key); }
-  upperBound(key) { return this.search(this.library.calls.ic_tree_upper_bound, key); }
-  next(at) { return this.beside(this.library.calls.ic_tree_next, at); }
-  prev(at) { return this.beside(this.library.calls.ic_tree_prev, at); }
-  *[Symbol.iterator]() {
-    let at = this.next(null);
-    for (let left = this.links.length; at !== null && left > 0; left--, at = this.next(at)) yield at;
-  }
+  [Symbol.iterator]() { return walk(this.links, this.after(null), (at) => this.after(at)); }
 }

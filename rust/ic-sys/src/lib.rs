@@ -31,14 +31,14 @@ pub const IC_BROKEN: u32 = 5;
 
 /// A link of a singly linked list or an XOR list.
 #[repr(C)]
-#[derive(Clone, Copy, Debug, Default, PartialEq, Eq)]
+#[derive(Clone, Copy, Debug, Default, PartialEq, Eq, Hash)]
 pub struct ic_link1 {
     pub next: u64,
 }
 
 /// A link of a doubly linked list.
 #[repr(C)]
-#[derive(Clone, Copy, Debug, Default, PartialEq, Eq)]
+#[derive(Clone, Copy, Debug, Default, PartialEq, Eq, Hash)]
 pub struct ic_link2 {
     pub next: u64,
     pub prev: u64,
@@ -46,7 +46,7 @@ pub struct ic_link2 {
 
 /// A link of a tree: both children, and the parent.
 #[repr(C)]
-#[derive(Clone, Copy, Debug, Default, PartialEq, Eq)]
+#[derive(Clone, Copy, Debug, Default, PartialEq, Eq, Hash)]
 pub struct ic_link3 {
     pub left: u64,
     pub right: u64,
@@ -55,14 +55,14 @@ pub struct ic_link3 {
 
 /// A singly linked list.
 #[repr(C)]
-#[derive(Clone, Copy, Debug, Default, PartialEq, Eq)]
+#[derive(Clone, Copy, Debug, Default, PartialEq, Eq, Hash)]
 pub struct ic_stack {
     pub head: u64,
 }
 
 /// A doubly linked list.
 #[repr(C)]
-#[derive(Clone, Copy, Debug, Default, PartialEq, Eq)]
+#[derive(Clone, Copy, Debug, Default, PartialEq, Eq, Hash)]
 pub struct ic_list {
     pub head: u64,
     pub tail: u64,
@@ -70,7 +70,7 @@ pub struct ic_list {
 
 /// An XOR list.
 #[repr(C)]
-#[derive(Clone, Copy, Debug, Default, PartialEq, Eq)]
+#[derive(Clone, Copy, Debug, Default, PartialEq, Eq, Hash)]
 pub struct ic_xor_list {
     pub head: u64,
     pub tail: u64,
@@ -78,7 +78,7 @@ pub struct ic_xor_list {
 
 /// A red-black tree.
 #[repr(C)]
-#[derive(Clone, Copy, Debug, Default, PartialEq, Eq)]
+#[derive(Clone, Copy, Debug, Default, PartialEq, Eq, Hash)]
 pub struct ic_tree {
     pub root: u64,
 }
@@ -105,6 +105,7 @@ pub const fn ic_place(word: u64) -> u32 {
 }
 
 extern "C" {
+    // tools/c-calls --write writes from here: list list-keys ring stack hash xor tree tree-keys tree-steps
     pub fn ic_list_push_front(table: *mut ic_link2, places: usize, list: *mut ic_list, place: u32) -> u32;
     pub fn ic_list_push_back(table: *mut ic_link2, places: usize, list: *mut ic_list, place: u32) -> u32;
     pub fn ic_list_pop_front(table: *mut ic_link2, places: usize, list: *mut ic_list, popped: *mut u32) -> u32;
@@ -134,6 +135,20 @@ extern "C" {
     pub fn ic_list_append(table: *mut ic_link2, places: usize, list: *mut ic_list, given: *mut ic_list) -> u32;
     pub fn ic_list_fill(table: *mut ic_link2, places: usize, list: *mut ic_list, first: u32, count: u32) -> u32;
     pub fn ic_list_clear(table: *mut ic_link2, places: usize, list: *mut ic_list) -> u32;
+    pub fn ic_list_split_after(
+        table: *mut ic_link2,
+        places: usize,
+        list: *mut ic_list,
+        at: u32,
+        rest: *mut ic_list,
+    ) -> u32;
+    pub fn ic_list_split_before(
+        table: *mut ic_link2,
+        places: usize,
+        list: *mut ic_list,
+        at: u32,
+        rest: *mut ic_list,
+    ) -> u32;
     pub fn ic_list_check(table: *const ic_link2, places: usize, list: *const ic_list, members: *mut u64) -> u32;
     pub fn ic_list_sort(
         table: *mut ic_link2,
@@ -149,20 +164,6 @@ extern "C" {
         key_count: usize,
         list: *mut ic_list,
         given: *mut ic_list,
-    ) -> u32;
-    pub fn ic_list_split_after(
-        table: *mut ic_link2,
-        places: usize,
-        list: *mut ic_list,
-        at: u32,
-        rest: *mut ic_list,
-    ) -> u32;
-    pub fn ic_list_split_before(
-        table: *mut ic_link2,
-        places: usize,
-        list: *mut ic_list,
-        at: u32,
-        rest: *mut ic_list,
     ) -> u32;
     pub fn ic_ring_init(table: *mut ic_link2, places: usize, head: u32) -> u32;
     pub fn ic_ring_insert_after(table: *mut ic_link2, places: usize, at: u32, place: u32) -> u32;
@@ -185,7 +186,7 @@ extern "C" {
         list: *mut ic_stack,
         at: u32,
         place: u32,
-        out: *mut u32,
+        replaced: *mut u32,
     ) -> u32;
     pub fn ic_stack_splice_after(
         table: *mut ic_link1,
@@ -194,9 +195,6 @@ extern "C" {
         at: u32,
         given: *mut ic_stack,
     ) -> u32;
-    pub fn ic_stack_fill(table: *mut ic_link1, places: usize, list: *mut ic_stack, first: u32, count: u32) -> u32;
-    pub fn ic_stack_clear(table: *mut ic_link1, places: usize, list: *mut ic_stack) -> u32;
-    pub fn ic_stack_check(table: *const ic_link1, places: usize, list: *const ic_stack, members: *mut u64) -> u32;
     pub fn ic_stack_split_after(
         table: *mut ic_link1,
         places: usize,
@@ -204,6 +202,9 @@ extern "C" {
         at: u32,
         rest: *mut ic_stack,
     ) -> u32;
+    pub fn ic_stack_fill(table: *mut ic_link1, places: usize, list: *mut ic_stack, first: u32, count: u32) -> u32;
+    pub fn ic_stack_clear(table: *mut ic_link1, places: usize, list: *mut ic_stack) -> u32;
+    pub fn ic_stack_check(table: *const ic_link1, places: usize, list: *const ic_stack, members: *mut u64) -> u32;
     pub fn ic_hash_insert(
         table: *mut ic_link1,
         places: usize,
@@ -239,7 +240,6 @@ extern "C" {
         at: u32,
         found: *mut u32,
     ) -> u32;
-
     pub fn ic_xor_push_front(table: *mut ic_link1, places: usize, list: *mut ic_xor_list, place: u32) -> u32;
     pub fn ic_xor_push_back(table: *mut ic_link1, places: usize, list: *mut ic_xor_list, place: u32) -> u32;
     pub fn ic_xor_pop_front(table: *mut ic_link1, places: usize, list: *mut ic_xor_list, popped: *mut u32) -> u32;
@@ -261,9 +261,6 @@ extern "C" {
         at: u32,
         place: u32,
     ) -> u32;
-    pub fn ic_xor_append(table: *mut ic_link1, places: usize, list: *mut ic_xor_list, given: *mut ic_xor_list) -> u32;
-    pub fn ic_xor_fill(table: *mut ic_link1, places: usize, list: *mut ic_xor_list, first: u32, count: u32) -> u32;
-    pub fn ic_xor_clear(table: *mut ic_link1, places: usize, list: *mut ic_xor_list) -> u32;
     pub fn ic_xor_splice_between(
         table: *mut ic_link1,
         places: usize,
@@ -272,6 +269,9 @@ extern "C" {
         given: *mut ic_xor_list,
         behind: u32,
     ) -> u32;
+    pub fn ic_xor_append(table: *mut ic_link1, places: usize, list: *mut ic_xor_list, given: *mut ic_xor_list) -> u32;
+    pub fn ic_xor_fill(table: *mut ic_link1, places: usize, list: *mut ic_xor_list, first: u32, count: u32) -> u32;
+    pub fn ic_xor_clear(table: *mut ic_link1, places: usize, list: *mut ic_xor_list) -> u32;
     pub fn ic_xor_split_between(
         table: *mut ic_link1,
         places: usize,
@@ -324,4 +324,5 @@ extern "C" {
     ) -> u32;
     pub fn ic_tree_next(table: *const ic_link3, places: usize, tree: *const ic_tree, at: u32, found: *mut u32) -> u32;
     pub fn ic_tree_prev(table: *const ic_link3, places: usize, tree: *const ic_tree, at: u32, found: *mut u32) -> u32;
+    // to here
 }

@@ -48,51 +48,61 @@ pub fn chain(buckets: &[Stack], hash: u64) -> Option<&Stack> {
     buckets.get(at as usize)
 }
 
-/// Links a place at the front of its chain. O(1).
+// tools/c-calls --write writes from here: hash
+/// Inserts `place` at the front of the chain of `hash`. O(1).
 ///
 /// # Errors
 ///
-/// [`Error::OutOfRange`] of `place`, or if there is no bucket. [`Error::Linked`] of `place`. [`Error::Broken`] if the first member of the chain
-/// is none of this table.
+/// [`Error::OutOfRange`] if there is no bucket, or `place` is not below the table's length. [`Error::Linked`] if `place` is linked already.
+/// [`Error::Broken`] if the first member of the chain does not belong to this table.
 #[inline]
 pub fn insert(table: &mut [Link1], buckets: &mut [Stack], hash: u64, place: u32) -> Result<(), Error> {
     let (links, places) = Link1::parts(table);
+    // SAFETY: each pointer comes from a reference, with the length of its slice, and no mutable reference overlaps another one.
     done(unsafe { ic_hash_insert(links, places, buckets.as_mut_ptr().cast(), buckets.len(), hash, place) })
 }
 
-/// Unlinks a place, wherever it is in its chain. O(members of the chain).
+/// Removes `place` from the chain of `hash`, wherever it is in it. O(members of the chain).
 ///
 /// # Errors
 ///
-/// [`Error::Null`] if `place` is `u32::MAX`. [`Error::OutOfRange`] or [`Error::NotLinked`] of `place`, the first also if there is no bucket.
-/// [`Error::Broken`] if it is no member of this chain, or the chain is none of this table.
+/// [`Error::Null`] if `place` is `u32::MAX`. [`Error::OutOfRange`] if there is no bucket, or `place` is not below the table's length.
+/// [`Error::NotLinked`] if `place` is not linked. [`Error::Broken`] if `place` is no member of this chain, but perhaps of the chain of
+/// another hash, or the chain does not belong to this table.
 #[inline]
 pub fn remove(table: &mut [Link1], buckets: &mut [Stack], hash: u64, place: u32) -> Result<(), Error> {
     let (links, places) = Link1::parts(table);
+    // SAFETY: each pointer comes from a reference, with the length of its slice, and no mutable reference overlaps another one.
     done(unsafe { ic_hash_remove(links, places, buckets.as_mut_ptr().cast(), buckets.len(), hash, place) })
 }
 
-/// The first member of the chain with this key, of which there is one for each place. O(members of the chain).
+/// Finds the first member of the chain of `hash` whose key is `key`, and returns it. O(members of the chain). Of several such members, the
+/// first is the one that was inserted last. It returns `None` if there is no such member.
 ///
 /// # Errors
 ///
-/// [`Error::OutOfRange`] if there are fewer keys than places, or no bucket. [`Error::Broken`] if the chain is none of this table.
+/// [`Error::OutOfRange`] if there are fewer keys than places, or there is no bucket. [`Error::Broken`] if the chain does not belong to this
+/// table.
 #[inline]
 pub fn find(table: &[Link1], keys: &[u64], buckets: &[Stack], hash: u64, key: u64) -> Result<Option<u32>, Error> {
-    let ((links, places), heads) = (Link1::read_parts(table), buckets.as_ptr().cast());
+    let (links, places) = Link1::read_parts(table);
+    // SAFETY: each pointer comes from a reference, with the length of its slice, and no mutable reference overlaps another one.
     handed_out(|it| unsafe {
-        ic_hash_find(links, places, keys.as_ptr(), keys.len(), heads, buckets.len(), hash, key, it)
+        ic_hash_find(links, places, keys.as_ptr(), keys.len(), buckets.as_ptr().cast(), buckets.len(), hash, key, it)
     })
 }
 
-/// The next member behind the member `at`, in its chain, with the key of that one. O(members of the chain).
+/// Finds the next member after the member `at`, in its chain, that has the same key as `at`, and returns it. O(members of the chain). It
+/// returns `None` if `at` is `u32::MAX`, or there is no such member.
 ///
 /// # Errors
 ///
-/// [`Error::OutOfRange`] or [`Error::NotLinked`] of `at`, the first also if there are fewer keys than places. [`Error::Broken`] if the chain is
-/// none of this table.
+/// [`Error::OutOfRange`] if there are fewer keys than places, or `at` is not below the table's length. [`Error::NotLinked`] if `at` is not
+/// linked. [`Error::Broken`] if the chain does not belong to this table.
 #[inline]
 pub fn next_equal(table: &[Link1], keys: &[u64], at: u32) -> Result<Option<u32>, Error> {
     let (links, places) = Link1::read_parts(table);
+    // SAFETY: each pointer comes from a reference, with the length of its slice, and no mutable reference overlaps another one.
     handed_out(|it| unsafe { ic_hash_next_equal(links, places, keys.as_ptr(), keys.len(), at, it) })
 }
+// to here

@@ -79,12 +79,13 @@
 //! tested, and not proved.
 
 #![no_std]
-#![warn(missing_docs, clippy::missing_errors_doc)]
+#![warn(missing_docs, clippy::missing_errors_doc, clippy::undocumented_unsafe_blocks)]
 
 mod collection;
 mod cursor;
 mod error;
 pub mod hash;
+mod keyed;
 mod link;
 mod list;
 pub mod ring;
@@ -97,6 +98,7 @@ mod xor_list;
 
 pub use cursor::{Cursor, CursorMut};
 pub use error::Error;
+pub use keyed::{Entry, VacantEntry};
 pub use link::{Link1, Link2, Link3};
 pub use list::List;
 pub use stack::Stack;

@@ -28,10 +28,22 @@ pub(crate) fn number(place: Option<u32>) -> u32 {
     place.unwrap_or(IC_NONE)
 }
 
+/// What a read finds in the link of a place: a place of the table, or none if the place is not linked or not in the table.
+#[inline]
+pub(crate) fn read<L: Link>(table: &[L], at: u32, word: impl FnOnce(&L) -> Option<u32>) -> Option<u32> {
+    within(table, table.get(at as usize).and_then(word))
+}
+
 /// A place, if the table has it.
 #[inline]
 pub(crate) fn within<L>(table: &[L], place: Option<u32>) -> Option<u32> {
     place.filter(|&place| (place as usize) < table.len())
+}
+
+/// A place, if it is a linked one of the table. Iterators end at others.
+#[inline]
+pub(crate) fn member<L: Link>(table: &[L], place: Option<u32>) -> Option<u32> {
+    place.filter(|&place| table.get(place as usize).is_some_and(L::is_linked))
 }
 
 /// A link of any kind.
@@ -67,7 +79,7 @@ pub(crate) fn linked<L: Link>(table: &[L], place: u32) -> Result<(), Error> {
 
 /// What links of all kinds have. The first word has the mark that says whether a place is linked.
 macro_rules! link {
-    ($Link:ident, $Raw:ident { $first:ident $(, $word:ident)* }) => {
+    ($Link:ident, $words:literal, $Raw:ident { $first:ident $(, $word:ident)* }) => {
         impl Link for $Link {
             type Raw = $Raw;
 
@@ -81,19 +93,39 @@ macro_rules! link {
             /// The link of a place that is in no list and no tree.
             pub const UNLINKED: $Link = $Link($Raw { $first: 0 $(, $word: 0)* });
 
+            /// The link that has these words, which may be any, as of a file. The `check` of a list or tree says whether a table of them holds it.
+            #[inline]
+            #[must_use]
+            pub const fn from_words([$first $(, $word)*]: [u64; $words]) -> $Link {
+                $Link($Raw { $first $(, $word)* })
+            }
+
+            /// The words of the link, to be written to a file. They hold no addresses.
+            #[inline]
+            #[must_use]
+            pub const fn words(&self) -> [u64; $words] {
+                [self.0.$first $(, self.0.$word)*]
+            }
+
             /// Whether the place is in a list or tree. O(1).
             #[inline]
             #[must_use]
             pub fn is_linked(&self) -> bool {
                 Link::is_linked(self)
             }
+
+            // The place that a word of the link names, which is none if the place of the link is not linked.
+            #[inline]
+            fn named(&self, word: u64) -> Option<u32> {
+                place(word).filter(|_| self.is_linked())
+            }
         }
     };
 }
 
-link!(Link1, ic_link1 { next });
-link!(Link2, ic_link2 { next, prev });
-link!(Link3, ic_link3 { left, right, parent });
+link!(Link1, 1, ic_link1 { next });
+link!(Link2, 2, ic_link2 { next, prev });
+link!(Link3, 3, ic_link3 { left, right, parent });
 
 /// What a table of a [`List`](crate::List) has for each place.
 ///
@@ -109,22 +141,22 @@ link!(Link3, ic_link3 { left, right, parent });
 /// # Ok::<(), ic::Error>(())
 /// ```
 #[repr(transparent)]
-#[derive(Clone, Copy, Debug, Default)]
+#[derive(Clone, Copy, Debug, Default, PartialEq, Eq, Hash)]
 pub struct Link2(pub(crate) ic_link2);
 
 impl Link2 {
-    /// The member behind, of a member. O(1).
+    /// The member after this one, and `None` of a place that is not linked. O(1).
     #[inline]
     #[must_use]
     pub fn next(&self) -> Option<u32> {
-        place(self.0.next)
+        self.named(self.0.next)
     }
 
-    /// The member in front, of a member. O(1).
+    /// The member before this one, and `None` of a place that is not linked. O(1).
     #[inline]
     #[must_use]
     pub fn prev(&self) -> Option<u32> {
-        place(self.0.prev)
+        self.named(self.0.prev)
     }
 }
 
@@ -146,22 +178,23 @@ impl Link2 {
 /// # Ok::<(), ic::Error>(())
 /// ```
 #[repr(transparent)]
-#[derive(Clone, Copy, Debug, Default)]
+#[derive(Clone, Copy, Debug, Default, PartialEq, Eq, Hash)]
 pub struct Link1(pub(crate) ic_link1);
 
 impl Link1 {
-    /// The member behind, of a member of a [`Stack`](crate::Stack). O(1).
+    /// The member after this one in a [`Stack`](crate::Stack), and `None` of a place that is not linked. O(1).
     #[inline]
     #[must_use]
     pub fn next(&self) -> Option<u32> {
-        place(self.0.next)
+        self.named(self.0.next)
     }
 
-    /// The neighbor on the other side than `from`, of a member of an [`XorList`](crate::XorList). `from` is `None` at an end. O(1).
+    /// The neighbor on the other side than `from` in an [`XorList`](crate::XorList), and `None` of a place that is not linked. `from` is `None` at
+    /// an end. O(1).
     #[inline]
     #[must_use]
     pub fn step(&self, from: Option<u32>) -> Option<u32> {
-        place(self.0.next ^ ic_word(number(from)))
+        self.named(self.0.next ^ ic_word(number(from)))
     }
 }
 
@@ -179,28 +212,28 @@ impl Link1 {
 /// # Ok::<(), ic::Error>(())
 /// ```
 #[repr(transparent)]
-#[derive(Clone, Copy, Debug, Default)]
+#[derive(Clone, Copy, Debug, Default, PartialEq, Eq, Hash)]
 pub struct Link3(pub(crate) ic_link3);
 
 impl Link3 {
-    /// The left child, of a member. The members under it are in front of the member. O(1).
+    /// The left child, and `None` of a place that is not linked. The members under it come before this one. O(1).
     #[inline]
     #[must_use]
     pub fn left(&self) -> Option<u32> {
-        place(self.0.left)
+        self.named(self.0.left)
     }
 
-    /// The right child, of a member. The members under it are behind the member. O(1).
+    /// The right child, and `None` of a place that is not linked. The members under it come after this one. O(1).
     #[inline]
     #[must_use]
     pub fn right(&self) -> Option<u32> {
-        place(self.0.right)
+        self.named(self.0.right)
     }
 
-    /// The parent, of a member. O(1).
+    /// The parent, and `None` of a place that is not linked. O(1).
     #[inline]
     #[must_use]
     pub fn parent(&self) -> Option<u32> {
-        place(self.0.parent)
+        self.named(self.0.parent)
     }
 }

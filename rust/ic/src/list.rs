@@ -4,7 +4,7 @@ use crate::collection::{
     bidirectional, collection, from_place, Bidirectional, BidirectionalSplice, Collection, Position, Splice,
 };
 use crate::error::{counted, done, handed_out};
-use crate::link::{is_none, linked, number, place, within, Link};
+use crate::link::{is_none, linked, number, place, read, within, Link};
 use crate::{Cursor, CursorMut, Error, Iter, Link2, View};
 use core::fmt;
 use ic_sys::*;
@@ -37,19 +37,58 @@ use ic_sys::*;
 /// # Ok::<(), Error>(())
 /// ```
 ///
+/// Keys that stand in a slice of yours order the members, one for each place:
+///
+/// ```
+/// # use ic::{Error, Link2, List};
+/// let (keys, mut links, mut list) = ([30, 10, 20, 10], [Link2::UNLINKED; 4], List::new());
+/// list.fill(&mut links, 0, 4)?;
+/// list.sort(&mut links, &keys)?;
+/// assert!(list.iter(&links).eq([1, 3, 2, 0]));
+/// # Ok::<(), Error>(())
+/// ```
+///
+/// Words that come from a file may be any, and a check says whether they are a list:
+///
+/// ```
+/// # use ic::{Error, Link2, List};
+/// let mut links = [Link2::UNLINKED; 4];
+/// let mut list = List::new();
+/// list.fill(&mut links, 0, 3)?;
+/// let (table, ends) = (links.map(|link| link.words()), list.words());
+///
+/// let mut again = table.map(Link2::from_words);
+/// assert_eq!(List::from_words(ends).check(&again), Some(3));
+/// again[1] = Link2::UNLINKED;
+/// assert_eq!(List::from_words(ends).check(&again), None);
+/// # Ok::<(), Error>(())
+/// ```
+///
 /// Dropping the list leaves its members linked. A clone of it belongs to a clone of the table.
 #[repr(transparent)]
-#[derive(Clone, Default)]
+#[derive(Clone, Default, PartialEq, Eq)]
 pub struct List(pub(crate) ic_list);
 
-// Each call below is sound: a slice is as many links as its length says, mutable references neither dangle nor overlap, and the library
-// requires nothing else.
 impl List {
     /// A list with no members. O(1).
     #[inline]
     #[must_use]
     pub const fn new() -> List {
         List(ic_list { head: 0, tail: 0 })
+    }
+
+    /// The list that has these words, which may be any, as of a file. [`check`](Self::check) says whether a table holds it.
+    #[inline]
+    #[must_use]
+    pub const fn from_words([head, tail]: [u64; 2]) -> List {
+        List(ic_list { head, tail })
+    }
+
+    /// The words of the list, to be written to a file. They hold no addresses.
+    #[inline]
+    #[must_use]
+    pub const fn words(&self) -> [u64; 2] {
+        [self.0.head, self.0.tail]
     }
 
     /// Whether it has no members. O(1).
@@ -73,270 +112,311 @@ impl List {
         place(self.0.tail)
     }
 
-    /// Links a place at the front. O(1).
+    /// The member after the member `at`. O(1). It returns `None` if `at` is the last member, is not linked or is not in the table, and if the link
+    /// there leads out of the table.
+    #[inline]
+    #[must_use]
+    pub fn next(&self, table: &[Link2], at: u32) -> Option<u32> {
+        read(table, at, Link2::next)
+    }
+
+    /// The member before the member `at`. O(1). It returns `None` if `at` is the first member, is not linked or is not in the table, and if the link
+    /// there leads out of the table.
+    #[inline]
+    #[must_use]
+    pub fn prev(&self, table: &[Link2], at: u32) -> Option<u32> {
+        read(table, at, Link2::prev)
+    }
+
+    // tools/c-calls --write writes from here: list list-keys
+    /// Inserts `place` at the front. O(1).
     ///
     /// # Errors
     ///
-    /// [`Error::OutOfRange`] or [`Error::Linked`] of `place`. [`Error::Broken`] if the first member is none of this table.
+    /// [`Error::OutOfRange`] if `place` is not below the table's length. [`Error::Linked`] if `place` is linked already. [`Error::Broken`]
+    /// if the first member does not belong to this table.
     #[inline]
     pub fn push_front(&mut self, table: &mut [Link2], place: u32) -> Result<(), Error> {
         let (links, places) = Link2::parts(table);
+        // SAFETY: each pointer comes from a reference, with the length of its slice, and no mutable reference overlaps another one.
         done(unsafe { ic_list_push_front(links, places, &mut self.0, place) })
     }
 
-    /// Links a place at the back. O(1).
+    /// Inserts `place` at the back. O(1).
     ///
     /// # Errors
     ///
-    /// [`Error::OutOfRange`] or [`Error::Linked`] of `place`. [`Error::Broken`] if the last member is none of this table.
+    /// [`Error::OutOfRange`] if `place` is not below the table's length. [`Error::Linked`] if `place` is linked already. [`Error::Broken`]
+    /// if the last member does not belong to this table.
     #[inline]
     pub fn push_back(&mut self, table: &mut [Link2], place: u32) -> Result<(), Error> {
         let (links, places) = Link2::parts(table);
+        // SAFETY: each pointer comes from a reference, with the length of its slice, and no mutable reference overlaps another one.
         done(unsafe { ic_list_push_back(links, places, &mut self.0, place) })
     }
 
-    /// Unlinks the first member and returns it, or `None` if there are no members. O(1).
+    /// Removes the first member, and returns it. O(1). It returns `None` if the list is empty.
     ///
     /// # Errors
     ///
-    /// [`Error::Broken`], or another one, if the first member is none of this table.
+    /// [`Error::Broken`] if the first member does not belong to this table.
     #[inline]
     pub fn pop_front(&mut self, table: &mut [Link2]) -> Result<Option<u32>, Error> {
         let (links, places) = Link2::parts(table);
+        // SAFETY: each pointer comes from a reference, with the length of its slice, and no mutable reference overlaps another one.
         handed_out(|it| unsafe { ic_list_pop_front(links, places, &mut self.0, it) })
     }
 
-    /// Unlinks the last member and returns it, or `None` if there are no members. O(1).
+    /// Removes the last member, and returns it. O(1). It returns `None` if the list is empty.
     ///
     /// # Errors
     ///
-    /// [`Error::Broken`], or another one, if the last member is none of this table.
+    /// [`Error::Broken`] if the last member does not belong to this table.
     #[inline]
     pub fn pop_back(&mut self, table: &mut [Link2]) -> Result<Option<u32>, Error> {
         let (links, places) = Link2::parts(table);
+        // SAFETY: each pointer comes from a reference, with the length of its slice, and no mutable reference overlaps another one.
         handed_out(|it| unsafe { ic_list_pop_back(links, places, &mut self.0, it) })
     }
 
-    /// Links a place behind the member `at`, or at the front if that is `None`. O(1).
+    /// Inserts `place` after the member `at`, or at the front if `at` is `None`. O(1).
     ///
     /// # Errors
     ///
-    /// [`Error::OutOfRange`] of `at` or `place`. [`Error::Linked`] of `place`. [`Error::NotLinked`] of `at`. [`Error::Broken`] if `at` is no
-    /// member.
+    /// [`Error::OutOfRange`] if `at` or `place` is not below the table's length. [`Error::Linked`] if `place` is linked already.
+    /// [`Error::NotLinked`] if `at` is not linked. [`Error::Broken`] if `at` is no member of the list.
     #[inline]
     pub fn insert_after(&mut self, table: &mut [Link2], at: Option<u32>, place: u32) -> Result<(), Error> {
         let (links, places) = Link2::parts(table);
+        // SAFETY: each pointer comes from a reference, with the length of its slice, and no mutable reference overlaps another one.
         done(unsafe { ic_list_insert_after(links, places, &mut self.0, number(at), place) })
     }
 
-    /// Links a place in front of the member `at`, or at the back if that is `None`. O(1).
+    /// Inserts `place` before the member `at`, or at the back if `at` is `None`. O(1).
     ///
     /// # Errors
     ///
-    /// As [`insert_after`](Self::insert_after).
+    /// [`Error::OutOfRange`] if `at` or `place` is not below the table's length. [`Error::Linked`] if `place` is linked already.
+    /// [`Error::NotLinked`] if `at` is not linked. [`Error::Broken`] if `at` is no member of the list.
     #[inline]
     pub fn insert_before(&mut self, table: &mut [Link2], at: Option<u32>, place: u32) -> Result<(), Error> {
         let (links, places) = Link2::parts(table);
+        // SAFETY: each pointer comes from a reference, with the length of its slice, and no mutable reference overlaps another one.
         done(unsafe { ic_list_insert_before(links, places, &mut self.0, number(at), place) })
     }
 
-    /// Unlinks the member `at`. O(1).
+    /// Removes the member `at`. O(1).
     ///
     /// # Errors
     ///
-    /// [`Error::OutOfRange`] or [`Error::NotLinked`] of `at`. [`Error::Null`] if `at` is `u32::MAX`. [`Error::Broken`] if `at` is no member.
+    /// [`Error::Null`] if `at` is `u32::MAX`. [`Error::OutOfRange`] if `at` is not below the table's length. [`Error::NotLinked`] if `at`
+    /// is not linked. [`Error::Broken`] if `at` is no member of the list.
     #[inline]
     pub fn remove(&mut self, table: &mut [Link2], at: u32) -> Result<(), Error> {
         let (links, places) = Link2::parts(table);
+        // SAFETY: each pointer comes from a reference, with the length of its slice, and no mutable reference overlaps another one.
         done(unsafe { ic_list_remove(links, places, &mut self.0, at) })
     }
 
-    /// Links a place where the member `at` is, which is unlinked. O(1).
+    /// Removes the member `at`, and inserts `place` where it was. O(1).
     ///
     /// # Errors
     ///
-    /// [`Error::OutOfRange`] of `at` or `place`. [`Error::Linked`] of `place`, also if it is `at`. [`Error::NotLinked`] of `at`.
-    /// [`Error::Null`] if `at` is `u32::MAX`. [`Error::Broken`] if `at` is no member.
+    /// [`Error::Null`] if `at` is `u32::MAX`. [`Error::OutOfRange`] if `at` or `place` is not below the table's length. [`Error::Linked`]
+    /// if `place` is linked already, as it is if `at` and `place` are the same. [`Error::NotLinked`] if `at` is not linked.
+    /// [`Error::Broken`] if `at` is no member of the list.
     #[inline]
     pub fn replace(&mut self, table: &mut [Link2], at: u32, place: u32) -> Result<(), Error> {
         let (links, places) = Link2::parts(table);
+        // SAFETY: each pointer comes from a reference, with the length of its slice, and no mutable reference overlaps another one.
         done(unsafe { ic_list_replace(links, places, &mut self.0, at, place) })
     }
 
-    /// Moves the member `place` behind the member `at`, or to the front if that is `None`. It stays linked. O(1).
-    ///
-    /// If it is there already, and if `at` is `place`, nothing changes.
+    /// Moves the member `place` after the member `at`, or to the front if `at` is `None`. O(1). The place stays linked. If it is there
+    /// already, or if `at` and `place` are the same, nothing changes.
     ///
     /// # Errors
     ///
-    /// [`Error::OutOfRange`] or [`Error::NotLinked`] of `at` or `place`. [`Error::Null`] if `place` is `u32::MAX`. [`Error::Broken`] if one of
-    /// them is no member.
+    /// [`Error::Null`] if `place` is `u32::MAX`. [`Error::OutOfRange`] if `at` or `place` is not below the table's length.
+    /// [`Error::NotLinked`] if `at` or `place` is not linked. [`Error::Broken`] if `at` or `place` is no member of the list.
     #[inline]
     pub fn move_after(&mut self, table: &mut [Link2], at: Option<u32>, place: u32) -> Result<(), Error> {
         let (links, places) = Link2::parts(table);
+        // SAFETY: each pointer comes from a reference, with the length of its slice, and no mutable reference overlaps another one.
         done(unsafe { ic_list_move_after(links, places, &mut self.0, number(at), place) })
     }
 
-    /// Moves the member `place` in front of the member `at`, or to the back if that is `None`. It stays linked. O(1).
-    ///
-    /// If it is there already, and if `at` is `place`, nothing changes.
+    /// Moves the member `place` before the member `at`, or to the back if `at` is `None`. O(1). The place stays linked. If it is there
+    /// already, or if `at` and `place` are the same, nothing changes.
     ///
     /// # Errors
     ///
-    /// As [`move_after`](Self::move_after).
+    /// [`Error::Null`] if `place` is `u32::MAX`. [`Error::OutOfRange`] if `at` or `place` is not below the table's length.
+    /// [`Error::NotLinked`] if `at` or `place` is not linked. [`Error::Broken`] if `at` or `place` is no member of the list.
     #[inline]
     pub fn move_before(&mut self, table: &mut [Link2], at: Option<u32>, place: u32) -> Result<(), Error> {
         let (links, places) = Link2::parts(table);
+        // SAFETY: each pointer comes from a reference, with the length of its slice, and no mutable reference overlaps another one.
         done(unsafe { ic_list_move_before(links, places, &mut self.0, number(at), place) })
     }
 
-    /// Moves a member to the front, as a cache does with what was used last. It stays linked. O(1).
+    /// Moves the member `place` to the front, as a cache does with the object that it used last. O(1). The place stays linked.
     ///
     /// # Errors
     ///
-    /// [`Error::OutOfRange`] or [`Error::NotLinked`] of `place`. [`Error::Null`] if `place` is `u32::MAX`. [`Error::Broken`] if `place` is no
-    /// member, or the first member is none of this table.
+    /// [`Error::Null`] if `place` is `u32::MAX`. [`Error::OutOfRange`] if `place` is not below the table's length. [`Error::NotLinked`] if
+    /// `place` is not linked. [`Error::Broken`] if `place` is no member of the list, or the first member does not belong to this table.
     #[inline]
     pub fn move_to_front(&mut self, table: &mut [Link2], place: u32) -> Result<(), Error> {
         let (links, places) = Link2::parts(table);
+        // SAFETY: each pointer comes from a reference, with the length of its slice, and no mutable reference overlaps another one.
         done(unsafe { ic_list_move_to_front(links, places, &mut self.0, place) })
     }
 
-    /// Moves a member to the back. It stays linked. O(1).
+    /// Moves the member `place` to the back. O(1). The place stays linked.
     ///
     /// # Errors
     ///
-    /// As [`move_to_front`](Self::move_to_front), but for the last member in place of the first.
+    /// [`Error::Null`] if `place` is `u32::MAX`. [`Error::OutOfRange`] if `place` is not below the table's length. [`Error::NotLinked`] if
+    /// `place` is not linked. [`Error::Broken`] if `place` is no member of the list, or the last member does not belong to this table.
     #[inline]
     pub fn move_to_back(&mut self, table: &mut [Link2], place: u32) -> Result<(), Error> {
         let (links, places) = Link2::parts(table);
+        // SAFETY: each pointer comes from a reference, with the length of its slice, and no mutable reference overlaps another one.
         done(unsafe { ic_list_move_to_back(links, places, &mut self.0, place) })
     }
 
-    /// Moves all members of `given`, in their order, behind the member `at`, or to the front if that is `None`. O(1). `given` is empty then.
+    /// Moves all members of `given`, in their order, after the member `at`, or to the front if `at` is `None`. O(1). Then `given` is empty.
     ///
     /// # Errors
     ///
-    /// [`Error::OutOfRange`] or [`Error::NotLinked`] of `at`. [`Error::Broken`] if `at` is no member, or `given` no list of this table.
+    /// [`Error::OutOfRange`] if `at` is not below the table's length. [`Error::NotLinked`] if `at` is not linked. [`Error::Broken`] if `at`
+    /// is no member of the list, or `given` is no list of this table, or both lists begin with the same member, as a list and its copy do.
     #[inline]
     pub fn splice_after(&mut self, table: &mut [Link2], at: Option<u32>, given: &mut List) -> Result<(), Error> {
         let (links, places) = Link2::parts(table);
+        // SAFETY: each pointer comes from a reference, with the length of its slice, and no mutable reference overlaps another one.
         done(unsafe { ic_list_splice_after(links, places, &mut self.0, number(at), &mut given.0) })
     }
 
-    /// Moves all members of `given`, in their order, in front of the member `at`, or to the back if that is `None`. O(1). `given` is empty
-    /// then.
+    /// Moves all members of `given`, in their order, before the member `at`, or to the back if `at` is `None`. O(1). Then `given` is empty.
     ///
     /// # Errors
     ///
-    /// As [`splice_after`](Self::splice_after).
+    /// [`Error::OutOfRange`] if `at` is not below the table's length. [`Error::NotLinked`] if `at` is not linked. [`Error::Broken`] if `at`
+    /// is no member of the list, or `given` is no list of this table, or both lists begin with the same member, as a list and its copy do.
     #[inline]
     pub fn splice_before(&mut self, table: &mut [Link2], at: Option<u32>, given: &mut List) -> Result<(), Error> {
         let (links, places) = Link2::parts(table);
+        // SAFETY: each pointer comes from a reference, with the length of its slice, and no mutable reference overlaps another one.
         done(unsafe { ic_list_splice_before(links, places, &mut self.0, number(at), &mut given.0) })
     }
 
-    /// Moves all members of `given`, in their order, to the back. O(1). `given` is empty then.
+    /// Moves all members of `given`, in their order, to the back. O(1). Then `given` is empty.
     ///
     /// # Errors
     ///
-    /// [`Error::Broken`] if the last member is none of this table, or `given` no list of it.
+    /// [`Error::Broken`] if the last member does not belong to this table, or `given` is no list of this table, or both lists begin with
+    /// the same member, as a list and its copy do.
     #[inline]
     pub fn append(&mut self, table: &mut [Link2], given: &mut List) -> Result<(), Error> {
         let (links, places) = Link2::parts(table);
+        // SAFETY: each pointer comes from a reference, with the length of its slice, and no mutable reference overlaps another one.
         done(unsafe { ic_list_append(links, places, &mut self.0, &mut given.0) })
     }
 
-    /// Links `count` places, `first` and those behind it, and puts them at the back in the order of their numbers. O(count). With `count` 0 it changes
-    /// nothing.
+    /// Inserts `count` places, `first` and those after it, at the back in the order of their numbers. O(count). If `count` is 0, nothing
+    /// changes.
     ///
     /// # Errors
     ///
-    /// [`Error::OutOfRange`] or [`Error::Linked`] of the first of these places that is. [`Error::Broken`] if the last member is none of
-    /// this table.
+    /// [`Error::OutOfRange`] if the first of these places that the call refuses is not below the table's length. [`Error::Linked`] if the
+    /// first of these places that the call refuses is linked already. [`Error::Broken`] if the last member does not belong to this table.
     #[inline]
     pub fn fill(&mut self, table: &mut [Link2], first: u32, count: u32) -> Result<(), Error> {
         let (links, places) = Link2::parts(table);
+        // SAFETY: each pointer comes from a reference, with the length of its slice, and no mutable reference overlaps another one.
         done(unsafe { ic_list_fill(links, places, &mut self.0, first, count) })
     }
 
-    /// Unlinks all members. O(n).
+    /// Removes all members. O(n).
     ///
     /// # Errors
     ///
-    /// [`Error::Broken`] if the links do not lead from the first member to the last, each to the next and back.
+    /// [`Error::Broken`] if the links do not lead from the first member to the last, each to the next one and back.
     #[inline]
     pub fn clear(&mut self, table: &mut [Link2]) -> Result<(), Error> {
         let (links, places) = Link2::parts(table);
+        // SAFETY: each pointer comes from a reference, with the length of its slice, and no mutable reference overlaps another one.
         done(unsafe { ic_list_clear(links, places, &mut self.0) })
     }
 
-    /// How many members it has, or `None` if the table holds no such list. O(n). It is for words that come from a file, or that others
-    /// write: where it returns a number, each call does what it says.
-    #[inline]
-    #[must_use]
-    pub fn check(&self, table: &[Link2]) -> Option<u64> {
-        let (links, places) = Link2::read_parts(table);
-        counted(|members| unsafe { ic_list_check(links, places, &self.0, members) })
-    }
-
-    /// Puts the members in the order of their keys, of which there is one for each place. O(n log n). Members with equal keys keep their order.
-    ///
-    /// ```
-    /// # use ic::{Error, Link2, List};
-    /// let (keys, mut links, mut list) = ([30, 10, 20, 10], [Link2::UNLINKED; 4], List::new());
-    /// list.fill(&mut links, 0, 4)?;
-    /// list.sort(&mut links, &keys)?;
-    /// assert!(list.iter(&links).eq([1, 3, 2, 0]));
-    /// assert_eq!(list.check(&links), Some(4));
-    /// # Ok::<(), Error>(())
-    /// ```
+    /// Moves the members after the member `at`, or all members if `at` is `None`, to a new list, which it returns. O(1).
     ///
     /// # Errors
     ///
-    /// [`Error::OutOfRange`] if there are fewer keys than places. [`Error::Broken`] if [`check`](List::check) returns `None`.
-    #[inline]
-    pub fn sort(&mut self, table: &mut [Link2], keys: &[u64]) -> Result<(), Error> {
-        let (links, places) = Link2::parts(table);
-        done(unsafe { ic_list_sort(links, places, keys.as_ptr(), keys.len(), &mut self.0) })
-    }
-
-    /// Moves all members of `given` to where their keys belong, if both lists are in order. O(n). Of members with equal keys those of this
-    /// list are in front. `given` is empty then.
-    ///
-    /// # Errors
-    ///
-    /// [`Error::OutOfRange`] if there are fewer keys than places. [`Error::Broken`] if [`check`](List::check) returns `None` of one of them, or
-    /// both begin with the same member, as a list and its clone do.
-    #[inline]
-    pub fn merge(&mut self, table: &mut [Link2], keys: &[u64], given: &mut List) -> Result<(), Error> {
-        let (links, places) = Link2::parts(table);
-        done(unsafe { ic_list_merge(links, places, keys.as_ptr(), keys.len(), &mut self.0, &mut given.0) })
-    }
-
-    /// Hands out the members behind the member `at` as a list, or all if that is `None`. O(1).
-    ///
-    /// # Errors
-    ///
-    /// [`Error::OutOfRange`] or [`Error::NotLinked`] of `at`. [`Error::Broken`] if `at` is no member.
+    /// [`Error::OutOfRange`] if `at` is not below the table's length. [`Error::NotLinked`] if `at` is not linked. [`Error::Broken`] if `at`
+    /// is no member of the list.
     #[inline]
     pub fn split_after(&mut self, table: &mut [Link2], at: Option<u32>) -> Result<List, Error> {
         let ((links, places), mut rest) = (Link2::parts(table), List::new());
+        // SAFETY: each pointer comes from a reference, with the length of its slice, and no mutable reference overlaps another one.
         done(unsafe { ic_list_split_after(links, places, &mut self.0, number(at), &mut rest.0) })?;
         Ok(rest)
     }
 
-    /// Hands out the members in front of the member `at` as a list, or all if that is `None`. O(1).
+    /// Moves the members before the member `at`, or all members if `at` is `None`, to a new list, which it returns. O(1).
     ///
     /// # Errors
     ///
-    /// As [`split_after`](Self::split_after).
+    /// [`Error::OutOfRange`] if `at` is not below the table's length. [`Error::NotLinked`] if `at` is not linked. [`Error::Broken`] if `at`
+    /// is no member of the list.
     #[inline]
     pub fn split_before(&mut self, table: &mut [Link2], at: Option<u32>) -> Result<List, Error> {
         let ((links, places), mut rest) = (Link2::parts(table), List::new());
+        // SAFETY: each pointer comes from a reference, with the length of its slice, and no mutable reference overlaps another one.
         done(unsafe { ic_list_split_before(links, places, &mut self.0, number(at), &mut rest.0) })?;
         Ok(rest)
     }
+
+    /// Counts the members, and returns how many there are. O(n). Call it if the words come from a file, or from memory that others write:
+    /// if it returns a number, each call does what it says of a list that the table holds. It returns `None` if the links do not lead from
+    /// the first member to the last, each to the next one and back.
+    #[inline]
+    #[must_use]
+    pub fn check(&self, table: &[Link2]) -> Option<u64> {
+        let (links, places) = Link2::read_parts(table);
+        // SAFETY: each pointer comes from a reference, with the length of its slice, and no mutable reference overlaps another one.
+        counted(|members| unsafe { ic_list_check(links, places, &self.0, members) })
+    }
+
+    /// Sorts the members by their keys. O(n log n). Members with equal keys keep their order.
+    ///
+    /// # Errors
+    ///
+    /// [`Error::OutOfRange`] if there are fewer keys than places. [`Error::Broken`] if the links do not lead from the first member to the
+    /// last, each to the next one and back.
+    #[inline]
+    pub fn sort(&mut self, table: &mut [Link2], keys: &[u64]) -> Result<(), Error> {
+        let (links, places) = Link2::parts(table);
+        // SAFETY: each pointer comes from a reference, with the length of its slice, and no mutable reference overlaps another one.
+        done(unsafe { ic_list_sort(links, places, keys.as_ptr(), keys.len(), &mut self.0) })
+    }
+
+    /// Moves all members of `given` to where their keys belong, if both lists are in the order of their keys. O(n). Of members with equal
+    /// keys, those of this list come first. Then `given` is empty.
+    ///
+    /// # Errors
+    ///
+    /// [`Error::OutOfRange`] if there are fewer keys than places. [`Error::Broken`] if the links of one of the lists do not lead from its
+    /// first member to its last, each to the next one and back, or both lists begin with the same member, as a list and its copy do.
+    #[inline]
+    pub fn merge(&mut self, table: &mut [Link2], keys: &[u64], given: &mut List) -> Result<(), Error> {
+        let (links, places) = Link2::parts(table);
+        // SAFETY: each pointer comes from a reference, with the length of its slice, and no mutable reference overlaps another one.
+        done(unsafe { ic_list_merge(links, places, keys.as_ptr(), keys.len(), &mut self.0, &mut given.0) })
+    }
+    // to here
 }
 
 collection!(List, Link2);
@@ -355,13 +435,12 @@ impl Collection for List {
 
     #[inline]
     fn next(&self, table: &[Link2], at: Option<u32>) -> Option<u32> {
-        let next = at.map_or(self.first(), |at| table.get(at as usize).and_then(Link2::next));
-        within(table, next)
+        at.map_or_else(|| within(table, self.first()), |at| List::next(self, table, at))
     }
 
     #[inline]
     fn end(&self, table: &[Link2]) -> Option<u32> {
-        self.prev(table, None)
+        Bidirectional::prev(self, table, None)
     }
 
     #[inline]
@@ -371,7 +450,7 @@ impl Collection for List {
 
     #[inline]
     fn remove_next(&mut self, table: &mut [Link2], at: Option<u32>) -> Result<Option<u32>, Error> {
-        let next = self.next(table, at);
+        let next = Collection::next(self, table, at);
         next.map_or(Ok(()), |next| List::remove(self, table, next))?;
         Ok(next)
     }
@@ -380,8 +459,7 @@ impl Collection for List {
 impl Bidirectional for List {
     #[inline]
     fn prev(&self, table: &[Link2], at: Option<u32>) -> Option<u32> {
-        let prev = at.map_or(self.last(), |at| table.get(at as usize).and_then(Link2::prev));
-        within(table, prev)
+        at.map_or_else(|| within(table, self.last()), |at| List::prev(self, table, at))
     }
 
     #[inline]
@@ -392,7 +470,7 @@ impl Bidirectional for List {
 
     #[inline]
     fn remove(&mut self, table: &mut [Link2], at: Option<u32>) -> Result<Option<u32>, Error> {
-        let next = self.next(table, at);
+        let next = Collection::next(self, table, at);
         List::remove(self, table, number(at))?;
         Ok(next)
     }

@@ -2,7 +2,7 @@
 
 use crate::collection::{collection, from_place, Collection, Position, Splice};
 use crate::error::{counted, done, handed_out};
-use crate::link::{is_none, linked, number, place, within, Link};
+use crate::link::{is_none, linked, number, place, read, within, Link};
 use crate::{Cursor, CursorMut, Error, Iter, Link1, View};
 use core::fmt;
 use ic_sys::*;
@@ -33,16 +33,29 @@ use ic_sys::*;
 ///
 /// Dropping the list leaves its members linked. A clone of it belongs to a clone of the table.
 #[repr(transparent)]
-#[derive(Clone, Default)]
+#[derive(Clone, Default, PartialEq, Eq)]
 pub struct Stack(pub(crate) ic_stack);
 
-// Each call below is sound, for the reason that `List` has.
 impl Stack {
     /// A list with no members. O(1).
     #[inline]
     #[must_use]
     pub const fn new() -> Stack {
         Stack(ic_stack { head: 0 })
+    }
+
+    /// The list that has these words, which may be any, as of a file. [`check`](Self::check) says whether a table holds it.
+    #[inline]
+    #[must_use]
+    pub const fn from_words([head]: [u64; 1]) -> Stack {
+        Stack(ic_stack { head })
+    }
+
+    /// The words of the list, to be written to a file. They hold no addresses.
+    #[inline]
+    #[must_use]
+    pub const fn words(&self) -> [u64; 1] {
+        [self.0.head]
     }
 
     /// Whether it has no members. O(1).
@@ -59,92 +72,128 @@ impl Stack {
         place(self.0.head)
     }
 
-    /// Links a place at the front. O(1).
+    /// The member after the member `at`. O(1). It returns `None` if `at` is the last member, is not linked or is not in the table, and if the link
+    /// there leads out of the table.
+    #[inline]
+    #[must_use]
+    pub fn next(&self, table: &[Link1], at: u32) -> Option<u32> {
+        read(table, at, Link1::next)
+    }
+
+    // tools/c-calls --write writes from here: stack
+    /// Inserts `place` at the front. O(1).
     ///
     /// # Errors
     ///
-    /// [`Error::OutOfRange`] or [`Error::Linked`] of `place`. [`Error::Broken`] if the first member is none of this table.
+    /// [`Error::OutOfRange`] if `place` is not below the table's length. [`Error::Linked`] if `place` is linked already. [`Error::Broken`]
+    /// if the first member does not belong to this table.
     #[inline]
     pub fn push_front(&mut self, table: &mut [Link1], place: u32) -> Result<(), Error> {
         let (links, places) = Link1::parts(table);
+        // SAFETY: each pointer comes from a reference, with the length of its slice, and no mutable reference overlaps another one.
         done(unsafe { ic_stack_push_front(links, places, &mut self.0, place) })
     }
 
-    /// Unlinks the first member and returns it, or `None` if there are no members. O(1).
+    /// Removes the first member, and returns it. O(1). It returns `None` if the list is empty.
     ///
     /// # Errors
     ///
-    /// [`Error::Broken`], or another one, if the first member is none of this table.
+    /// [`Error::Broken`] if the first member does not belong to this table.
     #[inline]
     pub fn pop_front(&mut self, table: &mut [Link1]) -> Result<Option<u32>, Error> {
         let (links, places) = Link1::parts(table);
+        // SAFETY: each pointer comes from a reference, with the length of its slice, and no mutable reference overlaps another one.
         handed_out(|it| unsafe { ic_stack_pop_front(links, places, &mut self.0, it) })
     }
 
-    /// Links a place behind the member `at`, or at the front if that is `None`. O(1).
+    /// Inserts `place` after the member `at`, or at the front if `at` is `None`. O(1).
     ///
     /// # Errors
     ///
-    /// [`Error::OutOfRange`] of `at` or `place`. [`Error::Linked`] of `place`. [`Error::NotLinked`] of `at`. [`Error::Broken`] if the member
-    /// behind is none of this table.
+    /// [`Error::OutOfRange`] if `at` or `place` is not below the table's length. [`Error::Linked`] if `place` is linked already.
+    /// [`Error::NotLinked`] if `at` is not linked. [`Error::Broken`] if the next member does not belong to this table.
     #[inline]
     pub fn insert_after(&mut self, table: &mut [Link1], at: Option<u32>, place: u32) -> Result<(), Error> {
         let (links, places) = Link1::parts(table);
+        // SAFETY: each pointer comes from a reference, with the length of its slice, and no mutable reference overlaps another one.
         done(unsafe { ic_stack_insert_after(links, places, &mut self.0, number(at), place) })
     }
 
-    /// Unlinks the member behind the member `at`, or the first if that is `None`, and returns it, or `None` if there is none. O(1).
+    /// Removes the member after the member `at`, or the first member if `at` is `None`, and returns it. O(1). It returns `None` if there is
+    /// no such member.
     ///
     /// # Errors
     ///
-    /// [`Error::OutOfRange`] or [`Error::NotLinked`] of `at`. [`Error::Broken`] if the member behind is none of this table.
+    /// [`Error::OutOfRange`] if `at` is not below the table's length. [`Error::NotLinked`] if `at` is not linked. [`Error::Broken`] if the
+    /// next member does not belong to this table.
     #[inline]
     pub fn remove_after(&mut self, table: &mut [Link1], at: Option<u32>) -> Result<Option<u32>, Error> {
         let (links, places) = Link1::parts(table);
+        // SAFETY: each pointer comes from a reference, with the length of its slice, and no mutable reference overlaps another one.
         handed_out(|it| unsafe { ic_stack_remove_after(links, places, &mut self.0, number(at), it) })
     }
 
-    /// Links a place where the member behind the member `at` is, or the first if that is `None`, and returns that member, which is unlinked.
-    /// O(1).
+    /// Removes the member after the member `at`, or the first member if `at` is `None`, inserts `place` where it was, and returns the
+    /// removed member. O(1).
     ///
     /// # Errors
     ///
-    /// [`Error::Null`] if there is no such member. [`Error::OutOfRange`] of `at` or `place`. [`Error::Linked`] of `place`.
-    /// [`Error::NotLinked`] of `at`. [`Error::Broken`] if the member behind is none of this table.
+    /// [`Error::Null`] if there is no such member. [`Error::OutOfRange`] if `at` or `place` is not below the table's length.
+    /// [`Error::Linked`] if `place` is linked already. [`Error::NotLinked`] if `at` is not linked. [`Error::Broken`] if the next member
+    /// does not belong to this table.
     #[inline]
     pub fn replace_after(&mut self, table: &mut [Link1], at: Option<u32>, place: u32) -> Result<u32, Error> {
         let (links, places) = Link1::parts(table);
-        let out =
+        // SAFETY: each pointer comes from a reference, with the length of its slice, and no mutable reference overlaps another one.
+        let removed =
             handed_out(|it| unsafe { ic_stack_replace_after(links, places, &mut self.0, number(at), place, it) })?;
-        out.ok_or(Error::Null)
+        removed.ok_or(Error::Null)
     }
 
-    /// Moves all members of `given`, in their order, behind the member `at`, or to the front if that is `None`. O(members of `given`).
-    /// `given` is empty then.
+    /// Moves all members of `given`, in their order, after the member `at`, or to the front if `at` is `None`. O(members of `given`). Then
+    /// `given` is empty.
     ///
     /// # Errors
     ///
-    /// [`Error::OutOfRange`] or [`Error::NotLinked`] of `at`. [`Error::Broken`] if `given` is no list of this table, or has no end.
+    /// [`Error::OutOfRange`] if `at` is not below the table's length. [`Error::NotLinked`] if `at` is not linked. [`Error::Broken`] if
+    /// `given` is no list of this table, or has no end within as many steps as the table has places, or both lists begin with the same
+    /// member, as a list and its copy do.
     #[inline]
     pub fn splice_after(&mut self, table: &mut [Link1], at: Option<u32>, given: &mut Stack) -> Result<(), Error> {
         let (links, places) = Link1::parts(table);
+        // SAFETY: each pointer comes from a reference, with the length of its slice, and no mutable reference overlaps another one.
         done(unsafe { ic_stack_splice_after(links, places, &mut self.0, number(at), &mut given.0) })
     }
 
-    /// Links `count` places, `first` and those behind it, and puts them at the front in the order of their numbers. O(count). With `count` 0 it changes
-    /// nothing.
+    /// Moves the members after the member `at`, or all members if `at` is `None`, to a new list, which it returns. O(1).
     ///
     /// # Errors
     ///
-    /// [`Error::OutOfRange`] or [`Error::Linked`] of the first of these places that is. [`Error::Broken`] if the first member is not
-    /// linked.
+    /// [`Error::OutOfRange`] if `at` is not below the table's length. [`Error::NotLinked`] if `at` is not linked. [`Error::Broken`] if the
+    /// next member does not belong to this table.
+    #[inline]
+    pub fn split_after(&mut self, table: &mut [Link1], at: Option<u32>) -> Result<Stack, Error> {
+        let ((links, places), mut rest) = (Link1::parts(table), Stack::new());
+        // SAFETY: each pointer comes from a reference, with the length of its slice, and no mutable reference overlaps another one.
+        done(unsafe { ic_stack_split_after(links, places, &mut self.0, number(at), &mut rest.0) })?;
+        Ok(rest)
+    }
+
+    /// Inserts `count` places, `first` and those after it, at the front in the order of their numbers, so that `first` becomes the first
+    /// member. O(count). If `count` is 0, nothing changes.
+    ///
+    /// # Errors
+    ///
+    /// [`Error::OutOfRange`] if the first of these places that the call refuses is not below the table's length. [`Error::Linked`] if the
+    /// first of these places that the call refuses is linked already. [`Error::Broken`] if the first member is not linked.
     #[inline]
     pub fn fill(&mut self, table: &mut [Link1], first: u32, count: u32) -> Result<(), Error> {
         let (links, places) = Link1::parts(table);
+        // SAFETY: each pointer comes from a reference, with the length of its slice, and no mutable reference overlaps another one.
         done(unsafe { ic_stack_fill(links, places, &mut self.0, first, count) })
     }
 
-    /// Unlinks all members. O(n).
+    /// Removes all members. O(n).
     ///
     /// # Errors
     ///
@@ -152,29 +201,21 @@ impl Stack {
     #[inline]
     pub fn clear(&mut self, table: &mut [Link1]) -> Result<(), Error> {
         let (links, places) = Link1::parts(table);
+        // SAFETY: each pointer comes from a reference, with the length of its slice, and no mutable reference overlaps another one.
         done(unsafe { ic_stack_clear(links, places, &mut self.0) })
     }
 
-    /// How many members it has, or `None` if the table holds no such list. O(n). It is for words that come from a file, or that others
-    /// write: where it returns a number, each call does what it says.
+    /// Counts the members, and returns how many there are. O(n). Call it if the words come from a file, or from memory that others write:
+    /// if it returns a number, each call does what it says of a list that the table holds. It returns `None` if the links lead from the
+    /// first member to no end within the table.
     #[inline]
     #[must_use]
     pub fn check(&self, table: &[Link1]) -> Option<u64> {
         let (links, places) = Link1::read_parts(table);
+        // SAFETY: each pointer comes from a reference, with the length of its slice, and no mutable reference overlaps another one.
         counted(|members| unsafe { ic_stack_check(links, places, &self.0, members) })
     }
-
-    /// Hands out the members behind the member `at` as a list, or all if that is `None`. O(1).
-    ///
-    /// # Errors
-    ///
-    /// [`Error::OutOfRange`] or [`Error::NotLinked`] of `at`. [`Error::Broken`] if the member behind is none of this table.
-    #[inline]
-    pub fn split_after(&mut self, table: &mut [Link1], at: Option<u32>) -> Result<Stack, Error> {
-        let ((links, places), mut rest) = (Link1::parts(table), Stack::new());
-        done(unsafe { ic_stack_split_after(links, places, &mut self.0, number(at), &mut rest.0) })?;
-        Ok(rest)
-    }
+    // to here
 }
 
 collection!(Stack, Link1);
@@ -192,8 +233,7 @@ impl Collection for Stack {
 
     #[inline]
     fn next(&self, table: &[Link1], at: Option<u32>) -> Option<u32> {
-        let next = at.map_or(self.first(), |at| table.get(at as usize).and_then(Link1::next));
-        within(table, next)
+        at.map_or_else(|| within(table, self.first()), |at| Stack::next(self, table, at))
     }
 
     #[inline]

@@ -2,7 +2,7 @@
 
 use crate::collection::{bidirectional, collection, from_place, Bidirectional, Collection, Position};
 use crate::error::{counted, done, handed_out};
-use crate::link::{is_none, linked, number, place, Link};
+use crate::link::{is_none, linked, number, place, read, Link};
 use crate::{Cursor, CursorMut, Error, Iter, Link3, View};
 use core::fmt;
 use ic_sys::*;
@@ -73,16 +73,29 @@ use ic_sys::*;
 ///
 /// n is how many members there are. Dropping the tree leaves its members linked. A clone of the tree belongs to a clone of the table.
 #[repr(transparent)]
-#[derive(Clone, Default)]
+#[derive(Clone, Default, PartialEq, Eq)]
 pub struct Tree(pub(crate) ic_tree);
 
-// Each call below is sound, for the reason that `List` has. Those that read are handed shared references alone, but for what they return.
 impl Tree {
     /// A tree with no members. O(1).
     #[inline]
     #[must_use]
     pub const fn new() -> Tree {
         Tree(ic_tree { root: 0 })
+    }
+
+    /// The tree that has these words, which may be any, as of a file. [`check`](Self::check) says whether a table holds it.
+    #[inline]
+    #[must_use]
+    pub const fn from_words([root]: [u64; 1]) -> Tree {
+        Tree(ic_tree { root })
+    }
+
+    /// The words of the tree, to be written to a file. They hold no addresses.
+    #[inline]
+    #[must_use]
+    pub const fn words(&self) -> [u64; 1] {
+        [self.0.root]
     }
 
     /// Whether it has no members. O(1).
@@ -99,77 +112,111 @@ impl Tree {
         place(self.0.root)
     }
 
-    /// Links a place as the left child of the member `at`, which has none, or as the root of an empty tree if that is `None`. O(log n).
-    ///
-    /// The place is just in front of the member.
+    /// The left child of the member `at`. O(1). It returns `None` if there is none, if `at` is not linked or is not in the table, and if the link there
+    /// leads out of the table. So do [`right`](Self::right) and [`parent`](Self::parent).
+    #[inline]
+    #[must_use]
+    pub fn left(&self, table: &[Link3], at: u32) -> Option<u32> {
+        read(table, at, Link3::left)
+    }
+
+    /// The right child of the member `at`. O(1).
+    #[inline]
+    #[must_use]
+    pub fn right(&self, table: &[Link3], at: u32) -> Option<u32> {
+        read(table, at, Link3::right)
+    }
+
+    /// The parent of the member `at`. O(1).
+    #[inline]
+    #[must_use]
+    pub fn parent(&self, table: &[Link3], at: u32) -> Option<u32> {
+        read(table, at, Link3::parent)
+    }
+
+    // tools/c-calls --write writes from here: tree
+    /// Inserts `place` as the left child of the member `at`, which has none, and balances the tree. O(log n). The place comes directly
+    /// before `at`. If `at` is `None`, the tree has to be empty, and `place` becomes its root.
     ///
     /// # Errors
     ///
-    /// [`Error::OutOfRange`] of `at` or `place`. [`Error::Linked`] of `place`. [`Error::NotLinked`] of `at`. [`Error::Broken`] if `at` has a
-    /// left child, or is `None` and the tree has members, or if the root is none of this table.
+    /// [`Error::OutOfRange`] if `at` or `place` is not below the table's length. [`Error::Linked`] if `place` is linked already.
+    /// [`Error::NotLinked`] if `at` is not linked. [`Error::Broken`] if `at` has a left child, or `at` is `None` and the tree has members,
+    /// or the root does not belong to this table.
     #[inline]
     pub fn insert_left(&mut self, table: &mut [Link3], at: Option<u32>, place: u32) -> Result<(), Error> {
         let (links, places) = Link3::parts(table);
+        // SAFETY: each pointer comes from a reference, with the length of its slice, and no mutable reference overlaps another one.
         done(unsafe { ic_tree_insert_left(links, places, &mut self.0, number(at), place) })
     }
 
-    /// Links a place as the right child of the member `at`, which has none, or as the root of an empty tree if that is `None`. O(log n).
-    ///
-    /// The place is just behind the member.
+    /// Inserts `place` as the right child of the member `at`, which has none, and balances the tree. O(log n). The place comes directly
+    /// after `at`. If `at` is `None`, the tree has to be empty, and `place` becomes its root.
     ///
     /// # Errors
     ///
-    /// As [`insert_left`](Self::insert_left), of the right child.
+    /// [`Error::OutOfRange`] if `at` or `place` is not below the table's length. [`Error::Linked`] if `place` is linked already.
+    /// [`Error::NotLinked`] if `at` is not linked. [`Error::Broken`] if `at` has a right child, or `at` is `None` and the tree has members,
+    /// or the root does not belong to this table.
     #[inline]
     pub fn insert_right(&mut self, table: &mut [Link3], at: Option<u32>, place: u32) -> Result<(), Error> {
         let (links, places) = Link3::parts(table);
+        // SAFETY: each pointer comes from a reference, with the length of its slice, and no mutable reference overlaps another one.
         done(unsafe { ic_tree_insert_right(links, places, &mut self.0, number(at), place) })
     }
 
-    /// Unlinks the member `at`. O(log n).
+    /// Removes the member `at`. O(log n).
     ///
     /// # Errors
     ///
-    /// [`Error::OutOfRange`] or [`Error::NotLinked`] of `at`. [`Error::Null`] if `at` is `u32::MAX`. [`Error::Broken`] if the root is none of
-    /// this table.
+    /// [`Error::Null`] if `at` is `u32::MAX`. [`Error::OutOfRange`] if `at` is not below the table's length. [`Error::NotLinked`] if `at`
+    /// is not linked. [`Error::Broken`] if the root does not belong to this table.
     #[inline]
     pub fn remove(&mut self, table: &mut [Link3], at: u32) -> Result<(), Error> {
         let (links, places) = Link3::parts(table);
+        // SAFETY: each pointer comes from a reference, with the length of its slice, and no mutable reference overlaps another one.
         done(unsafe { ic_tree_remove(links, places, &mut self.0, at) })
     }
 
-    /// Unlinks all members. O(n).
+    /// Removes the member `at`, and inserts `place` where it was. O(1). The call compares nothing, so hand in a place that belongs there.
     ///
     /// # Errors
     ///
-    /// [`Error::Broken`] if the root is none of this table, or steps from the first member on come to a place that is not linked, or to no end
-    /// within as many steps as the table has places.
+    /// [`Error::Null`] if `at` is `u32::MAX`. [`Error::OutOfRange`] if `at` or `place` is not below the table's length. [`Error::Linked`]
+    /// if `place` is linked already, as it is if `at` and `place` are the same. [`Error::NotLinked`] if `at` is not linked.
+    /// [`Error::Broken`] if the root does not belong to this table.
+    #[inline]
+    pub fn replace(&mut self, table: &mut [Link3], at: u32, place: u32) -> Result<(), Error> {
+        let (links, places) = Link3::parts(table);
+        // SAFETY: each pointer comes from a reference, with the length of its slice, and no mutable reference overlaps another one.
+        done(unsafe { ic_tree_replace(links, places, &mut self.0, at, place) })
+    }
+
+    /// Removes all members. O(n).
+    ///
+    /// # Errors
+    ///
+    /// [`Error::Broken`] if the root does not belong to this table, or the steps from the first member on come to a place that is not
+    /// linked, or to no end within as many steps as the table has places.
     #[inline]
     pub fn clear(&mut self, table: &mut [Link3]) -> Result<(), Error> {
         let (links, places) = Link3::parts(table);
+        // SAFETY: each pointer comes from a reference, with the length of its slice, and no mutable reference overlaps another one.
         done(unsafe { ic_tree_clear(links, places, &mut self.0) })
     }
 
-    /// How many members it has, or `None` if the table holds no such tree. O(n). It is for words that come from a file, or that others
-    /// write: where it returns a number, each call does what it says.
+    /// Counts the members, and returns how many there are. O(n). Call it if the words come from a file, or from memory that others write:
+    /// if it returns a number, each call does what it says of a tree that the table holds. The check reads no keys. It calls itself, at
+    /// most 67 times within one another. It returns `None` if the links form no red-black tree from the root on, because a parent, a color
+    /// or a child is wrong.
     #[inline]
     #[must_use]
     pub fn check(&self, table: &[Link3]) -> Option<u64> {
         let (links, places) = Link3::read_parts(table);
+        // SAFETY: each pointer comes from a reference, with the length of its slice, and no mutable reference overlaps another one.
         counted(|members| unsafe { ic_tree_check(links, places, &self.0, members) })
     }
-
-    /// Links a place where the member `at` is, which is unlinked. O(1). Nothing is compared, so hand in a place that belongs there.
-    ///
-    /// # Errors
-    ///
-    /// [`Error::OutOfRange`] of `at` or `place`. [`Error::Linked`] of `place`, also if it is `at`. [`Error::NotLinked`] of `at`.
-    /// [`Error::Null`] if `at` is `u32::MAX`. [`Error::Broken`] if the root is none of this table.
-    #[inline]
-    pub fn replace(&mut self, table: &mut [Link3], at: u32, place: u32) -> Result<(), Error> {
-        let (links, places) = Link3::parts(table);
-        done(unsafe { ic_tree_replace(links, places, &mut self.0, at, place) })
-    }
+    // to here
 }
 
 /// Trees by keys. A key is the number at the place's index, and there has to be one for each place. The least is in front.
@@ -177,50 +224,59 @@ impl Tree {
 /// A member's key must not change. The searches are for trees whose members are in order by their keys. In others they find some member
 /// or none.
 impl Tree {
-    /// Links a place by its key: behind all members whose keys are not greater. O(log n).
+    // tools/c-calls --write writes from here: tree-keys
+    /// Inserts `place` by its key, after all members whose keys are not greater than keys[place]. O(log n).
     ///
     /// # Errors
     ///
-    /// [`Error::OutOfRange`] of `place`, or if there are fewer keys than places. [`Error::Linked`] of `place`. [`Error::Broken`] if the root
-    /// is none of this table.
+    /// [`Error::OutOfRange`] if there are fewer keys than places, or `place` is not below the table's length. [`Error::Linked`] if `place`
+    /// is linked already. [`Error::Broken`] if the root does not belong to this table.
     #[inline]
     pub fn insert(&mut self, table: &mut [Link3], keys: &[u64], place: u32) -> Result<(), Error> {
         let (links, places) = Link3::parts(table);
+        // SAFETY: each pointer comes from a reference, with the length of its slice, and no mutable reference overlaps another one.
         done(unsafe { ic_tree_insert(links, places, keys.as_ptr(), keys.len(), &mut self.0, place) })
     }
 
-    /// The first member with this key. O(log n).
+    /// Finds the first member whose key is `key`, and returns it. O(log n). It returns `None` if there is no such member.
     ///
     /// # Errors
     ///
-    /// [`Error::OutOfRange`] if there are fewer keys than places. [`Error::Broken`] if the root is none of this table.
+    /// [`Error::OutOfRange`] if there are fewer keys than places. [`Error::Broken`] if the root does not belong to this table.
     #[inline]
     pub fn find(&self, table: &[Link3], keys: &[u64], key: u64) -> Result<Option<u32>, Error> {
         let (links, places) = Link3::read_parts(table);
+        // SAFETY: each pointer comes from a reference, with the length of its slice, and no mutable reference overlaps another one.
         handed_out(|it| unsafe { ic_tree_find(links, places, keys.as_ptr(), keys.len(), &self.0, key, it) })
     }
 
-    /// The first member whose key is not less. O(log n).
+    /// Finds the first member whose key is not less than `key`, and returns it. O(log n). It returns `None` if there is no such member.
     ///
     /// # Errors
     ///
-    /// As [`find`](Self::find).
+    /// [`Error::OutOfRange`] if there are fewer keys than places. [`Error::Broken`] if the root does not belong to this table.
     #[inline]
     pub fn lower_bound(&self, table: &[Link3], keys: &[u64], key: u64) -> Result<Option<u32>, Error> {
         let (links, places) = Link3::read_parts(table);
+        // SAFETY: each pointer comes from a reference, with the length of its slice, and no mutable reference overlaps another one.
         handed_out(|it| unsafe { ic_tree_lower_bound(links, places, keys.as_ptr(), keys.len(), &self.0, key, it) })
     }
 
-    /// The last member whose key is not greater, which is not what the `upper_bound` of C++ finds. O(log n).
+    /// Finds the LAST member whose key is NOT GREATER than `key`, and returns it. O(log n). The upper_bound of C++ finds another one, the
+    /// first member whose key is greater. Both bounds are named as in the Rust crate intrusive-collections: if there are members with keys
+    /// from `low` to `high`, the lower bound of `low` is the first of them, and the upper bound of `high` is the last. It returns `None` if
+    /// there is no such member.
     ///
     /// # Errors
     ///
-    /// As [`find`](Self::find).
+    /// [`Error::OutOfRange`] if there are fewer keys than places. [`Error::Broken`] if the root does not belong to this table.
     #[inline]
     pub fn upper_bound(&self, table: &[Link3], keys: &[u64], key: u64) -> Result<Option<u32>, Error> {
         let (links, places) = Link3::read_parts(table);
+        // SAFETY: each pointer comes from a reference, with the length of its slice, and no mutable reference overlaps another one.
         handed_out(|it| unsafe { ic_tree_upper_bound(links, places, keys.as_ptr(), keys.len(), &self.0, key, it) })
     }
+    // to here
 }
 
 /// Steps through a tree. A walk over all n members takes O(n).
@@ -232,7 +288,7 @@ impl Tree {
     /// [`Error::Broken`] if the root is none of this table.
     #[inline]
     pub fn first(&self, table: &[Link3]) -> Result<Option<u32>, Error> {
-        self.step(table, None, ic_tree_next)
+        Tree::next(self, table, None)
     }
 
     /// The last member. O(log n).
@@ -242,39 +298,39 @@ impl Tree {
     /// As [`first`](Self::first).
     #[inline]
     pub fn last(&self, table: &[Link3]) -> Result<Option<u32>, Error> {
-        self.step(table, None, ic_tree_prev)
+        Tree::prev(self, table, None)
     }
 
-    /// The member behind the member `at`. O(log n).
+    // tools/c-calls --write writes from here: tree-steps
+    /// Finds the member after the member `at`, or the first member if `at` is `None`, and returns it. O(log n). It returns `None` if `at`
+    /// is the last member, or the tree is empty.
     ///
     /// # Errors
     ///
-    /// [`Error::OutOfRange`] or [`Error::NotLinked`] of `at`. [`Error::Broken`] if the root is none of this table.
+    /// [`Error::OutOfRange`] if `at` is not below the table's length. [`Error::NotLinked`] if `at` is not linked. [`Error::Broken`] if the
+    /// root does not belong to this table.
     #[inline]
-    pub fn next(&self, table: &[Link3], at: u32) -> Result<Option<u32>, Error> {
-        self.step(table, Some(at), ic_tree_next)
-    }
-
-    /// The member in front of the member `at`. O(log n).
-    ///
-    /// # Errors
-    ///
-    /// As [`next`](Self::next).
-    #[inline]
-    pub fn prev(&self, table: &[Link3], at: u32) -> Result<Option<u32>, Error> {
-        self.step(table, Some(at), ic_tree_prev)
-    }
-
-    // The member beside a position. The call is one of the library's, `ic_tree_next` or `ic_tree_prev`.
-    #[inline]
-    fn step(&self, table: &[Link3], at: Option<u32>, call: Step) -> Result<Option<u32>, Error> {
+    pub fn next(&self, table: &[Link3], at: Option<u32>) -> Result<Option<u32>, Error> {
         let (links, places) = Link3::read_parts(table);
-        handed_out(|it| unsafe { call(links, places, &self.0, number(at), it) })
+        // SAFETY: each pointer comes from a reference, with the length of its slice, and no mutable reference overlaps another one.
+        handed_out(|it| unsafe { ic_tree_next(links, places, &self.0, number(at), it) })
     }
-}
 
-// A call that steps.
-type Step = unsafe extern "C" fn(*const ic_link3, usize, *const ic_tree, u32, *mut u32) -> u32;
+    /// Finds the member before the member `at`, or the last member if `at` is `None`, and returns it. O(log n). It returns `None` if `at`
+    /// is the first member, or the tree is empty.
+    ///
+    /// # Errors
+    ///
+    /// [`Error::OutOfRange`] if `at` is not below the table's length. [`Error::NotLinked`] if `at` is not linked. [`Error::Broken`] if the
+    /// root does not belong to this table.
+    #[inline]
+    pub fn prev(&self, table: &[Link3], at: Option<u32>) -> Result<Option<u32>, Error> {
+        let (links, places) = Link3::read_parts(table);
+        // SAFETY: each pointer comes from a reference, with the length of its slice, and no mutable reference overlaps another one.
+        handed_out(|it| unsafe { ic_tree_prev(links, places, &self.0, number(at), it) })
+    }
+    // to here
+}
 
 collection!(Tree, Link3);
 bidirectional!(Tree, Link3);
@@ -293,7 +349,7 @@ impl Collection for Tree {
 
     #[inline]
     fn next(&self, table: &[Link3], at: Option<u32>) -> Option<u32> {
-        self.step(table, at, ic_tree_next).unwrap_or(None)
+        Tree::next(self, table, at).unwrap_or(None)
     }
 
     #[inline]
@@ -320,7 +376,7 @@ impl Collection for Tree {
 impl Bidirectional for Tree {
     #[inline]
     fn prev(&self, table: &[Link3], at: Option<u32>) -> Option<u32> {
-        self.step(table, at, ic_tree_prev).unwrap_or(None)
+        Tree::prev(self, table, at).unwrap_or(None)
     }
 
     #[inline]

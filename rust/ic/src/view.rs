@@ -1,6 +1,7 @@
 //! What reads: a list or tree with its table, and the iterator over its members.
 
 use crate::collection::{Bidirectional, Collection, Position};
+use crate::link::member;
 use core::fmt;
 use core::iter::FusedIterator;
 
@@ -50,7 +51,13 @@ impl<'a, C: Collection> View<'a, C> {
     }
 }
 
-impl<C: Bidirectional> View<'_, C> {
+impl<'a, C: Bidirectional> View<'a, C> {
+    /// The iterator from one position to another, both included.
+    #[inline]
+    pub(crate) fn between(self, front: C::Position, back: C::Position) -> Iter<'a, C> {
+        Iter { view: self, front, back, left: self.table.len() }
+    }
+
     #[inline]
     pub(crate) fn prev(self, at: C::Position) -> C::Position {
         self.collection.prev(self.table, at)
@@ -120,10 +127,10 @@ pub struct Iter<'a, C: Collection> {
 }
 
 impl<C: Collection> Iter<'_, C> {
-    // Hands out the member at an end. At the last one, and at none, it ends from both ends.
+    // Hands out the member at an end. At the last one, at none, and at a place that is not linked, it ends from both ends.
     #[inline]
     fn hand_out(&mut self, end: C::Position) -> Option<u32> {
-        let member = end.place().filter(|_| self.left > 0);
+        let member = member(self.view.table, end.place().filter(|_| self.left > 0));
         let is_last = member.is_none() || self.front.place() == self.back.place();
         self.left = if is_last { 0 } else { self.left - 1 };
         member

@@ -2,7 +2,7 @@
 
 use crate::collection::{bidirectional, collection, Bidirectional, BidirectionalSplice, Collection, Position, Splice};
 use crate::error::{done, handed_out};
-use crate::link::{is_none, linked, number, place, within, Link};
+use crate::link::{is_none, linked, number, place, read, within, Link};
 use crate::{Cursor, CursorMut, Error, Iter, Link1, View};
 use core::{fmt, mem};
 use ic_sys::*;
@@ -39,16 +39,30 @@ use ic_sys::*;
 ///
 /// Dropping the list leaves its members linked. A clone of it belongs to a clone of the table.
 #[repr(transparent)]
-#[derive(Clone, Default)]
+#[derive(Clone, Default, PartialEq, Eq)]
 pub struct XorList(pub(crate) ic_xor_list);
 
-// Each call below is sound, for the reason that `List` has.
 impl XorList {
     /// A list with no members. O(1).
     #[inline]
     #[must_use]
     pub const fn new() -> XorList {
         XorList(ic_xor_list { head: 0, tail: 0 })
+    }
+
+    /// The list that has these words, which may be any, as of a file. No call tells
+    /// whether a table holds an XOR list.
+    #[inline]
+    #[must_use]
+    pub const fn from_words([head, tail]: [u64; 2]) -> XorList {
+        XorList(ic_xor_list { head, tail })
+    }
+
+    /// The words of the list, to be written to a file. They hold no addresses.
+    #[inline]
+    #[must_use]
+    pub const fn words(&self) -> [u64; 2] {
+        [self.0.head, self.0.tail]
     }
 
     /// Whether it has no members. O(1).
@@ -72,56 +86,71 @@ impl XorList {
         place(self.0.tail)
     }
 
-    /// Links a place at the front. O(1).
+    /// The neighbor of the member `at` on the other side than its neighbor `from`, which is `None` at an end. O(1). It returns `None` if `at` is not
+    /// linked or is not in the table, and if the link there leads out of the table.
+    #[inline]
+    #[must_use]
+    pub fn step(&self, table: &[Link1], from: Option<u32>, at: u32) -> Option<u32> {
+        read(table, at, |link: &Link1| link.step(from))
+    }
+
+    // tools/c-calls --write writes from here: xor
+    /// Inserts `place` at the front. O(1).
     ///
     /// # Errors
     ///
-    /// [`Error::OutOfRange`] or [`Error::Linked`] of `place`. [`Error::Broken`] if the first member is none of this table.
+    /// [`Error::OutOfRange`] if `place` is not below the table's length. [`Error::Linked`] if `place` is linked already. [`Error::Broken`]
+    /// if the first member does not belong to this table.
     #[inline]
     pub fn push_front(&mut self, table: &mut [Link1], place: u32) -> Result<(), Error> {
         let (links, places) = Link1::parts(table);
+        // SAFETY: each pointer comes from a reference, with the length of its slice, and no mutable reference overlaps another one.
         done(unsafe { ic_xor_push_front(links, places, &mut self.0, place) })
     }
 
-    /// Links a place at the back. O(1).
+    /// Inserts `place` at the back. O(1).
     ///
     /// # Errors
     ///
-    /// [`Error::OutOfRange`] or [`Error::Linked`] of `place`. [`Error::Broken`] if the last member is none of this table.
+    /// [`Error::OutOfRange`] if `place` is not below the table's length. [`Error::Linked`] if `place` is linked already. [`Error::Broken`]
+    /// if the last member does not belong to this table.
     #[inline]
     pub fn push_back(&mut self, table: &mut [Link1], place: u32) -> Result<(), Error> {
         let (links, places) = Link1::parts(table);
+        // SAFETY: each pointer comes from a reference, with the length of its slice, and no mutable reference overlaps another one.
         done(unsafe { ic_xor_push_back(links, places, &mut self.0, place) })
     }
 
-    /// Unlinks the first member and returns it, or `None` if there are no members. O(1).
+    /// Removes the first member, and returns it. O(1). It returns `None` if the list is empty.
     ///
     /// # Errors
     ///
-    /// [`Error::Broken`], or another one, if the first member is none of this table.
+    /// [`Error::Broken`] if the first member does not belong to this table.
     #[inline]
     pub fn pop_front(&mut self, table: &mut [Link1]) -> Result<Option<u32>, Error> {
         let (links, places) = Link1::parts(table);
+        // SAFETY: each pointer comes from a reference, with the length of its slice, and no mutable reference overlaps another one.
         handed_out(|it| unsafe { ic_xor_pop_front(links, places, &mut self.0, it) })
     }
 
-    /// Unlinks the last member and returns it, or `None` if there are no members. O(1).
+    /// Removes the last member, and returns it. O(1). It returns `None` if the list is empty.
     ///
     /// # Errors
     ///
-    /// [`Error::Broken`], or another one, if the last member is none of this table.
+    /// [`Error::Broken`] if the last member does not belong to this table.
     #[inline]
     pub fn pop_back(&mut self, table: &mut [Link1]) -> Result<Option<u32>, Error> {
         let (links, places) = Link1::parts(table);
+        // SAFETY: each pointer comes from a reference, with the length of its slice, and no mutable reference overlaps another one.
         handed_out(|it| unsafe { ic_xor_pop_back(links, places, &mut self.0, it) })
     }
 
-    /// Links a place in the gap between `before` and `behind`. O(1).
+    /// Inserts `place` in the gap between the members `before` and `behind`. O(1).
     ///
     /// # Errors
     ///
-    /// [`Error::OutOfRange`] of one of the three. [`Error::Linked`] of `place`. [`Error::NotLinked`] of a neighbor. [`Error::Broken`] if there
-    /// is no such gap.
+    /// [`Error::OutOfRange`] if `before`, `place`, or `behind` is not below the table's length. [`Error::Linked`] if `place` is linked
+    /// already. [`Error::NotLinked`] if `before` or `behind` is not linked. [`Error::Broken`] if there is no such gap.
     #[inline]
     pub fn insert_between(
         &mut self,
@@ -131,39 +160,45 @@ impl XorList {
         behind: Option<u32>,
     ) -> Result<(), Error> {
         let (links, places) = Link1::parts(table);
+        // SAFETY: each pointer comes from a reference, with the length of its slice, and no mutable reference overlaps another one.
         done(unsafe { ic_xor_insert_between(links, places, &mut self.0, number(before), place, number(behind)) })
     }
 
-    /// Unlinks the member `at`, whose neighbor in front is `before`. O(1).
+    /// Removes the member `at`. O(1). The member before it is `before`, or `None` if `at` is the first member.
     ///
     /// # Errors
     ///
-    /// [`Error::OutOfRange`] or [`Error::NotLinked`] of `before` or `at`. [`Error::Null`] if `at` is `u32::MAX`. [`Error::Broken`] if they are
-    /// no such members.
+    /// [`Error::Null`] if `at` is `u32::MAX`. [`Error::OutOfRange`] if `before` or `at` is not below the table's length.
+    /// [`Error::NotLinked`] if `before` or `at` is not linked. [`Error::Broken`] if there are no two such members.
     #[inline]
     pub fn remove(&mut self, table: &mut [Link1], before: Option<u32>, at: u32) -> Result<(), Error> {
         let (links, places) = Link1::parts(table);
+        // SAFETY: each pointer comes from a reference, with the length of its slice, and no mutable reference overlaps another one.
         done(unsafe { ic_xor_remove(links, places, &mut self.0, number(before), at) })
     }
 
-    /// Links a place where the member `at` is, whose neighbor in front is `before`. The member is unlinked. O(1).
+    /// Removes the member `at`, and inserts `place` where it was. O(1). The member before `at` is `before`, or `None` if `at` is the first
+    /// member.
     ///
     /// # Errors
     ///
-    /// [`Error::OutOfRange`] of one of the three. [`Error::Linked`] of `place`. [`Error::NotLinked`] of `before` or `at`. [`Error::Null`] if
-    /// `at` is `u32::MAX`. [`Error::Broken`] if they are no such members.
+    /// [`Error::Null`] if `at` is `u32::MAX`. [`Error::OutOfRange`] if `before`, `at`, or `place` is not below the table's length.
+    /// [`Error::Linked`] if `place` is linked already, as it is if `at` and `place` are the same. [`Error::NotLinked`] if `before` or `at`
+    /// is not linked. [`Error::Broken`] if there are no two such members.
     #[inline]
     pub fn replace(&mut self, table: &mut [Link1], before: Option<u32>, at: u32, place: u32) -> Result<(), Error> {
         let (links, places) = Link1::parts(table);
+        // SAFETY: each pointer comes from a reference, with the length of its slice, and no mutable reference overlaps another one.
         done(unsafe { ic_xor_replace(links, places, &mut self.0, number(before), at, place) })
     }
 
-    /// Moves all members of `given`, in their order, into the gap between `before` and `behind`. O(1). `given` is empty then.
+    /// Moves all members of `given`, in their order, into the gap between the members `before` and `behind`. O(1). Then `given` is empty.
     ///
     /// # Errors
     ///
-    /// [`Error::OutOfRange`] or [`Error::NotLinked`] of a neighbor. [`Error::Broken`] if there is no such gap, or `given` is no list of this
-    /// table.
+    /// [`Error::OutOfRange`] if `before` or `behind` is not below the table's length. [`Error::NotLinked`] if `before` or `behind` is not
+    /// linked. [`Error::Broken`] if there is no such gap, or `given` is no list of this table, or both lists begin with the same member, as
+    /// a list and its copy do.
     #[inline]
     pub fn splice_between(
         &mut self,
@@ -173,49 +208,57 @@ impl XorList {
         behind: Option<u32>,
     ) -> Result<(), Error> {
         let (links, places) = Link1::parts(table);
+        // SAFETY: each pointer comes from a reference, with the length of its slice, and no mutable reference overlaps another one.
         done(unsafe { ic_xor_splice_between(links, places, &mut self.0, number(before), &mut given.0, number(behind)) })
     }
 
-    /// Moves all members of `given`, in their order, to the back. O(1). `given` is empty then.
+    /// Moves all members of `given`, in their order, to the back. O(1). Then `given` is empty.
     ///
     /// # Errors
     ///
-    /// [`Error::Broken`] if an end of either list is none of this table.
+    /// [`Error::Broken`] if an end of one of the lists does not belong to this table, or both lists begin with the same member, as a list
+    /// and its copy do.
     #[inline]
     pub fn append(&mut self, table: &mut [Link1], given: &mut XorList) -> Result<(), Error> {
         let (links, places) = Link1::parts(table);
+        // SAFETY: each pointer comes from a reference, with the length of its slice, and no mutable reference overlaps another one.
         done(unsafe { ic_xor_append(links, places, &mut self.0, &mut given.0) })
     }
 
-    /// Links `count` places, `first` and those behind it, and puts them at the back in the order of their numbers. O(count). With `count` 0 it changes
-    /// nothing.
+    /// Inserts `count` places, `first` and those after it, at the back in the order of their numbers. O(count). If `count` is 0, nothing
+    /// changes.
     ///
     /// # Errors
     ///
-    /// [`Error::OutOfRange`] or [`Error::Linked`] of the first of these places that is. [`Error::Broken`] if the last member is none of
-    /// this table.
+    /// [`Error::OutOfRange`] if the first of these places that the call refuses is not below the table's length. [`Error::Linked`] if the
+    /// first of these places that the call refuses is linked already. [`Error::Broken`] if the last member does not belong to this table.
     #[inline]
     pub fn fill(&mut self, table: &mut [Link1], first: u32, count: u32) -> Result<(), Error> {
         let (links, places) = Link1::parts(table);
+        // SAFETY: each pointer comes from a reference, with the length of its slice, and no mutable reference overlaps another one.
         done(unsafe { ic_xor_fill(links, places, &mut self.0, first, count) })
     }
 
-    /// Unlinks all members. O(n).
+    /// Removes all members. O(n).
     ///
     /// # Errors
     ///
-    /// [`Error::Broken`] if an end of the list is none of this table, or the links do not lead from one end to the other.
+    /// [`Error::Broken`] if an end of the list does not belong to this table, or the links do not lead from one end to the other within as
+    /// many steps as the table has places.
     #[inline]
     pub fn clear(&mut self, table: &mut [Link1]) -> Result<(), Error> {
         let (links, places) = Link1::parts(table);
+        // SAFETY: each pointer comes from a reference, with the length of its slice, and no mutable reference overlaps another one.
         done(unsafe { ic_xor_clear(links, places, &mut self.0) })
     }
 
-    /// Hands out the members from `behind` on as a list, so that `before` is the last member. O(1).
+    /// Moves the members from `behind` on to a new list, which it returns, so that `before` becomes the last member. O(1). All members move
+    /// if `before` is `None`, and none if `behind` is `None`.
     ///
     /// # Errors
     ///
-    /// [`Error::OutOfRange`] or [`Error::NotLinked`] of a neighbor. [`Error::Broken`] if there is no such gap.
+    /// [`Error::OutOfRange`] if `before` or `behind` is not below the table's length. [`Error::NotLinked`] if `before` or `behind` is not
+    /// linked. [`Error::Broken`] if there is no such gap.
     #[inline]
     pub fn split_between(
         &mut self,
@@ -224,15 +267,18 @@ impl XorList {
         behind: Option<u32>,
     ) -> Result<XorList, Error> {
         let ((links, places), mut rest) = (Link1::parts(table), XorList::new());
+        // SAFETY: each pointer comes from a reference, with the length of its slice, and no mutable reference overlaps another one.
         done(unsafe { ic_xor_split_between(links, places, &mut self.0, number(before), number(behind), &mut rest.0) })?;
         Ok(rest)
     }
 
-    /// Reverses the list. O(1).
+    /// Reverses the list. O(1). The call reads and writes no table, and is never refused.
     #[inline]
     pub fn reverse(&mut self) {
+        // SAFETY: each pointer comes from a reference, with the length of its slice, and no mutable reference overlaps another one.
         unsafe { ic_xor_reverse(&mut self.0) };
     }
+    // to here
 }
 
 collection!(XorList, Link1);
@@ -354,7 +400,7 @@ impl Beside {
 // The neighbor of a member on the other side than `from`.
 #[inline]
 fn beyond(table: &[Link1], from: Option<u32>, at: u32) -> Option<u32> {
-    within(table, table.get(at as usize)?.step(from))
+    read(table, at, |link: &Link1| link.step(from))
 }
 
 impl Collection for XorList {

@@ -57,11 +57,14 @@ fn tree_steps() {
     let tree = by_keys(&mut links, [0, 1, 2, 3]);
     assert_eq!((tree.first(&links), tree.last(&links)), (Ok(Some(1)), Ok(Some(2))));
     for pair in [1, 3, 0, 2].windows(2) {
-        assert_eq!((tree.next(&links, pair[0]), tree.prev(&links, pair[1])), (Ok(Some(pair[1])), Ok(Some(pair[0]))));
+        assert_eq!(
+            (tree.next(&links, Some(pair[0])), tree.prev(&links, Some(pair[1]))),
+            (Ok(Some(pair[1])), Ok(Some(pair[0])))
+        );
     }
-    assert_eq!((tree.prev(&links, 1), tree.next(&links, 2)), (Ok(None), Ok(None)));
-    assert_eq!(tree.next(&links, 4), Err(Error::NotLinked));
-    assert_eq!(tree.prev(&links, 8), Err(Error::OutOfRange));
+    assert_eq!((tree.prev(&links, Some(1)), tree.next(&links, Some(2))), (Ok(None), Ok(None)));
+    assert_eq!(tree.next(&links, Some(4)), Err(Error::NotLinked));
+    assert_eq!(tree.prev(&links, Some(8)), Err(Error::OutOfRange));
     assert_eq!(Tree::new().first(&links), Ok(None));
     assert_eq!(Tree::new().last(&[]), Ok(None));
 }

@@ -1,0 +1,205 @@
+//! Trees by keys and by comparisons: insertions by a comparison of yours, ranges of keys, and entries.
+
+use crate::cursor::CursorMut;
+use crate::link::member;
+use crate::view::Iter;
+use crate::{Error, Link3, Tree};
+use core::cmp::Ordering;
+use core::fmt;
+use core::ops::{Bound, RangeBounds};
+
+/// What there is in a tree for a key: a member, or a gap where a place with this key belongs. [`Tree::entry`] returns it.
+///
+/// ```
+/// use ic::{Entry, Error, Link3, Tree};
+///
+/// let keys = [30, 10, 20, 10];
+/// let mut links = [Link3::UNLINKED; 4];
+/// let mut tree = Tree::new();
+/// for place in 0..4 {
+///     match tree.entry(&mut links, &keys, keys[place as usize])? {
+///         Entry::Vacant(gap) => assert_eq!(gap.insert(place)?.get(), Some(place)),
+///         Entry::Occupied(member) => assert_eq!((place, member.get()), (3, Some(1))), // they have the same key
+///     }
+/// }
+/// assert!(tree.iter(&links).eq([1, 2, 0]));
+/// assert_eq!(tree.entry(&mut links, &keys, 10)?.or_insert(3)?.get(), Some(1));
+/// # Ok::<(), Error>(())
+/// ```
+#[derive(Debug)]
+pub enum Entry<'a> {
+    /// A cursor on the first member with the key.
+    Occupied(CursorMut<'a, Tree>),
+    /// The gap where a place with the key belongs, because no member has it.
+    Vacant(VacantEntry<'a>),
+}
+
+impl<'a> Entry<'a> {
+    /// A cursor on the member with the key. If there is none, the call first inserts `place`, whose key has to be this one. O(log n).
+    ///
+    /// # Errors
+    ///
+    /// As [`VacantEntry::insert`].
+    #[inline]
+    pub fn or_insert(self, place: u32) -> Result<CursorMut<'a, Tree>, Error> {
+        self.or_insert_with(|| place)
+    }
+
+    /// A cursor on the member with the key. If there is none, the call first inserts the place that `make` returns, whose key has to be this one.
+    /// O(log n).
+    ///
+    /// # Errors
+    ///
+    /// As [`VacantEntry::insert`].
+    #[inline]
+    pub fn or_insert_with(self, make: impl FnOnce() -> u32) -> Result<CursorMut<'a, Tree>, Error> {
+        match self {
+            Entry::Occupied(cursor) => Ok(cursor),
+            Entry::Vacant(gap) => gap.insert(make()),
+        }
+    }
+}
+
+/// The gap of a tree where a place with a key belongs. It borrows the tree together with its table.
+pub struct VacantEntry<'a> {
+    tree: &'a mut Tree,
+    table: &'a mut [Link3],
+    gap: Gap,
+}
+
+impl<'a> VacantEntry<'a> {
+    /// Inserts `place` in the gap, and returns a cursor on it. O(log n). The call compares nothing, so hand in a place with the entry's key.
+    ///
+    /// # Errors
+    ///
+    /// [`Error::OutOfRange`] if `place` is not below the table's length. [`Error::Linked`] if `place` is linked already. [`Error::Broken`] if the
+    /// table and the tree do not belong together.
+    pub fn insert(self, place: u32) -> Result<CursorMut<'a, Tree>, Error> {
+        self.gap.insert(self.tree, self.table, place)?;
+        Ok(CursorMut::new(self.tree, self.table, Some(place)))
+    }
+}
+
+impl fmt::Debug for VacantEntry<'_> {
+    fn fmt(&self, f: &mut fmt::Formatter<'_>) -> fmt::Result {
+        f.debug_tuple("VacantEntry").field(&self.gap.under).finish()
+    }
+}
+
+/// Where a way down from the root ends: under a member, on one of its sides, or at the root of an empty tree.
+#[derive(Clone, Copy)]
+struct Gap {
+    under: Option<u32>,
+    is_left: bool,
+}
+
+impl Gap {
+    /// Goes down to the left of each member for which `goes_left` returns true, and to the right of the others.
+    fn find(tree: &Tree, table: &[Link3], mut goes_left: impl FnMut(u32) -> bool) -> Gap {
+        let mut gap = Gap { under: None, is_left: true };
+        let mut at = member(table, tree.root());
+        for _ in 0..table.len() {
+            let Some(place) = at else { break };
+            gap = Gap { under: at, is_left: goes_left(place) };
+            let child = if gap.is_left { tree.left(table, place) } else { tree.right(table, place) };
+            at = member(table, child);
+        }
+        gap
+    }
+
+    fn insert(self, tree: &mut Tree, table: &mut [Link3], place: u32) -> Result<(), Error> {
+        if self.is_left {
+            tree.insert_left(table, self.under, place)
+        } else {
+            tree.insert_right(table, self.under, place)
+        }
+    }
+}
+
+/// Ranges, entries and comparisons.
+impl Tree {
+    /// Inserts `place` by a comparison of yours, after all members that are not greater. O(log n). The call hands `place` to `compare` first, and
+    /// then a member.
+    ///
+    /// ```
+    /// # use ic::{Error, Link3, Tree};
+    /// let names = ["oak", "ash", "elm"];
+    /// let (mut links, mut tree) = ([Link3::UNLINKED; 3], Tree::new());
+    /// for place in 0..3 {
+    ///     tree.insert_by(&mut links, place, |one, other| names[one as usize].cmp(names[other as usize]))?;
+    /// }
+    /// assert!(tree.iter(&links).map(|place| names[place as usize]).eq(["ash", "elm", "oak"]));
+    /// # Ok::<(), Error>(())
+    /// ```
+    ///
+    /// # Errors
+    ///
+    /// [`Error::OutOfRange`] if `place` is not below the table's length: then the call compares nothing. [`Error::Linked`] if `place` is linked
+    /// already. [`Error::Broken`] if the root does not belong to this table, or the way down from it does not end.
+    pub fn insert_by(
+        &mut self,
+        table: &mut [Link3],
+        place: u32,
+        mut compare: impl FnMut(u32, u32) -> Ordering,
+    ) -> Result<(), Error> {
+        if place as usize >= table.len() {
+            return Err(Error::OutOfRange);
+        }
+        let gap = Gap::find(self, table, |member| compare(place, member) == Ordering::Less);
+        gap.insert(self, table, place)
+    }
+
+    /// Iterates over the members whose keys are in a range, in order. O(log n), and O(n) for a walk over all. There are none if the range ends before
+    /// it starts.
+    ///
+    /// ```
+    /// # use ic::{Error, Link3, Tree};
+    /// let deadlines = [30, 10, 20, 40];
+    /// let (mut links, mut tree) = ([Link3::UNLINKED; 4], Tree::new());
+    /// for place in 0..4 {
+    ///     tree.insert(&mut links, &deadlines, place)?;
+    /// }
+    /// assert!(tree.range(&links, &deadlines, 15..40)?.eq([2, 0]));
+    /// assert!(tree.range(&links, &deadlines, 20..)?.rev().eq([3, 0, 2]));
+    /// # Ok::<(), Error>(())
+    /// ```
+    ///
+    /// # Errors
+    ///
+    /// [`Error::OutOfRange`] if there are fewer keys than places. [`Error::Broken`] if the root does not belong to this table.
+    pub fn range<'a>(
+        &'a self,
+        table: &'a [Link3],
+        keys: &[u64],
+        range: impl RangeBounds<u64>,
+    ) -> Result<Iter<'a, Tree>, Error> {
+        let first = match range.start_bound() {
+            Bound::Unbounded => Some(0),
+            Bound::Included(&key) => Some(key),
+            Bound::Excluded(&key) => key.checked_add(1),
+        };
+        let last = match range.end_bound() {
+            Bound::Unbounded => Some(u64::MAX),
+            Bound::Included(&key) => Some(key),
+            Bound::Excluded(&key) => key.checked_sub(1),
+        };
+        let (Some(first), Some(last)) = (first, last) else { return Ok(self.view(table).between(None, None)) };
+        let (front, back) = (self.lower_bound(table, keys, first)?, self.upper_bound(table, keys, last)?);
+        let key = |place: Option<u32>| place.and_then(|place| keys.get(place as usize));
+        let has_any = key(front).zip(key(back)).is_some_and(|(front, back)| front <= back);
+        Ok(if has_any { self.view(table).between(front, back) } else { self.view(table).between(None, None) })
+    }
+
+    /// Finds the first member with a key, or the gap where a place with this key belongs. O(log n). See [`Entry`].
+    ///
+    /// # Errors
+    ///
+    /// [`Error::OutOfRange`] if there are fewer keys than places. [`Error::Broken`] if the root does not belong to this table.
+    pub fn entry<'a>(&'a mut self, table: &'a mut [Link3], keys: &[u64], key: u64) -> Result<Entry<'a>, Error> {
+        if let Some(member) = self.find(table, keys, key)? {
+            return Ok(Entry::Occupied(CursorMut::new(self, table, Some(member))));
+        }
+        let gap = Gap::find(self, table, |member| keys.get(member as usize).is_some_and(|&other| key < other));
+        Ok(Entry::Vacant(VacantEntry { tree: self, table, gap }))
+    }
+}

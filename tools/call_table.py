@@ -1,0 +1,133 @@
+"""The table of the calls for C, crates/ic_ffi/calls.txt, with the signatures and the contracts of crates/ic_ffi."""
+
+import collections
+import re
+
+from checks import ROOT
+
+CRATE = ROOT / "crates/ic_ffi"
+TABLE = CRATE / "calls.txt"
+# A row of the table together with the call's arguments and the clauses of its contract.
+Call = collections.namedtuple("Call", "name family group args roles cost what null broken clauses")
+# An argument: its name, the type of its value or of its elements, whether it is written, and whether it is one value, one that is borrowed,
+# or a slice.
+Arg = collections.namedtuple("Arg", "name type is_mut form")
+
+SIGNATURE = re.compile(r'pub extern "C" fn (\w+)\((.*?)\) -> u32\n((?:    [^\n]*\n)*)\{', re.S)
+ROW = re.compile(r"^(ic_(\w+?)_\w+)\(([^)]*)\) (O\(.+\))\n    (.*)\n(?:    NULL: (.*)\n)?(?:    BROKEN: (.*)\n)?", re.M)
+GROUP = re.compile(r"^\[([\w-]+)\]\n((?:(?!\[).*\n?)*)", re.M)
+ROLES = ("new", "run", "member", "ring", "gap")
+# The arguments by which a call hands a number out.
+OUT = ("popped", "removed", "replaced", "found", "members")
+STATUSES = ("NULL", "OUT_OF_RANGE", "LINKED", "NOT_LINKED", "BROKEN")
+# What a fault of a contract's clause `why` may make of the status.
+FAULTS = {"fault_at": {"OUT_OF_RANGE", "NOT_LINKED"}, "fault_of": {"OUT_OF_RANGE", "LINKED"}, "run_faults": {"OUT_OF_RANGE", "LINKED"},
+          "keys_fault": {"OUT_OF_RANGE"}, "buckets_fault": {"OUT_OF_RANGE"}}
+
+
+def argument(words):
+    name, kind = (it.strip() for it in words.split(":", 1))
+    borrowed = re.match(r"&(mut )?(\[)?(\w+)", kind)
+    if not borrowed:
+        return Arg(name, kind, False, "value")
+    return Arg(name, borrowed[3], bool(borrowed[1]), "slice" if borrowed[2] else "one")
+
+
+def signatures():
+    """The arguments of each call, and the clauses of its contract by their names."""
+    found = {}
+    for file in sorted((CRATE / "src").glob("*_calls.rt")):
+        for name, words, contract in SIGNATURE.findall(file.read_text()):
+            clauses = re.findall(r"^    ensures (\w+) \{(.*?)\}\n(?=    ensures|\Z)", contract, re.M | re.S)
+            found[name] = [argument(it) for it in words.split(",") if it.strip()], dict(clauses)
+    return found
+
+
+def rows():
+    """The calls in the order of the table, and what is wrong with the table."""
+    of, calls, wrong = signatures(), [], []
+    text = re.sub(r"^#.*\n", "", TABLE.read_text(), flags=re.M)
+    for group, part in GROUP.findall(text):
+        for name, family, roles, cost, what, null, broken in ROW.findall(part):
+            if name not in of:
+                wrong.append(f"{name} has a row, and crates/ic_ffi has no such call")
+                continue
+            args, clauses = of.pop(name)
+            roles = dict(it.split(": ") for it in roles.split(", ") if it)
+            calls.append(Call(name, family, group, args, roles, cost, what, null, broken, clauses))
+        rest = ROW.sub("", part).strip()
+        if rest:
+            wrong.append(f"crates/ic_ffi/calls.txt: this is no row: {rest.splitlines()[0]}")
+    return calls, wrong + [f"{name} has no row in crates/ic_ffi/calls.txt" for name in of]
+
+
+def names(call, *roles):
+    return [name for name, role in call.roles.items() if role in roles]
+
+
+def has(call, name):
+    return any(arg.name == name for arg in call.args)
+
+
+def listed(words, joined):
+    return f", {joined} ".join([", ".join(words[:-1]), words[-1]]) if len(words) > 2 else f" {joined} ".join(words)
+
+
+def refusals(call, none, length):
+    """The statuses of a call other than OK, each with a sentence that says when the call returns it. `none` is how a language names no place, and
+    `length` how it names the length of the table."""
+    quoted = lambda *roles: listed([f"`{name}`" for name in names(call, *roles)], "or")
+    when = {status: [] for status in STATUSES}
+    if names(call, "member", "ring"):
+        when["NULL"].append(f"{quoted('member', 'ring')} is {none}")
+    when["NULL"] += [call.null] * bool(call.null)
+    when["OUT_OF_RANGE"] += ["there are fewer keys than places"] * has(call, "keys") + ["there is no bucket"] * has(call, "buckets")
+    if names(call, "new", "member", "ring", "gap"):
+        when["OUT_OF_RANGE"].append(f"{quoted('new', 'member', 'ring', 'gap')} is not below {length}")
+    if names(call, "run"):
+        when["OUT_OF_RANGE"].append(f"the first of these places that the call refuses is not below {length}")
+        when["LINKED"].append("the first of these places that the call refuses is linked already")
+    if names(call, "new"):
+        same = [f"`{at}` and `{new}` are the same" for at in names(call, "member", "ring") for new in names(call, "new")]
+        when["LINKED"].append(f"{quoted('new')} is linked already" + f", as it is if {' or '.join(same)}" * bool(same))
+    if names(call, "member", "ring", "gap"):
+        when["NOT_LINKED"].append(f"{quoted('member', 'ring', 'gap')} is not linked")
+    when["BROKEN"] += [call.broken] * bool(call.broken)
+    return {status: ", or ".join(reasons) for status, reasons in when.items() if reasons}
+
+
+def contract_roles(call):
+    """The places that the contract calls members that are named or may be none, places to insert, first places of runs, and those without which
+    it returns NULL."""
+    why, null = call.clauses.get("why", ""), call.clauses.get("null", "") + call.clauses.get("none", "") * ("≡ 4" in call.clauses.get("none", ""))
+    return (set(re.findall(r"\bfault_at table\.\w+ \(place_of (\w+)\)", why)), set(re.findall(r"\bfault_of table\.\w+ \(place_of (\w+)\)", why)),
+            set(re.findall(r"\brun_faults \([^)]*\) (\w+) count", why)), set(re.findall(r"place_of (\w+) ≡ None", null)))
+
+
+def contract_statuses(call):
+    """The statuses other than OK that the contract leaves open. The clause `ok` says that a call is never refused, and `opened` that it accepts
+    each free place."""
+    if "ok" in call.clauses:
+        return set()
+    why = call.clauses.get("why", "")
+    found = set().union(*(statuses for fault, statuses in FAULTS.items() if re.search(rf"\b{fault}\b", why)))
+    found |= {"NULL"} if re.search(r"result ≢ (?:4|NULL)\b", why) else set()
+    return found | (set() if "opened" in call.clauses else {"BROKEN"})
+
+
+def faults(call):
+    """What the row says otherwise than the contract."""
+    for name, role in call.roles.items():
+        if role not in ROLES or not has(call, name):
+            yield f"{call.name}: its row gives `{name}` the role {role}, which is no role or no argument's"
+    gaps, new, run, needed = contract_roles(call)
+    seen = {"gap, member or ring": (set(names(call, "gap", "member", "ring")), gaps), "new": (set(names(call, "new")), new),
+            "run": (set(names(call, "run")), run)}
+    for role, (row, contract) in seen.items():
+        for name in sorted(row ^ contract):
+            yield f"{call.name}: {'its row' if name in row else 'its contract'} alone gives `{name}` the role {role}"
+    for name in sorted(set(names(call, "member", "ring")) - needed):
+        yield f"{call.name}: its contract does not say that it returns NULL of no place `{name}`"
+    row, contract = set(refusals(call, "", "")), contract_statuses(call)
+    for status in sorted(row ^ contract):
+        yield f"{call.name}: {'its row' if status in row else 'its contract'} alone names {status}"

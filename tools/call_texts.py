@@ -1,0 +1,229 @@
+"""What the header and the bindings have of a call of the library for C, in C, Rust, JavaScript and TypeScript."""
+
+import re
+import textwrap
+
+from call_table import OUT, has, refusals
+
+# The types of the numbers, and of lengths, in C and in Rust. A slice is handed as a pointer and a length.
+NUMBERS = {"u32": ("uint32_t", "u32"), "u64": ("uint64_t", "u64")}
+LENGTH = ("size_t", "usize")
+STRUCTS = {"RawOne": "ic_link1", "RawTwo": "ic_link2", "RawThree": "ic_link3", "RawFront": "ic_stack", "RawEnds": "ic_list", "RawRoot": "ic_tree"}
+COUNTS = {"table": "places", "keys": "key_count", "buckets": "bucket_count"}
+# The classes and types of the bindings, and how many words a link of each kind has.
+CLASSES = {"list": "List", "stack": "Stack", "xor": "XorList", "tree": "Tree", "ring": "Ring", "hash": "HashTable"}
+LINKS = {"list": 2, "ring": 2, "stack": 1, "hash": 1, "xor": 1, "tree": 3}
+SELF = ("list", "tree")
+ERRORS = {"NULL": "Null", "OUT_OF_RANGE": "OutOfRange", "LINKED": "Linked", "NOT_LINKED": "NotLinked", "BROKEN": "Broken"}
+# How many columns a line of comments, of C and of Rust has at most.
+COMMENT, C_LINE, RUST_LINE = 140, 142, 120
+SAFETY = "// SAFETY: each pointer comes from a reference, with the length of its slice, and no mutable reference overlaps another one."
+
+
+def sentences(call, words):
+    """What the call does, with its cost behind the first sentence. `words` has what the table writes in braces."""
+    first, _, rest = call.what.partition(". ")
+    text = f"{first.rstrip('.')}. {call.cost}." + f" {rest}" * bool(rest)
+    return re.sub(r"\{(\w+)\}", lambda word: words[word[1]], text)
+
+
+def broken(call, words):
+    return call._replace(broken=call.broken and re.sub(r"\{(\w+)\}", lambda word: words[word[1]], call.broken))
+
+
+def outcome(call):
+    """What a call hands out besides its status: a list, a count, a member in place of which there may be none, or nothing."""
+    out = [arg.name for arg in call.args if arg.name in OUT]
+    return "rest" if has(call, "rest") else out[0] if out else None
+
+
+def short(call):
+    return call.name.split("_", 2)[2]
+
+
+def free(call):
+    """The arguments that a method has besides the table, the list and what it hands out."""
+    return [arg for arg in call.args if arg.name not in ("table", "rest", *SELF, *OUT)]
+
+
+# ---- C ----
+
+
+def c_arguments(call):
+    """The arguments in C: whether what a pointer leads to is const, the type in C and in Rust, whether it is a pointer, and the name."""
+    same = "table.new ≡ table.old" == call.clauses.get("same", "").strip()
+    for arg in call.args:
+        struct = STRUCTS.get(arg.type, "").replace("ic_list", "ic_xor_list" if call.family == "xor" else "ic_list")
+        kinds = NUMBERS.get(arg.type) or (f"struct {struct}", struct)
+        is_const = arg.form != "value" and (not arg.is_mut or arg.name == "table" and same)
+        yield is_const, kinds, arg.form != "value", arg.name
+        if arg.form == "slice":
+            yield False, LENGTH, False, COUNTS[arg.name]
+
+
+def commented(lines, begin, middle, end):
+    return begin + f"\n{middle}".join(lines) + end + "\n"
+
+
+def header(call):
+    """The prototype with its comment."""
+    out = outcome(call)
+    words = {"none": "IC_NONE", "self": "`list`", "rest": "`rest`, which has to be empty", "rest_has": ", or `rest` has members",
+             "accepted": "the status is IC_OK", "out": f"sets *{out} to it"}
+    words["out"] = {"members": "sets *members to how many there are", "replaced": "sets *replaced to the removed member"}.get(out, words["out"])
+    lines = textwrap.wrap(sentences(call, words), COMMENT - 3)
+    said = refusals(broken(call, words), "IC_NONE", "`places`")
+    lines += textwrap.wrap(" ".join(f"IC_{status}: {when}." for status, when in said.items()), COMMENT - 3)
+    head, parts = f"uint32_t {call.name}(", []
+    for is_const, (kind, _), is_pointer, name in c_arguments(call):
+        parts.append(f"{'const ' * is_const}{kind} {'*' * is_pointer}{name}".replace(" ", "\0"))
+    prototype = textwrap.wrap(", ".join(parts), C_LINE - len(head), break_long_words=False)
+    prototype = head + ("\n" + " " * len(head)).join(prototype).replace("\0", " ") + ");\n"
+    return commented(lines, "/* ", " * ", " */") + "IC_NODISCARD\n" * bool(said) + prototype
+
+
+# ---- Rust ----
+
+
+def extern(call):
+    """The declaration in ic-sys."""
+    parts = [f"{name}: " + f"*{'const' if is_const else 'mut'} " * is_pointer + kind for is_const, (_, kind), is_pointer, name in c_arguments(call)]
+    line = f"    pub fn {call.name}({', '.join(parts)}) -> u32;\n"
+    return line if len(line) <= RUST_LINE + 1 else f"    pub fn {call.name}(\n" + "".join(f"        {part},\n" for part in parts) + "    ) -> u32;\n"
+
+
+def rust_comment(call, indent):
+    out = outcome(call)
+    words = {"none": "`None`", "self": "this list", "rest": "a new list, which it returns", "rest_has": "", "accepted": "it returns a number", "out": "returns it"}
+    words["out"] = {"members": "returns how many there are", "replaced": "returns the removed member"}.get(out, words["out"])
+    of, text = broken(call, words), sentences(call, words)
+    said = refusals(of, "`u32::MAX`", "the table's length")
+    if out in ("popped", "removed", "found"):
+        text += f" It returns `None` if {said.pop('NULL')}."
+    if out == "members":
+        text, said = f"{text} It returns `None` if {of.broken}.", {}
+    paragraphs = [textwrap.wrap(text, COMMENT - indent - 4)]
+    if said:
+        errors = " ".join(f"[`Error::{ERRORS[status]}`] if {when}." for status, when in said.items())
+        paragraphs += [["# Errors"], textwrap.wrap(errors, COMMENT - indent - 4)]
+    return "\n\n".join("\n".join(it) for it in paragraphs)
+
+
+def rust_arguments(call):
+    """The parameters of the method, and what it hands to the call."""
+    reads = next(c_arguments(call))[0]
+    handed = {"table": ["links", "places"], "keys": ["keys.as_ptr()", "keys.len()"], "given": ["&mut given.0"], "rest": ["&mut rest.0"]}
+    params, words = [], []
+    for arg in call.args:
+        if arg.name in SELF:
+            words.append("&mut self.0" if arg.is_mut else "&self.0")
+            continue
+        if arg.name == "buckets":
+            words += [f"buckets.{'as_mut_ptr' if arg.is_mut else 'as_ptr'}().cast()", "buckets.len()"]
+        elif arg.name in OUT:
+            words.append("members" if arg.name == "members" else "it")
+        else:
+            words += handed.get(arg.name, [f"number({arg.name})" if call.roles.get(arg.name) == "gap" else arg.name])
+        kinds = {"table": f"&{'mut ' * (not reads)}[Link{LINKS[call.family]}]", "keys": "&[u64]", "given": f"&mut {CLASSES[call.family]}",
+                 "buckets": f"&{'mut ' * arg.is_mut}[Stack]"}
+        if arg.name not in ("rest", *OUT):
+            params.append(f"{arg.name}: " + kinds.get(arg.name, "Option<u32>" if call.roles.get(arg.name) == "gap" else arg.type))
+    owner = [f"&{'mut ' * arg.is_mut}self" for arg in call.args if arg.name in SELF]
+    return owner + params, words
+
+
+def rust(call):
+    """The method or the function of the crate ic."""
+    is_method = call.family not in ("ring", "hash")
+    indent, out, own = " " * (4 if is_method else 0), outcome(call), CLASSES[call.family]
+    params, words = rust_arguments(call)
+    called, reads = f"unsafe {{ {call.name}({', '.join(words)}) }}", next(c_arguments(call))[0]
+    parts = f"Link{LINKS[call.family]}::{'read_parts' if reads else 'parts'}(table)"
+    lines, result = [f"let (links, places) = {parts};", SAFETY], " -> Result<(), Error>"
+    if not has(call, "table"):
+        lines, result = [SAFETY, f"{called};"], ""
+    elif out == "rest":
+        lines[0], result = f"let ((links, places), mut rest) = ({parts}, {own}::new());", f" -> Result<{own}, Error>"
+        lines += [f"done({called})?;", "Ok(rest)"]
+    elif out == "members":
+        lines, result = [*lines, f"counted(|members| {called})"], " -> Option<u64>"
+    elif out == "replaced":
+        lines[1:], result = [SAFETY, f"let removed = handed_out(|it| {called})?;", "removed.ok_or(Error::Null)"], " -> Result<u32, Error>"
+    elif out:
+        lines, result = [*lines, f"handed_out(|it| {called})"], " -> Result<Option<u32>, Error>"
+    else:
+        lines.append(f"done({called})")
+    lines = [part for line in lines for part in split_closure(line, len(indent) + 4)]
+    text = textwrap.indent(rust_comment(call, len(indent)), "/// ", lambda line: line.strip()).replace("\n\n", "\n///\n") + "\n#[inline]\n"
+    text += "#[must_use]\n" * (out == "members") + head(f"pub fn {short(call)}(", params, f"){result} {{\n", len(indent))
+    text += "".join(f"    {line}\n" for line in lines) + "}\n"
+    return textwrap.indent(text, indent)
+
+
+def head(begin, params, end, indent):
+    line = begin + ", ".join(params) + end
+    return line if indent + len(line) <= RUST_LINE + 1 else f"{begin}\n" + "".join(f"    {it},\n" for it in params) + end
+
+
+def split_closure(line, indent):
+    """A line as rustfmt breaks it if it is too long: a statement behind its `=`, a closure around its body."""
+    if indent + len(line) <= RUST_LINE or line.startswith("//"):
+        return [line]
+    if line.startswith("let "):
+        left, _, right = line.partition(" = ")
+        return [f"{left} =", f"    {right}"]
+    before, _, rest = line.partition("unsafe { ")
+    body, _, after = rest.rpartition(" }")
+    return [f"{before}unsafe {{", f"    {body}", f"}}{after}"]
+
+
+# ---- JavaScript ----
+
+
+def camel(name):
+    return re.sub(r"_(\w)", lambda match: match[1].upper(), name)
+
+
+def script_words(call):
+    """What the method hands to the call. Each number is checked by its name."""
+    fixed = {"table": "this.table, this.places", "list": "this.self", "tree": "this.self", "keys": "this.keysAt, this.keyCount",
+             "buckets": "this.bucketsAt, this.bucketCount", "given": "this.given(given)", "rest": "rest"}
+    if call.family == "list":
+        fixed["keys"] = "...keyParts(keys, this.links)"
+    for arg in call.args:
+        check = "u64" if arg.type == "u64" else "placeNumber" if arg.name in call.roles and call.roles[arg.name] != "run" else "u32"
+        yield "this.out" if arg.name in OUT else fixed.get(arg.name) or f'{check}({arg.name}, "{arg.name}")'
+
+
+def script_parameters(call):
+    """The parameters of a method. A tree and a hash table keep their keys and buckets."""
+    return [arg for arg in free(call) if arg.name != "buckets" and not (arg.name == "keys" and call.family != "list")]
+
+
+def script(call):
+    """The method of ic.mjs. A constructor of Ring calls ic_ring_init."""
+    if call.name == "ic_ring_init":
+        return ""
+    called = f"this.calls.{call.name}({', '.join(script_words(call))})"
+    body = {"rest": f"return this.split((rest) => {called})", "members": f"return this.counted({called})", None: f"this.done({called})"}
+    parameters = ", ".join(arg.name for arg in script_parameters(call))
+    return f"  {camel(short(call))}({parameters}) {{ {body.get(outcome(call), f'return this.member({called})')}; }}\n"
+
+
+def types(call):
+    """The method of ic.d.mts with its comment."""
+    if call.name == "ic_ring_init":
+        return ""
+    out, own = outcome(call), CLASSES[call.family]
+    kinds = {"given": own, "hash": "bigint | number", "key": "bigint | number", "keys": "Words", "count": "number"}
+    parameters = [f"{arg.name}: " + (kinds.get(arg.name) or ("Gap" if call.roles.get(arg.name) == "gap" else "Place")) for arg in script_parameters(call)]
+    result = {"rest": own, "members": "number", None: "void"}.get(out, "Gap")
+    words = {"none": "null", "self": "this list", "rest": "a new list, which it returns", "rest_has": "", "accepted": "it returns a number", "out": "returns it"}
+    words["out"] = {"members": "returns how many there are", "replaced": "returns the removed member"}.get(out, words["out"])
+    said, text = refusals(broken(call, words), "null", "the table's length"), sentences(call, words)
+    if out in ("popped", "removed", "replaced", "found"):
+        text += f" It returns null if {said.pop('NULL')}."
+    text += "".join(f" It throws {status} if {when}." for status, when in said.items())
+    lines = textwrap.wrap(text, COMMENT - 5)
+    comment = f"  /** {lines[0]} */\n" if len(lines) == 1 else commented(["", *lines], "  /**", "   * ", "\n   */")
+    return f"{comment}  {camel(short(call))}({', '.join(parameters)}): {result};\n"
