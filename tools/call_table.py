@@ -7,6 +7,8 @@ from checks import ROOT
 
 CRATE = ROOT / "crates/ic_ffi"
 TABLE = CRATE / "calls.txt"
+HEADER = ROOT / "include/ic.h"
+CASES = ROOT / "tests/library/reads.txt"
 # A row of the table together with the call's arguments and the clauses of its contract.
 Call = collections.namedtuple("Call", "name family group args roles cost what null broken clauses")
 # An argument: its name, the type of its value or of its elements, whether it is written, and whether it is one value, one that is borrowed,
@@ -16,6 +18,7 @@ Arg = collections.namedtuple("Arg", "name type is_mut form")
 SIGNATURE = re.compile(r'pub extern "C" fn (\w+)\((.*?)\) -> u32\n((?:    [^\n]*\n)*)\{', re.S)
 ROW = re.compile(r"^(ic_(\w+?)_\w+)\(([^)]*)\) (O\(.+\))\n    (.*)\n(?:    NULL: (.*)\n)?(?:    BROKEN: (.*)\n)?", re.M)
 GROUP = re.compile(r"^\[([\w-]+)\]\n((?:(?!\[).*\n?)*)", re.M)
+READS = re.compile(r"^\[reads\] (.*)\n((?:.+\n)*)", re.M)
 ROLES = ("new", "run", "member", "ring", "gap")
 # The arguments by which a call hands a number out.
 OUT = ("popped", "removed", "replaced", "found", "members")
@@ -46,7 +49,7 @@ def signatures():
 def rows():
     """The calls in the order of the table, and what is wrong with the table."""
     of, calls, wrong = signatures(), [], []
-    text = re.sub(r"^#.*\n", "", TABLE.read_text(), flags=re.M)
+    text = READS.sub("", re.sub(r"^#.*\n", "", TABLE.read_text(), flags=re.M))
     for group, part in GROUP.findall(text):
         for name, family, roles, cost, what, null, broken in ROW.findall(part):
             if name not in of:
@@ -59,6 +62,30 @@ def rows():
         if rest:
             wrong.append(f"crates/ic_ffi/calls.txt: this is no row: {rest.splitlines()[0]}")
     return calls, wrong + [f"{name} has no row in crates/ic_ffi/calls.txt" for name in of]
+
+
+def reads():
+    """What each read returns, by the reason for which it finds no place of the table."""
+    head, lines = READS.search(TABLE.read_text()).groups()
+    return {name: dict(zip(head.split(), returned)) for name, *returned in map(str.split, lines.splitlines())}
+
+
+def read_faults():
+    """The reads that the header lacks, and those of which the cases have none for a reason, or another answer than the table."""
+    declared = set(re.findall(r"^static inline \w+ (ic_\w+)\(", HEADER.read_text(), re.M))
+    cases, kind = set(), ""
+    for line in CASES.read_text().splitlines():
+        played = re.match(r"(\w+) [\w ]*= (\w+) *# (\w+)", line)
+        kind = line if re.fullmatch(r"[a-z]+", line) else kind
+        if played:
+            cases.add((f"ic_{kind}_{played[1]}", played[3], played[2]))
+    for name, returned in reads().items():
+        if name not in declared:
+            yield f"crates/ic_ffi/calls.txt: {name} is no inline function of include/ic.h"
+        for reason, answer in returned.items():
+            seen = {it for read, why, it in cases if (read, why) == (name, reason)}
+            if seen != {answer}:
+                yield f"tests/library/reads.txt: {name} ({reason}) returns {answer} by crates/ic_ffi/calls.txt, here {' and '.join(seen) or 'no case says'}"
 
 
 def names(call, *roles):

@@ -177,6 +177,21 @@ def split_closure(line, indent):
     return [f"{before}unsafe {{", f"    {body}", f"}}{after}"]
 
 
+# ---- The table of reads ----
+
+
+def reads_table(reads):
+    """The rows of docs/LIBRARY.md: what each read is called in each language, and what it returns."""
+    lines = ["| C | Rust | JavaScript | Of a place that is not linked | Of a place beyond the table | If the link leads out of the table |", "|---|---|---|---|---|---|"]
+    for name, returned in reads.items():
+        family, read = re.match(r"ic_(\w+?)_(\w+)", name).groups()
+        own, link = CLASSES[family], f"Link{LINKS[family]}"
+        rust = f"{link}::{read}" if read == "is_linked" else f"ring::{read}" if family == "ring" else f"{own}::{read}"
+        script = "Words.isLinked" if read == "is_linked" else f"{own}.{camel(read)}"
+        lines.append(f"| `{name}` | `{rust}` | `{script}` | {' | '.join(returned.values())} |")
+    return "\n".join(lines) + "\n"
+
+
 # ---- JavaScript ----
 
 

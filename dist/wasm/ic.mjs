@@ -105,7 +105,7 @@ function refuseNumber(value, name, range) {
 }
 /** A number of 32 bits, which the call takes as it is. */
 function u32(value, name) {
-  if (value >>> 0 !== value) refuseNumber(value, name, "from 0 to 4294967295");
+  if (typeof value !== "number" || value >>> 0 !== value) refuseNumber(value, name, "from 0 to 4294967295");
   return value;
 }
 /** A place as the calls take it. */
@@ -141,8 +141,10 @@ export class Words {
   }
   /** Whether a place is in a list, a ring or a tree of the table. */
   isLinked(place) {
-    const at = placeNumber(place, "place");
-    return at < this.length && at !== NONE && (this.half(2 * this.width * at) & 1) === 1;
+    return this.hasMember(placeNumber(place, "place"));
+  }
+  hasMember(number) {
+    return number < this.length && number !== NONE && (this.half(2 * this.width * number) & 1) === 1;
   }
   /** The place that a word of the table names, or null. */
   place(place, which) {
@@ -151,7 +153,7 @@ export class Words {
   }
   /** The place of the table that the link of `at` leads to, or null if `at` is not linked or the link leads out of the table. */
   beside(at, which) {
-    return this.isLinked(at) ? this.within(this.place(at, which)) : null;
+    return this.hasMember(placeNumber(at, "at")) ? this.within(this.place(at, which)) : null;
   }
   within(place) {
     return place !== null && place < this.length ? place : null;
@@ -386,8 +388,8 @@ export class XorList extends Collection {
   get first() { return this.ends.place(0, 0); }
   get last() { return this.ends.place(0, 1); }
   step(from, at) {
-    const word = wordOf(from);
-    return this.links.isLinked(at) ? this.links.within(placeOf(this.links.word(at) ^ word)) : null;
+    const word = wordOf(placeNumber(from, "from"));
+    return this.links.hasMember(placeNumber(at, "at")) ? this.links.within(placeOf(this.links.word(at) ^ word)) : null;
   }
   [Symbol.iterator]() {
     let from = null;
@@ -425,7 +427,7 @@ export class Tree extends Collection {
   left(at) { return this.links.beside(at, 0); }
   right(at) { return this.links.beside(at, 1); }
   parent(at) { return this.links.beside(at, 2); }
-  isBlack(at) { return this.links.isLinked(at) && (this.links.word(at, 2) & 1n) === 1n; }
+  isBlack(at) { return this.links.hasMember(placeNumber(at, "at")) && (this.links.word(at, 2) & 1n) === 1n; }
   // tools/c-calls --write writes from here: tree tree-keys tree-steps
   insertLeft(at, place) { this.done(this.calls.ic_tree_insert_left(this.table, this.places, this.self, placeNumber(at, "at"), placeNumber(place, "place"))); }
   insertRight(at, place) { this.done(this.calls.ic_tree_insert_right(this.table, this.places, this.self, placeNumber(at, "at"), placeNumber(place, "place"))); }
