@@ -19,21 +19,21 @@
  *
  * What a call requires: `table` points to `places` links, `keys` to `key_count` keys, `buckets` to `bucket_count` lists, each other pointer
  * to one value of its type, no two of these overlap, and no other thread writes or reads them during the call. Other threads may read what
- * a call takes as const. Nothing else: words, keys, hashes, lengths and places may be any.
+ * a call takes as const. A call requires nothing else: words, keys, hashes, lengths and places may be any.
  *
  * What every call does, whatever it is handed:
  *   - It returns one of the statuses below.
  *   - It writes to nothing but table[0 .. places - 1], the lists, the tree, the bucket of the hash and the out parameter that it is handed.
  *   - If the status is not IC_OK, it has changed nothing, out parameters included. The status says what is wrong with the first member
- *     that is named, else with the next one, else with the place to insert, else that the words do not fit together (IC_BROKEN).
- *   - It takes at most a fixed number of steps, but for ic_stack_splice_after, the calls of hash tables that walk a chain, and the calls
- *     whose names end with fill, clear, check or merge, which take at most a fixed number more for each place of the table, and
- *     ic_list_sort, which takes O(n log n). Any other call of a list takes a few, and of a tree O(log n).
+ *     that is named, else with the next one, else with the place to insert, else that the words do not fit together (IC_BROKEN). If the
+ *     comment says what a call does if a place is IC_NONE, nothing is wrong with IC_NONE there.
+ *   - It takes at most as many steps as its cost says. In a cost, n is the number of members. Of links that form no list or tree, the calls
+ *     whose costs depend on members take at most a fixed number of steps for each place of the table.
  *
- * Where the table holds the list or tree, and the member that you name is one of its members, the call makes the edit that its comment
- * says. Every other list and tree of the table stays as it was. A member of another list of the same table is refused with IC_BROKEN where
- * the words of its neighbors tell, as for an edit beyond the end of a doubly linked list. In the middle of a list, in singly linked lists
- * and in trees they do not: then the call mixes both up, within the table. Nor does the word of an XOR list's member always tell its
+ * If the table holds the list or tree, and the member that you name is one of its members, the call makes the edit that its comment says.
+ * Every other list and tree of the table stays as it was. A call refuses a member of another list of the same table with IC_BROKEN if the
+ * words of its neighbors tell, as they do at an end of a doubly linked list. In the middle of a list, in singly linked lists and in trees
+ * they do not tell: then the call mixes both lists up, within the table. Nor does the word of an XOR list's member always tell its
  * neighbors: see there.
  */
 #ifndef IC_H
@@ -84,12 +84,12 @@ typedef uint64_t ic_length;
 
 /* What a call returns. */
 enum ic_status {
-    IC_OK = 0,           /* the edit is made */
-    IC_OUT_OF_RANGE = 1, /* a place is not below `places`, or there are fewer keys than places, or no buckets */
+    IC_OK = 0,           /* the call has made the edit, or has found what it looked for */
+    IC_OUT_OF_RANGE = 1, /* a place is not below `places`, or there are fewer keys than places, or there is no bucket */
     IC_LINKED = 2,       /* the place to insert is in a list or tree of this table */
     IC_NOT_LINKED = 3,   /* the member that is named is in no list or tree of this table */
-    IC_NULL = 4,         /* there is no member where the call needs one */
-    IC_BROKEN = 5        /* table, list or tree, and member do not belong together */
+    IC_NULL = 4,         /* the call needs a member, and there is none */
+    IC_BROKEN = 5        /* the table, the list or tree, and the members do not belong together */
 };
 
 /* The name of a status, as "IC_OK", and "unknown" of any other number. */
@@ -142,8 +142,8 @@ struct ic_tree {
 
 /* ---- Words -------------------------------------------------------------------------------------------------------------------- */
 
-/* The word for a place: 8 * (place + 1), or 0 for IC_NONE. The first word of a link has 1 more where the place is linked, and
- * `parent` where it is black in its tree. */
+/* The word for a place: 8 * (place + 1), or 0 for IC_NONE. The first word of a link is 1 more if the place is linked, and `parent` is 1 more
+ * if the place is black in its tree. */
 static inline uint64_t ic_word(uint32_t place) {
     return (uint64_t)(uint32_t)(place + 1u) * 8;
 }
@@ -165,8 +165,8 @@ static inline uint32_t ic_place(uint64_t word) {
  * unlinked, and if the word there names no place of the table. So none of them reads outside the table, whatever the words say. Those that
  * read a list or a tree alone, as ic_list_first, know no length. If its words are broken, they may return a place that is out of range.
  *
- * A loop is made by a macro and runs its body once for each member. It declares `place` and the other variables that are named in front
- * of `table`. You can leave it with `break`, go on with `continue`, and put one loop into another.
+ * A macro makes a loop, which runs its body once for each member. It declares `place` and the other variables that are named before
+ * `table`. You can leave it with `break`, go on with `continue`, and write one loop inside another.
  *
  *     IC_LIST_FOREACH(place, links, 100, &list)
  *         if (place % 2 == 0)
@@ -175,8 +175,8 @@ static inline uint32_t ic_place(uint64_t word) {
  * Whatever the words say, a loop runs its body at most `places` times, each time for a linked place of the table. It ends at a word that
  * leads to no such place. It evaluates `table`, `places` and `list` in each round.
  *
- * A plain loop ends early if its body takes the member off. The body of a ..._SAFE loop may do so, and may then link the place in another
- * list or tree. It has to leave the members beside it where they are.
+ * A plain loop ends early if its body removes the member. The body of a ..._SAFE loop may remove it, and may then insert the place into
+ * another list or tree. It has to leave the members beside it where they are.
  */
 
 /* How many places of a table can be named. */
@@ -198,7 +198,7 @@ static inline uint32_t ic_place_within(ic_length places, uint64_t word) {
     for (uint32_t place = (first), follower = (next), ic_rounds_##place = ic_bound(places); \
          (is_member) && ic_rounds_##place--; place = follower, follower = (next))
 
-/* ---- Doubly linked lists: 16 bytes a place, all calls O(1) but those to fill, clear, check, sort and merge -----------------------------
+/* ---- Doubly linked lists: 16 bytes a place, calls O(1) except to fill, clear, check, sort and merge --------------------------------------
  *
  * Good for queues, and for caches, from whose middle objects leave.
  */
@@ -208,7 +208,7 @@ static inline int ic_list_is_linked(const struct ic_link2 *table, ic_length plac
     return place < ic_bound(places) && (table[place].next & 1);
 }
 
-/* Whether there is no member: then ic_list_pop_front returns IC_NULL. */
+/* Whether the list has no members. Then ic_list_pop_front returns IC_NULL. */
 static inline int ic_list_is_empty(const struct ic_list *list) {
     return ic_number(list->head) == 0;
 }
@@ -223,18 +223,18 @@ static inline uint32_t ic_list_last(const struct ic_list *list) {
     return ic_place(list->tail);
 }
 
-/* The member behind a member, or IC_NONE. */
-static inline uint32_t ic_list_next(const struct ic_link2 *table, ic_length places, uint32_t at) {
+/* The member after the member `at`, or IC_NONE. */
+static inline uint32_t ic_list_next(const struct ic_link2 *table, size_t places, uint32_t at) {
     return ic_list_is_linked(table, places, at) ? ic_place_within(places, table[at].next) : IC_NONE;
 }
 
-/* The member in front of a member, or IC_NONE. */
-static inline uint32_t ic_list_prev(const struct ic_link2 *table, ic_length places, uint32_t at) {
+/* The member before the member `at`, or IC_NONE. */
+static inline uint32_t ic_list_prev(const struct ic_link2 *table, size_t places, uint32_t at) {
     return ic_list_is_linked(table, places, at) ? ic_place_within(places, table[at].prev) : IC_NONE;
 }
 
-/* Loops from the first member to the last, and back. `next` is the member behind `place`, and `prev` is the one in front of it.
- * They are IC_NONE beyond an end.
+/* Loops from the first member to the last, and back. `next` is the member after `place`, and `prev` is the member before it. They are
+ * IC_NONE beyond an end.
  *
  *     IC_LIST_FOREACH_SAFE(place, next, links, 100, &list)
  *         if (is_done(place))
@@ -375,7 +375,7 @@ uint32_t ic_list_check(const struct ic_link2 *table, ic_length places, const str
 
 /* ---- Lists by keys ----
  *
- * The keys are numbers, the least in front. There has to be one for each place, and those of places that are no members are not read. Both
+ * The keys are numbers, of which the least comes first. There has to be one for each place, and the calls read those of members alone. Both
  * calls check the lists first, so they are never half done. A sort calls itself, at most 33 times within one another.
  */
 
@@ -399,31 +399,31 @@ uint32_t ic_list_merge(struct ic_link2 *table, ic_length places, const uint64_t 
 
 /* ---- Rings: 16 bytes a place, all calls O(1) ---------------------------------------------------------------------------------------
  *
- * A ring is a doubly linked list whose head is a place of the table. Head and members stand in a circle. A member leaves its ring, and gets
- * neighbors, with no ring named: good where who removes an object does not know its queue. These are the lists of Linux (list.h). Rings and
- * lists may be in one table. Take places for heads that are no objects.
+ * A ring is a doubly linked list whose head is a place of the table. Its head and its members form a circle. A call removes a member, or
+ * inserts a place beside one, without the name of a ring. That is good if the code that removes an object does not know its queue. These are
+ * the lists of Linux (list.h). Rings and lists may be in one table. Take places for heads that are no objects.
  *
  *     struct ic_link2 links[65] = {0};               // 64 objects, and a head at 64
  *     status = ic_ring_init(links, 65, 64);          // a ring with no members
  *     status = ic_ring_push_back(links, 65, 64, 7);
  *     status = ic_ring_remove(links, 65, 7);         // from whichever ring it is in
  *
- * Each call tests the places that it writes, and those beside them. A member in the middle of a doubly linked list passes too, and is taken
- * for one of a ring, which is as good. That two places are in one ring or in two, no call can tell.
+ * Each call tests the places that it writes, and those beside them. A member in the middle of a doubly linked list passes these tests, too,
+ * and the call treats it as one of a ring, which does no harm. No call can tell whether two places are in one ring or in two.
  */
 
-/* Whether a place stands in a ring or a list of the table. */
-static inline int ic_ring_is_linked(const struct ic_link2 *table, ic_length places, uint32_t place) {
+/* Whether a place is in a ring or a list of the table. */
+static inline int ic_ring_is_linked(const struct ic_link2 *table, size_t places, uint32_t place) {
     return ic_list_is_linked(table, places, place);
 }
 
-/* The place behind one that stands in a ring, or IC_NONE: behind a head the first member, behind the last member the head. */
-static inline uint32_t ic_ring_next(const struct ic_link2 *table, ic_length places, uint32_t at) {
+/* The place after the place `at` of a ring, or IC_NONE. After a head comes the first member, and after the last member the head. */
+static inline uint32_t ic_ring_next(const struct ic_link2 *table, size_t places, uint32_t at) {
     return ic_list_next(table, places, at);
 }
 
-/* The place in front of one that stands in a ring, or IC_NONE. */
-static inline uint32_t ic_ring_prev(const struct ic_link2 *table, ic_length places, uint32_t at) {
+/* The place before the place `at` of a ring, or IC_NONE. */
+static inline uint32_t ic_ring_prev(const struct ic_link2 *table, size_t places, uint32_t at) {
     return ic_list_prev(table, places, at);
 }
 
@@ -483,20 +483,21 @@ uint32_t ic_ring_exchange(struct ic_link2 *table, ic_length places, uint32_t one
 
 /* to here */
 
-/* ---- What is made of these, which is tested and not proved ---- */
+/* ---- Functions of these calls, which are tested and not proved ---- */
 
-/* Links a place as the first member of a head, or as the last. */
+/* Inserts `place` as the first member of a head. It returns what ic_ring_insert_after returns. */
 IC_NODISCARD
 static inline uint32_t ic_ring_push_front(struct ic_link2 *table, ic_length places, uint32_t head, uint32_t place) {
     return ic_ring_insert_after(table, places, head, place);
 }
 
+/* Inserts `place` as the last member of a head. It returns what ic_ring_insert_before returns. */
 IC_NODISCARD
 static inline uint32_t ic_ring_push_back(struct ic_link2 *table, ic_length places, uint32_t head, uint32_t place) {
     return ic_ring_insert_before(table, places, head, place);
 }
 
-/* Takes `first` off, which stands beside a head, and sets *popped to it. */
+/* Removes the place `first`, which is beside a head, and sets *popped to it. */
 IC_NODISCARD
 static inline uint32_t ic_ring_pop(struct ic_link2 *table, ic_length places, uint32_t head, uint32_t first, uint32_t *popped) {
     uint32_t status;
@@ -510,18 +511,20 @@ static inline uint32_t ic_ring_pop(struct ic_link2 *table, ic_length places, uin
     return status;
 }
 
-/* Takes the first member of a head off, or the last one, and sets *popped to it. IC_NULL: there is none. Else as ic_ring_remove. */
+/* Removes the first member of a head, and sets *popped to it. IC_NULL: there is none. Otherwise it returns what ic_ring_remove returns. */
 IC_NODISCARD
 static inline uint32_t ic_ring_pop_front(struct ic_link2 *table, ic_length places, uint32_t head, uint32_t *popped) {
     return ic_ring_pop(table, places, head, ic_ring_next(table, places, head), popped);
 }
 
+/* Removes the last member of a head, and sets *popped to it. IC_NULL: there is none. Otherwise it returns what ic_ring_remove returns. */
 IC_NODISCARD
 static inline uint32_t ic_ring_pop_back(struct ic_link2 *table, ic_length places, uint32_t head, uint32_t *popped) {
     return ic_ring_pop(table, places, head, ic_ring_prev(table, places, head), popped);
 }
 
-/* Links a place where another one stands in a ring, which is taken off. Linux: list_replace. Refusals as of both calls. */
+/* Removes the place `at` from its ring, and inserts `place` where it was. Linux calls this list_replace. It returns what
+ * ic_ring_insert_before and ic_ring_remove return. */
 IC_NODISCARD
 static inline uint32_t ic_ring_replace(struct ic_link2 *table, ic_length places, uint32_t at, uint32_t place) {
     uint32_t status = ic_ring_insert_before(table, places, at, place);
@@ -533,9 +536,9 @@ static inline uint32_t ic_ring_replace(struct ic_link2 *table, ic_length places,
     return status;
 }
 
-/* Moves a place, from whichever ring it stands in, behind another one, or in front of it. It is unlinked for a moment. Where it is refused,
- * the place is back where it was. Where `at` is `place`, nothing changes. Linux: list_move, list_move_tail.
- * Refusals as of ic_ring_remove and ic_ring_insert_after. */
+/* Moves `place`, from whichever ring it is in, after the place `at` of a ring, or before it. It is unlinked for a moment. If the call is
+ * refused, `place` is where it was.
+ * IC_LINKED: `at` and `place` are the same. Otherwise it returns what ic_ring_remove and ic_ring_insert_after return. */
 IC_NODISCARD
 static inline uint32_t ic_ring_move(struct ic_link2 *table, ic_length places, uint32_t at, uint32_t place, int is_after) {
     uint32_t prev = ic_ring_prev(table, places, place), status;
@@ -551,18 +554,20 @@ static inline uint32_t ic_ring_move(struct ic_link2 *table, ic_length places, ui
     return status;
 }
 
+/* Moves `place` after the place `at`, as ic_ring_move does. Linux calls this list_move. */
 IC_NODISCARD
 static inline uint32_t ic_ring_move_after(struct ic_link2 *table, ic_length places, uint32_t at, uint32_t place) {
     return ic_ring_move(table, places, at, place, 1);
 }
 
+/* Moves `place` before the place `at`, as ic_ring_move does. Linux calls this list_move_tail. */
 IC_NODISCARD
 static inline uint32_t ic_ring_move_before(struct ic_link2 *table, ic_length places, uint32_t at, uint32_t place) {
     return ic_ring_move(table, places, at, place, 0);
 }
 
-/* Moves all members of the head `given` behind a place of another ring, or in front of it. `given` has no members then. Linux:
- * list_splice_init, list_splice_tail_init. Refusals as of ic_ring_exchange, and IC_BROKEN beside the head `given` itself. */
+/* Moves all members of the head `given` after the place `at` of another ring. Then `given` has no members. Linux calls this
+ * list_splice_init. It returns what ic_ring_exchange returns. */
 IC_NODISCARD
 static inline uint32_t ic_ring_splice_after(struct ic_link2 *table, ic_length places, uint32_t at, uint32_t given) {
     uint32_t last = ic_ring_prev(table, places, given), status;
@@ -579,6 +584,8 @@ static inline uint32_t ic_ring_splice_after(struct ic_link2 *table, ic_length pl
     return status;
 }
 
+/* Moves all members of the head `given` before the place `at` of another ring. Then `given` has no members. Linux calls this
+ * list_splice_tail_init. It returns what ic_ring_exchange returns. */
 IC_NODISCARD
 static inline uint32_t ic_ring_splice_before(struct ic_link2 *table, ic_length places, uint32_t at, uint32_t given) {
     uint32_t before = ic_ring_prev(table, places, at);
@@ -587,10 +594,10 @@ static inline uint32_t ic_ring_splice_before(struct ic_link2 *table, ic_length p
     return ic_ring_splice_after(table, places, before, given);
 }
 
-/* ---- Singly linked lists: 8 bytes a place, all calls O(1) but ic_stack_splice_after, and those to fill, clear and check ----------------
+/* ---- Singly linked lists: 8 bytes a place, calls O(1) except ic_stack_splice_after, and to fill, clear and check ------------------------
  *
- * Good for stacks and free lists. What is edited is behind the member `at`, or at the front where `at` is IC_NONE. With the last member
- * kept beside it, a list is a queue: insert behind it, and pop at the front.
+ * Good for stacks and free lists. Calls edit the list after the member `at`, or at the front if `at` is IC_NONE. If you keep the last member
+ * beside it, a list is a queue: insert after that member, and pop at the front.
  */
 
 /* Whether a place is in a list of the table. */
@@ -598,7 +605,7 @@ static inline int ic_stack_is_linked(const struct ic_link1 *table, ic_length pla
     return place < ic_bound(places) && (table[place].next & 1);
 }
 
-/* Whether there is no member: then ic_stack_pop_front returns IC_NULL. */
+/* Whether the list has no members. Then ic_stack_pop_front returns IC_NULL. */
 static inline int ic_stack_is_empty(const struct ic_stack *list) {
     return ic_number(list->head) == 0;
 }
@@ -608,23 +615,23 @@ static inline uint32_t ic_stack_first(const struct ic_stack *list) {
     return ic_place(list->head);
 }
 
-/* The member behind a member, or IC_NONE. */
-static inline uint32_t ic_stack_next(const struct ic_link1 *table, ic_length places, uint32_t at) {
+/* The member after the member `at`, or IC_NONE. */
+static inline uint32_t ic_stack_next(const struct ic_link1 *table, size_t places, uint32_t at) {
     return ic_stack_is_linked(table, places, at) ? ic_place_within(places, table[at].next) : IC_NONE;
 }
 
-/* The member to go on to from `place`, which was behind *before, or first where that is IC_NONE. If `place` is still there, it is
- * *before from now on. If it has been taken off, the member that is there now is next. */
-static inline uint32_t ic_stack_go_on(const struct ic_link1 *table, ic_length places, const struct ic_stack *list, uint32_t *before,
+/* The member to go on to from `place`, which was the member after *before, or the first member if *before is IC_NONE. If `place` is still
+ * there, *before becomes `place`. If it has been removed, the loop goes on to the member that is there now. */
+static inline uint32_t ic_stack_go_on(const struct ic_link1 *table, size_t places, const struct ic_stack *list, uint32_t *before,
                                       uint32_t place) {
-    uint32_t behind = *before == IC_NONE ? ic_stack_first(list) : ic_stack_next(table, places, *before);
-    if (behind != place)
-        return behind;
+    uint32_t after = *before == IC_NONE ? ic_stack_first(list) : ic_stack_next(table, places, *before);
+    if (after != place)
+        return after;
     *before = place;
     return ic_stack_next(table, places, place);
 }
 
-/* Loops from the first member to the last. `before` is the member in front of `place`, or IC_NONE. The calls that edit take it:
+/* Loops from the first member to the last. `before` is the member before `place`, or IC_NONE. The calls that edit take it:
  *
  *     IC_STACK_FOREACH_SAFE(before, place, links, 100, &list)
  *         if (is_done(place))
@@ -704,9 +711,9 @@ uint32_t ic_stack_check(const struct ic_link1 *table, ic_length places, const st
 
 /* ---- Hash tables: 8 bytes a place and 8 a bucket ---------------------------------------------------------------------------------------
  *
- * Good for finding objects by a key, in no order. A hash table is an array of buckets, of which {0} is empty. A bucket is a singly linked
- * list, its chain. Your hash function makes a number of each key, and a member is in the bucket whose index is hash % bucket_count. So hand
- * the same hash to each call for one object. With about as many buckets as members, chains are short.
+ * Good for finding objects by a key, in no order. A hash table is an array of buckets, of which {0} is empty. A bucket is the head of a
+ * singly linked list, whose members are its chain. Your hash function makes a number of each key, and a member is in the bucket whose index
+ * is hash % bucket_count. So hand the same hash to each call for one object. With about as many buckets as members, chains are short.
  *
  *     struct ic_link1 links[100] = {0};
  *     struct ic_stack buckets[64] = {0};
@@ -766,16 +773,16 @@ uint32_t ic_hash_next_equal(const struct ic_link1 *table, size_t places, const u
 
 /* to here */
 
-/* ---- XOR lists: 8 bytes a place, all calls O(1) but ic_xor_fill and ic_xor_clear ---------------------------------------------------
+/* ---- XOR lists: 8 bytes a place, calls O(1) except ic_xor_fill and ic_xor_clear -----------------------------------------------------
  *
- * Good for lists that are used at both ends and walked both ways, where memory is scarce. A member alone does not tell its neighbors, so
- * a gap is named by both members beside it: `before` is the member in front of it, or IC_NONE at the front, and `behind` is the member
- * behind it, or IC_NONE at the back. Both are IC_NONE in an empty list.
+ * Good for lists that you use at both ends and walk both ways, if memory is scarce. A member alone does not tell its neighbors, so you name
+ * a gap by both members beside it: `before` is the member before the gap, or IC_NONE at the front, and `after` is the member after the gap, or
+ * IC_NONE at the back. Both are IC_NONE in an empty list.
  *
  * A call at a gap tests that both members are linked, and that their words with each other name linked places beyond them, or none at an
- * end of the list. So it refuses with IC_BROKEN what is no gap beside IC_NONE, or at an end, and most other pairs of members. But where many
- * places are linked, a pair that is no gap may pass: of the list of the places 0 to 6, in their order, 1 and 6 do. Then the list is mixed
- * up, within the table. So name members that you know to be neighbors.
+ * end of the list. So it refuses with IC_BROKEN two names that are no gap if one of them is IC_NONE or an end, and most other pairs of
+ * members. But if many places are linked, a pair that is no gap may pass: in the list of the places 0 to 6, in their order, 1 and 6 pass.
+ * Then the call mixes the list up, within the table. So name members that you know to be neighbors.
  */
 
 /* Whether a place is in a list of the table. */
@@ -783,7 +790,7 @@ static inline int ic_xor_is_linked(const struct ic_link1 *table, ic_length place
     return place < ic_bound(places) && (table[place].next & 1);
 }
 
-/* Whether there is no member: then ic_xor_pop_front returns IC_NULL. */
+/* Whether the list has no members. Then ic_xor_pop_front returns IC_NULL. */
 static inline int ic_xor_is_empty(const struct ic_xor_list *list) {
     return ic_number(list->head) == 0;
 }
@@ -812,24 +819,24 @@ static inline uint32_t ic_xor_go_on(const struct ic_link1 *table, ic_length plac
     return next;
 }
 
-/* Loops from the first member to the last, and back. In both directions `before` is the member in front of `place`, and `behind` is the
- * one behind it. They are IC_NONE beyond an end.
+/* Loops from the first member to the last, and back. In both directions `before` is the member before `place`, and `after` is the member
+ * after it. They are IC_NONE beyond an end.
  *
- *     IC_XOR_FOREACH_SAFE(before, place, behind, links, 100, &list)
+ *     IC_XOR_FOREACH_SAFE(before, place, after, links, 100, &list)
  *         if (is_done(place))
  *             status = ic_xor_remove(links, 100, &list, before, place);
  *
- * The body has to leave both members that come next where they are.
+ * The body has to leave the next two members where they are.
  */
 #define IC_XOR_FOREACH(place, table, places, list) IC_XOR_LOOP(place, ic_xor_first(list), table, places)
 #define IC_XOR_FOREACH_REVERSE(place, table, places, list) IC_XOR_LOOP(place, ic_xor_last(list), table, places)
-#define IC_XOR_FOREACH_SAFE(before, place, behind, table, places, list) \
-    IC_XOR_LOOP_SAFE(before, place, behind, ic_xor_first(list), table, places)
-#define IC_XOR_FOREACH_REVERSE_SAFE(before, place, behind, table, places, list) \
-    IC_XOR_LOOP_SAFE(behind, place, before, ic_xor_last(list), table, places)
+#define IC_XOR_FOREACH_SAFE(before, place, after, table, places, list) \
+    IC_XOR_LOOP_SAFE(before, place, after, ic_xor_first(list), table, places)
+#define IC_XOR_FOREACH_REVERSE_SAFE(before, place, after, table, places, list) \
+    IC_XOR_LOOP_SAFE(after, place, before, ic_xor_last(list), table, places)
 
-/* The loops of both directions. The second reads what is beyond `next` before its body runs. From there it finds the member that is in
- * front of `next` after the body: `place`, or `from` if `place` has been taken off. */
+/* The loops of both directions. The second reads the member beyond `next` before its body runs. From there it finds the member beside
+ * `next` after the body has run: `place`, or `from` if the body has removed `place`. */
 #define IC_XOR_LOOP(place, first, table, places)                                                    \
     for (uint32_t place = (first), ic_from_##place = IC_NONE, ic_rounds_##place = ic_bound(places); \
          ic_xor_is_linked(table, places, place) && ic_rounds_##place--;                             \
@@ -865,12 +872,12 @@ uint32_t ic_xor_pop_front(struct ic_link1 *table, ic_length places, struct ic_xo
 IC_NODISCARD
 uint32_t ic_xor_pop_back(struct ic_link1 *table, ic_length places, struct ic_xor_list *list, uint32_t *popped);
 
-/* Inserts `place` in the gap between the members `before` and `behind`. O(1).
- * IC_OUT_OF_RANGE: `before`, `place`, or `behind` is not below `places`. IC_LINKED: `place` is linked already. IC_NOT_LINKED: `before` or
- * `behind` is not linked. IC_BROKEN: there is no such gap. */
+/* Inserts `place` in the gap between the members `before` and `after`. O(1).
+ * IC_OUT_OF_RANGE: `before`, `place` or `after` is not below `places`. IC_LINKED: `place` is linked already. IC_NOT_LINKED: `before` or
+ * `after` is not linked. IC_BROKEN: there is no such gap. */
 IC_NODISCARD
-uint32_t ic_xor_insert_between(struct ic_link1 *table, ic_length places, struct ic_xor_list *list, uint32_t before, uint32_t place,
-                               uint32_t behind);
+uint32_t ic_xor_insert_between(struct ic_link1 *table, size_t places, struct ic_xor_list *list, uint32_t before, uint32_t place,
+                               uint32_t after);
 
 /* Removes the member `at`. O(1). The member before it is `before`, or IC_NONE if `at` is the first member.
  * IC_NULL: `at` is IC_NONE. IC_OUT_OF_RANGE: `before` or `at` is not below `places`. IC_NOT_LINKED: `before` or `at` is not linked.
@@ -880,17 +887,17 @@ uint32_t ic_xor_remove(struct ic_link1 *table, ic_length places, struct ic_xor_l
 
 /* Removes the member `at`, and inserts `place` where it was. O(1). The member before `at` is `before`, or IC_NONE if `at` is the first
  * member.
- * IC_NULL: `at` is IC_NONE. IC_OUT_OF_RANGE: `before`, `at`, or `place` is not below `places`. IC_LINKED: `place` is linked already, as it
+ * IC_NULL: `at` is IC_NONE. IC_OUT_OF_RANGE: `before`, `at` or `place` is not below `places`. IC_LINKED: `place` is linked already, as it
  * is if `at` and `place` are the same. IC_NOT_LINKED: `before` or `at` is not linked. IC_BROKEN: there are no two such members. */
 IC_NODISCARD
 uint32_t ic_xor_replace(struct ic_link1 *table, ic_length places, struct ic_xor_list *list, uint32_t before, uint32_t at, uint32_t place);
 
-/* Moves all members of `given`, in their order, into the gap between the members `before` and `behind`. O(1). Then `given` is empty.
- * IC_OUT_OF_RANGE: `before` or `behind` is not below `places`. IC_NOT_LINKED: `before` or `behind` is not linked. IC_BROKEN: there is no
- * such gap, or `given` is no list of this table, or both lists begin with the same member, as a list and its copy do. */
+/* Moves all members of `given`, in their order, into the gap between the members `before` and `after`. O(1). Then `given` is empty.
+ * IC_OUT_OF_RANGE: `before` or `after` is not below `places`. IC_NOT_LINKED: `before` or `after` is not linked. IC_BROKEN: there is no such
+ * gap, or `given` is no list of this table, or both lists begin with the same member, as a list and its copy do. */
 IC_NODISCARD
-uint32_t ic_xor_splice_between(struct ic_link1 *table, ic_length places, struct ic_xor_list *list, uint32_t before, struct ic_xor_list *given,
-                               uint32_t behind);
+uint32_t ic_xor_splice_between(struct ic_link1 *table, size_t places, struct ic_xor_list *list, uint32_t before, struct ic_xor_list *given,
+                               uint32_t after);
 
 /* Moves all members of `given`, in their order, to the back. O(1). Then `given` is empty.
  * IC_BROKEN: an end of one of the lists does not belong to this table, or both lists begin with the same member, as a list and its copy do. */
@@ -910,12 +917,12 @@ uint32_t ic_xor_fill(struct ic_link1 *table, ic_length places, struct ic_xor_lis
 IC_NODISCARD
 uint32_t ic_xor_clear(struct ic_link1 *table, ic_length places, struct ic_xor_list *list);
 
-/* Moves the members from `behind` on to `rest`, which has to be empty, so that `before` becomes the last member. O(1). All members move if
- * `before` is IC_NONE, and none if `behind` is IC_NONE.
- * IC_OUT_OF_RANGE: `before` or `behind` is not below `places`. IC_NOT_LINKED: `before` or `behind` is not linked. IC_BROKEN: there is no
- * such gap, or `rest` has members. */
+/* Moves the members from `after` on to `rest`, which has to be empty, so that `before` becomes the last member. O(1). All members move if
+ * `before` is IC_NONE, and none if `after` is IC_NONE.
+ * IC_OUT_OF_RANGE: `before` or `after` is not below `places`. IC_NOT_LINKED: `before` or `after` is not linked. IC_BROKEN: there is no such
+ * gap, or `rest` has members. */
 IC_NODISCARD
-uint32_t ic_xor_split_between(struct ic_link1 *table, ic_length places, struct ic_xor_list *list, uint32_t before, uint32_t behind,
+uint32_t ic_xor_split_between(struct ic_link1 *table, size_t places, struct ic_xor_list *list, uint32_t before, uint32_t after,
                               struct ic_xor_list *rest);
 
 /* Reverses the list. O(1). The call reads and writes no table, and is never refused. */
@@ -923,15 +930,15 @@ uint32_t ic_xor_reverse(struct ic_xor_list *list);
 
 /* to here */
 
-/* ---- Red-black trees: 24 bytes a place, all calls O(log n) but ic_tree_clear and ic_tree_check ------------------------------------
+/* ---- Red-black trees: 24 bytes a place, calls O(log n) except ic_tree_clear and ic_tree_check ---------------------------------------
  *
- * Good for timers, priorities and indices: objects in order that come and leave anywhere, and are searched for. n is how many members
- * there are. You order them in one of two ways:
+ * Good for timers, priorities and indices: objects in order, which you insert and remove anywhere, and search for. You order them in one of
+ * two ways:
  *
- *   - By a number each, in an array of your own: keys[place]. ic_tree_insert puts a place where its key belongs, and ic_tree_find and both
- *     bounds search by it. To change a member's key, take the member off, and insert it again then.
+ *   - By a number each, in an array of your own: keys[place]. ic_tree_insert inserts a place where its key belongs, and ic_tree_find and
+ *     both bounds search by it. To change a member's key, remove the member, and insert it again after that.
  *   - By any comparison of yours, as with sys/tree.h or the rb_link_node of Linux. Go down from the root to where the place belongs, and
- *     put it in there:
+ *     insert it there:
  *
  *         uint32_t at = ic_tree_root(&tree), under = IC_NONE;
  *         int left = 0;
@@ -942,7 +949,7 @@ uint32_t ic_xor_reverse(struct ic_xor_list *list);
  *         }
  *         status = (left ? ic_tree_insert_left : ic_tree_insert_right)(links, 100, &tree, under, place);
  *
- * Removal, and the steps to the next member and back, need no comparison.
+ * The calls that remove a member, and those that step to the next member and back, compare nothing.
  */
 
 /* Whether a place is in a tree of the table. */
@@ -950,7 +957,7 @@ static inline int ic_tree_is_linked(const struct ic_link3 *table, ic_length plac
     return place < ic_bound(places) && (table[place].left & 1);
 }
 
-/* Whether there is no member: then ic_tree_first returns IC_NULL. */
+/* Whether the tree has no members. Then ic_tree_first returns IC_NULL. */
 static inline int ic_tree_is_empty(const struct ic_tree *tree) {
     return ic_number(tree->root) == 0;
 }
@@ -960,18 +967,18 @@ static inline uint32_t ic_tree_root(const struct ic_tree *tree) {
     return ic_place(tree->root);
 }
 
-/* The left child of a member, or IC_NONE. The members under it are in front of the member. */
-static inline uint32_t ic_tree_left(const struct ic_link3 *table, ic_length places, uint32_t at) {
+/* The left child of the member `at`, or IC_NONE. The members under it come before `at`. */
+static inline uint32_t ic_tree_left(const struct ic_link3 *table, size_t places, uint32_t at) {
     return ic_tree_is_linked(table, places, at) ? ic_place_within(places, table[at].left) : IC_NONE;
 }
 
-/* The right child of a member, or IC_NONE. The members under it are behind the member. */
-static inline uint32_t ic_tree_right(const struct ic_link3 *table, ic_length places, uint32_t at) {
+/* The right child of the member `at`, or IC_NONE. The members under it come after `at`. */
+static inline uint32_t ic_tree_right(const struct ic_link3 *table, size_t places, uint32_t at) {
     return ic_tree_is_linked(table, places, at) ? ic_place_within(places, table[at].right) : IC_NONE;
 }
 
-/* The parent of a member, or IC_NONE. */
-static inline uint32_t ic_tree_parent(const struct ic_link3 *table, ic_length places, uint32_t at) {
+/* The parent of the member `at`, or IC_NONE. */
+static inline uint32_t ic_tree_parent(const struct ic_link3 *table, size_t places, uint32_t at) {
     return ic_tree_is_linked(table, places, at) ? ic_place_within(places, table[at].parent) : IC_NONE;
 }
 
@@ -1020,8 +1027,8 @@ uint32_t ic_tree_check(const struct ic_link3 *table, ic_length places, const str
 
 /* ---- Trees by keys ----
  *
- * The keys are numbers, the least in front. There has to be one for each place, and those of unlinked places are not read but for that of
- * the place to insert. The searches are for trees whose members are in order by their keys. In others they find some member or none.
+ * The keys are numbers, of which the least comes first. There has to be one for each place, and the calls read those of members and of the
+ * place to insert alone. The searches are for trees whose members are in order by their keys. In others they find some member or none.
  */
 
 /* tools/c-calls --write writes from here: tree-keys */
@@ -1056,7 +1063,7 @@ uint32_t ic_tree_upper_bound(const struct ic_link3 *table, size_t places, const 
 
 /* ---- Steps through a tree ----
  *
- * A walk over all n members takes O(n) steps. The step from a member is to be made before the member is taken off.
+ * A walk over all n members takes O(n) steps. If you remove members during the walk, step on from a member before you remove it.
  */
 
 /* tools/c-calls --write writes from here: tree-steps */
@@ -1087,14 +1094,14 @@ static inline uint32_t ic_tree_last(const struct ic_link3 *table, ic_length plac
     return ic_tree_prev(table, places, tree, IC_NONE, found);
 }
 
-/* The member behind the member `at`, from IC_NONE the first one, or IC_NONE if there is none. */
-static inline uint32_t ic_tree_behind(const struct ic_link3 *table, ic_length places, const struct ic_tree *tree, uint32_t at) {
+/* The member after the member `at`, or the first member if `at` is IC_NONE, or IC_NONE if there is none. */
+static inline uint32_t ic_tree_behind(const struct ic_link3 *table, size_t places, const struct ic_tree *tree, uint32_t at) {
     uint32_t found;
     return ic_tree_next(table, places, tree, at, &found) == IC_OK ? found : IC_NONE;
 }
 
-/* The member in front of the member `at`, from IC_NONE the last one, or IC_NONE if there is none. */
-static inline uint32_t ic_tree_before(const struct ic_link3 *table, ic_length places, const struct ic_tree *tree, uint32_t at) {
+/* The member before the member `at`, or the last member if `at` is IC_NONE, or IC_NONE if there is none. */
+static inline uint32_t ic_tree_before(const struct ic_link3 *table, size_t places, const struct ic_tree *tree, uint32_t at) {
     uint32_t found;
     return ic_tree_prev(table, places, tree, at, &found) == IC_OK ? found : IC_NONE;
 }

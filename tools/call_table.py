@@ -97,7 +97,7 @@ def has(call, name):
 
 
 def listed(words, joined):
-    return f", {joined} ".join([", ".join(words[:-1]), words[-1]]) if len(words) > 2 else f" {joined} ".join(words)
+    return f" {joined} ".join([", ".join(words[:-1]), words[-1]] if len(words) > 1 else words)
 
 
 def refusals(call, none, length):

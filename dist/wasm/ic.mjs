@@ -404,14 +404,14 @@ export class XorList extends Collection {
   pushBack(place) { this.done(this.calls.ic_xor_push_back(this.table, this.places, this.self, placeNumber(place, "place"))); }
   popFront() { return this.member(this.calls.ic_xor_pop_front(this.table, this.places, this.self, this.out)); }
   popBack() { return this.member(this.calls.ic_xor_pop_back(this.table, this.places, this.self, this.out)); }
-  insertBetween(before, place, behind) { this.done(this.calls.ic_xor_insert_between(this.table, this.places, this.self, placeNumber(before, "before"), placeNumber(place, "place"), placeNumber(behind, "behind"))); }
+  insertBetween(before, place, after) { this.done(this.calls.ic_xor_insert_between(this.table, this.places, this.self, placeNumber(before, "before"), placeNumber(place, "place"), placeNumber(after, "after"))); }
   remove(before, at) { this.done(this.calls.ic_xor_remove(this.table, this.places, this.self, placeNumber(before, "before"), placeNumber(at, "at"))); }
   replace(before, at, place) { this.done(this.calls.ic_xor_replace(this.table, this.places, this.self, placeNumber(before, "before"), placeNumber(at, "at"), placeNumber(place, "place"))); }
-  spliceBetween(before, given, behind) { this.done(this.calls.ic_xor_splice_between(this.table, this.places, this.self, placeNumber(before, "before"), this.given(given), placeNumber(behind, "behind"))); }
+  spliceBetween(before, given, after) { this.done(this.calls.ic_xor_splice_between(this.table, this.places, this.self, placeNumber(before, "before"), this.given(given), placeNumber(after, "after"))); }
   append(given) { this.done(this.calls.ic_xor_append(this.table, this.places, this.self, this.given(given))); }
   fill(first, count) { this.done(this.calls.ic_xor_fill(this.table, this.places, this.self, u32(first, "first"), u32(count, "count"))); }
   clear() { this.done(this.calls.ic_xor_clear(this.table, this.places, this.self)); }
-  splitBetween(before, behind) { return this.split((rest) => this.calls.ic_xor_split_between(this.table, this.places, this.self, placeNumber(before, "before"), placeNumber(behind, "behind"), rest)); }
+  splitBetween(before, after) { return this.split((rest) => this.calls.ic_xor_split_between(this.table, this.places, this.self, placeNumber(before, "before"), placeNumber(after, "after"), rest)); }
   reverse() { this.done(this.calls.ic_xor_reverse(this.self)); }
   // to here
 }

@@ -35,8 +35,8 @@ function lists(ic) {
     ["splitAfter", "at"], ["splitBefore", "at"], ["fill", "first", "count"]]);
   methods(stack, [["pushFront", "place"], ["insertAfter", "at", "place"], ["removeAfter", "at"], ["replaceAfter", "at", "place"], ["splitAfter", "at"],
     ["fill", "first", "count"]]);
-  methods(both, [["pushFront", "place"], ["pushBack", "place"], ["insertBetween", "before", "place", "behind"], ["remove", "before", "at"],
-    ["replace", "before", "at", "place"], ["splitBetween", "before", "behind"], ["fill", "first", "count"]]);
+  methods(both, [["pushFront", "place"], ["pushBack", "place"], ["insertBetween", "before", "place", "after"], ["remove", "before", "at"],
+    ["replace", "before", "at", "place"], ["splitBetween", "before", "after"], ["fill", "first", "count"]]);
   methods(ring, [["insertAfter", "at", "place"], ["insertBefore", "at", "place"], ["remove", "place"], ["exchange", "one", "other"], ["pushFront", "place"],
     ["pushBack", "place"], ["moveAfter", "at", "place"], ["moveBefore", "at", "place"]]);
   methods(list, [["next", "at"], ["prev", "at"]]);

@@ -23,6 +23,9 @@ tree.clear();
 for (const place of tree) console.log(place + 1, tree.find(50n), tree.lowerBound(20));
 list.sort(keys);
 list.merge(keys, rest);
+const black: boolean = tree.isBlack(3) && ic.links1(1).isLinked(null);
+const beside: Gap[] = [list.next(7), list.prev(7), stack.next(0), others.step(null, 3), tree.left(3), tree.right(3), tree.parent(3), tree.next(null)];
+const removed: Gap[] = [stack.removeAfter(null), stack.replaceAfter(null, 2), others.popFront(), others.popBack()];
 const members: number = list.check() + stack.check() + tree.check();
 const ring = new Ring(ic.links2(10), 8);
 ring.spliceAfter(ring.head, new Ring(ic.links2(10), 9));
@@ -52,5 +55,9 @@ ring.spliceAfter(8, list);
 table.insert(3);
 // @ts-expect-error: an XOR list has no check
 others.check();
+// @ts-expect-error: a read of a list names a member
+list.next(null);
+// @ts-expect-error: a tree has no such end
+tree.popFront();
 // @ts-expect-error: a place is no text
 list.pushFront("7");

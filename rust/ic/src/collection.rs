@@ -32,25 +32,25 @@ pub trait Collection: Sized {
     /// Where a cursor is.
     type Position: Position;
 
-    /// The position behind a position.
+    /// The position after a position.
     fn next(&self, table: &[Self::Link], at: Self::Position) -> Self::Position;
 
     /// The position at which a walk in order ends, if the kind knows it beforehand.
     fn end(&self, table: &[Self::Link]) -> Self::Position;
 
-    /// Links a place behind a position.
+    /// Inserts a place after a position.
     fn insert_after(&mut self, table: &mut [Self::Link], at: Self::Position, place: u32) -> Result<(), Error>;
 
-    /// Unlinks the member behind a position, if there is one.
+    /// Removes the member after a position, if there is one.
     fn remove_next(&mut self, table: &mut [Self::Link], at: Self::Position) -> Result<Option<u32>, Error>;
 }
 
 /// A kind whose cursors move both ways. Each edit returns where the cursor is then.
 pub trait Bidirectional: Collection {
-    /// The position in front of a position.
+    /// The position before a position.
     fn prev(&self, table: &[Self::Link], at: Self::Position) -> Self::Position;
 
-    /// Links a place in front of a position. The cursor stays on its member.
+    /// Inserts a place before a position. The cursor stays on its member.
     fn insert_before(
         &mut self,
         table: &mut [Self::Link],
@@ -58,25 +58,25 @@ pub trait Bidirectional: Collection {
         place: u32,
     ) -> Result<Self::Position, Error>;
 
-    /// Unlinks the member at a position. The cursor moves to the member behind.
+    /// Removes the member at a position. The cursor moves to the next member.
     fn remove(&mut self, table: &mut [Self::Link], at: Self::Position) -> Result<Self::Position, Error>;
 
-    /// Links a place where the member at a position is, which is unlinked. The cursor is on the place.
+    /// Removes the member at a position, and inserts a place where it was. The cursor is on the place.
     fn replace(&mut self, table: &mut [Self::Link], at: Self::Position, place: u32) -> Result<Self::Position, Error>;
 }
 
 /// A kind of list, which can be cut and joined.
 pub trait Splice: Collection {
-    /// Moves all members of a list behind a position.
+    /// Moves all members of a list after a position.
     fn splice_after(&mut self, table: &mut [Self::Link], at: Self::Position, given: &mut Self) -> Result<(), Error>;
 
-    /// Hands out the members behind a position.
+    /// Moves the members after a position to a new list, and returns it.
     fn split_after(&mut self, table: &mut [Self::Link], at: Self::Position) -> Result<Self, Error>;
 }
 
 /// A kind of list whose cursors move both ways. Each edit returns where the cursor is then, which stays on its member.
 pub trait BidirectionalSplice: Bidirectional + Splice {
-    /// Moves all members of a list in front of a position.
+    /// Moves all members of a list before a position.
     fn splice_before(
         &mut self,
         table: &mut [Self::Link],
@@ -84,11 +84,11 @@ pub trait BidirectionalSplice: Bidirectional + Splice {
         given: &mut Self,
     ) -> Result<Self::Position, Error>;
 
-    /// Hands out the members in front of a position.
+    /// Moves the members before a position to a new list, and returns it.
     fn split_before(&mut self, table: &mut [Self::Link], at: Self::Position) -> Result<(Self, Self::Position), Error>;
 }
 
-/// Unlinks each member that `keep` does not want. A walk over more members than the table has places is one over broken words.
+/// Removes each member that `keep` does not want. A walk over more members than the table has places is one over broken words.
 pub(crate) fn retain<C: Collection>(
     collection: &mut C,
     table: &mut [C::Link],
@@ -126,22 +126,22 @@ macro_rules! collection {
                 self.view(table).iter()
             }
 
-            /// Hands out all members, and leaves none. O(1).
+            /// Moves all members to a new list or tree, and returns it. O(1).
             #[inline]
             #[must_use = "the members stay linked"]
             pub fn take(&mut self) -> $Collection {
                 core::mem::take(self)
             }
 
-            /// Unlinks each member for which `keep` returns `false`. It asks `keep` once for each member, in order.
+            /// Removes each member for which `keep` returns `false`. It asks `keep` once for each member, in order.
             ///
-            /// O(n), and O(log n) more for each member of a tree that is unlinked.
+            /// O(n), and O(log n) more for each member of a tree that it removes.
             ///
             /// # Errors
             ///
-            /// [`Error::Broken`] if the words lead to more members than the table has places, and the error of the removal if one is refused.
-            /// Either tells that the table and its list or tree do not belong together. Unlike other calls, this one has made its edits up
-            /// to there.
+            /// [`Error::Broken`] if the words lead to more members than the table has places. If the call that removes a member is refused, its
+            /// error. Either tells that the table and its list or tree do not belong together. Unlike other calls, this one has made its
+            /// edits up to there.
             #[inline]
             pub fn retain(&mut self, table: &mut [$Link], keep: impl FnMut(u32) -> bool) -> Result<(), Error> {
                 crate::collection::retain(self, table, keep)
@@ -211,11 +211,11 @@ macro_rules! bidirectional {
 macro_rules! from_place {
     ($Collection:ident, $Link:ident) => {
         impl $Collection {
-            /// A cursor on a member. O(1). It has to be a member of this list or tree, which the call cannot tell from those of another.
+            /// A cursor on the member `place`. O(1). The call cannot tell the members of this list or tree from those of another one.
             ///
             /// # Errors
             ///
-            /// [`Error::OutOfRange`] or [`Error::NotLinked`] of `place`.
+            /// [`Error::OutOfRange`] if `place` is not below the table's length. [`Error::NotLinked`] if `place` is not linked.
             #[inline]
             pub fn cursor_from_place<'a>(
                 &'a self,
@@ -226,12 +226,12 @@ macro_rules! from_place {
                 Ok(Cursor::new(self, table, Some(place)))
             }
 
-            /// A cursor on a member, which edits. O(1). It has to be a member of this list or tree, which the call cannot tell from those of
-            /// another.
+            /// A cursor on the member `place`, which edits. O(1). The call cannot tell the members of this list or tree from those of another
+            /// one.
             ///
             /// # Errors
             ///
-            /// [`Error::OutOfRange`] or [`Error::NotLinked`] of `place`.
+            /// [`Error::OutOfRange`] if `place` is not below the table's length. [`Error::NotLinked`] if `place` is not linked.
             #[inline]
             pub fn cursor_mut_from_place<'a>(
                 &'a mut self,

@@ -60,7 +60,7 @@ impl<'a, C: Collection> Cursor<'a, C> {
         self.view
     }
 
-    /// Moves to the member behind, from none to the first, and from the last to none. O(1) in a list, O(log n) in a tree.
+    /// Moves to the next member, from none to the first, and from the last to none. O(1) in a list, O(log n) in a tree.
     #[inline]
     pub fn move_next(&mut self) {
         self.position = self.view.next(self.position);
@@ -78,7 +78,7 @@ impl<'a, C: Collection> Cursor<'a, C> {
 
 /// What cursors of all but a [`Stack`] have besides.
 impl<C: Bidirectional> Cursor<'_, C> {
-    /// Moves to the member in front, from none to the last, and from the first to none. O(1) in a list, O(log n) in a tree.
+    /// Moves to the previous member, from none to the last, and from the first to none. O(1) in a list, O(log n) in a tree.
     #[inline]
     pub fn move_prev(&mut self) {
         self.position = self.view.prev(self.position);
@@ -173,7 +173,7 @@ impl<'a, C: Collection> CursorMut<'a, C> {
         Cursor { view: self.view(), position: self.position }
     }
 
-    /// Moves to the member behind, from none to the first, and from the last to none. O(1) in a list, O(log n) in a tree.
+    /// Moves to the next member, from none to the first, and from the last to none. O(1) in a list, O(log n) in a tree.
     #[inline]
     pub fn move_next(&mut self) {
         self.position = self.peek_next().position;
@@ -186,14 +186,14 @@ impl<'a, C: Collection> CursorMut<'a, C> {
         self.as_cursor().peek_next()
     }
 
-    /// Links a place behind the cursor's member, or at the front if the cursor is on none. O(1) in a list, O(log n) in a tree.
+    /// Inserts `place` after the cursor's member, or at the front if the cursor is on none. O(1) in a list, O(log n) in a tree.
     ///
-    /// The cursor stays. In a tree nothing is compared, so hand in a place that belongs there.
+    /// The cursor stays. In a tree the call compares nothing, so hand in a place that belongs there.
     ///
     /// # Errors
     ///
-    /// [`Error::OutOfRange`] or [`Error::Linked`] of `place`. [`Error::Broken`] or [`Error::NotLinked`] if the table and its list or tree do
-    /// not belong together.
+    /// [`Error::OutOfRange`] if `place` is not below the table's length. [`Error::Linked`] if `place` is linked already. [`Error::Broken`] or
+    /// [`Error::NotLinked`] if the table and its list or tree do not belong together.
     #[inline]
     pub fn insert_after(&mut self, place: u32) -> Result<(), Error> {
         self.collection.insert_after(self.table, self.position, place)
@@ -202,7 +202,7 @@ impl<'a, C: Collection> CursorMut<'a, C> {
 
 /// What cursors of all but a [`Stack`] have besides.
 impl<C: Bidirectional> CursorMut<'_, C> {
-    /// Moves to the member in front, from none to the last, and from the first to none. O(1) in a list, O(log n) in a tree.
+    /// Moves to the previous member, from none to the last, and from the first to none. O(1) in a list, O(log n) in a tree.
     #[inline]
     pub fn move_prev(&mut self) {
         self.position = self.peek_prev().position;
@@ -215,23 +215,23 @@ impl<C: Bidirectional> CursorMut<'_, C> {
         self.as_cursor().peek_prev()
     }
 
-    /// Links a place in front of the cursor's member, or at the back if the cursor is on none. O(1) in a list, O(log n) in a tree.
+    /// Inserts `place` before the cursor's member, or at the back if the cursor is on none. O(1) in a list, O(log n) in a tree.
     ///
-    /// The cursor stays. In a tree nothing is compared, so hand in a place that belongs there.
+    /// The cursor stays. In a tree the call compares nothing, so hand in a place that belongs there.
     ///
     /// # Errors
     ///
-    /// [`Error::OutOfRange`] or [`Error::Linked`] of `place`. [`Error::Broken`] or [`Error::NotLinked`] if the table and its list or tree do
-    /// not belong together.
+    /// [`Error::OutOfRange`] if `place` is not below the table's length. [`Error::Linked`] if `place` is linked already. [`Error::Broken`] or
+    /// [`Error::NotLinked`] if the table and its list or tree do not belong together.
     #[inline]
     pub fn insert_before(&mut self, place: u32) -> Result<(), Error> {
         self.position = self.collection.insert_before(self.table, self.position, place)?;
         Ok(())
     }
 
-    /// Unlinks the cursor's member and returns it, or `None` if the cursor is on none. O(1) in a list, O(log n) in a tree.
+    /// Removes the cursor's member and returns it, or `None` if the cursor is on none. O(1) in a list, O(log n) in a tree.
     ///
-    /// The cursor moves to the member behind.
+    /// The cursor moves to the next member.
     ///
     /// # Errors
     ///
@@ -246,14 +246,14 @@ impl<C: Bidirectional> CursorMut<'_, C> {
         Ok(member)
     }
 
-    /// Links a place where the cursor's member is, and returns the member, which is unlinked. O(1).
+    /// Removes the cursor's member, inserts `place` where it was, and returns the removed member. O(1).
     ///
-    /// The cursor is on the place then. In a tree nothing is compared, so hand in a place that belongs there.
+    /// The cursor is on the place then. In a tree the call compares nothing, so hand in a place that belongs there.
     ///
     /// # Errors
     ///
-    /// [`Error::Null`] if the cursor is on none. [`Error::OutOfRange`] or [`Error::Linked`] of `place`. [`Error::Broken`] or
-    /// [`Error::NotLinked`] if the table and its list or tree do not belong together.
+    /// [`Error::Null`] if the cursor is on none. [`Error::OutOfRange`] if `place` is not below the table's length. [`Error::Linked`] if `place`
+    /// is linked already. [`Error::Broken`] or [`Error::NotLinked`] if the table and its list or tree do not belong together.
     #[inline]
     #[doc(alias = "replace_current")]
     pub fn replace_with(&mut self, place: u32) -> Result<u32, Error> {
@@ -265,9 +265,9 @@ impl<C: Bidirectional> CursorMut<'_, C> {
 
 /// What cursors of lists have besides.
 impl<C: Splice> CursorMut<'_, C> {
-    /// Moves all members of a list of the same table behind the cursor's member, or to the front if the cursor is on none.
+    /// Moves all members of a list of the same table after the cursor's member, or to the front if the cursor is on none.
     ///
-    /// O(1), and O(members of `given`) for a [`Stack`]. `given` is empty then. The cursor stays.
+    /// O(1), and O(members of `given`) for a [`Stack`]. Then `given` is empty. The cursor stays.
     ///
     /// # Errors
     ///
@@ -278,7 +278,7 @@ impl<C: Splice> CursorMut<'_, C> {
         self.collection.splice_after(self.table, self.position, given)
     }
 
-    /// Hands out the members behind the cursor's member as a list, or all if the cursor is on none. O(1). The cursor stays.
+    /// Moves the members after the cursor's member, or all if the cursor is on none, to a new list, which it returns. O(1). The cursor stays.
     ///
     /// # Errors
     ///
@@ -291,9 +291,9 @@ impl<C: Splice> CursorMut<'_, C> {
 
 /// What cursors of a [`List`](crate::List) and an [`XorList`](crate::XorList) have besides.
 impl<C: BidirectionalSplice> CursorMut<'_, C> {
-    /// Moves all members of a list of the same table in front of the cursor's member, or to the back if the cursor is on none. O(1).
+    /// Moves all members of a list of the same table before the cursor's member, or to the back if the cursor is on none. O(1).
     ///
-    /// `given` is empty then. The cursor stays.
+    /// Then `given` is empty. The cursor stays.
     ///
     /// # Errors
     ///
@@ -305,7 +305,7 @@ impl<C: BidirectionalSplice> CursorMut<'_, C> {
         Ok(())
     }
 
-    /// Hands out the members in front of the cursor's member as a list, or all if the cursor is on none. O(1). The cursor stays.
+    /// Moves the members before the cursor's member, or all if the cursor is on none, to a new list, which it returns. O(1). The cursor stays.
     ///
     /// # Errors
     ///
@@ -337,7 +337,7 @@ impl<C: BidirectionalSplice> CursorMut<'_, C> {
 /// # Ok::<(), ic::Error>(())
 /// ```
 impl CursorMut<'_, Stack> {
-    /// Unlinks the member behind the cursor and returns it, or `None` if there is none. O(1). The cursor stays.
+    /// Removes the member after the cursor and returns it, or `None` if there is none. O(1). The cursor stays.
     ///
     /// # Errors
     ///
@@ -347,12 +347,13 @@ impl CursorMut<'_, Stack> {
         self.collection.remove_after(self.table, self.position)
     }
 
-    /// Links a place where the member behind the cursor is, and returns the member, which is unlinked. O(1). The cursor stays.
+    /// Removes the member after the cursor, inserts `place` where it was, and returns the removed member. O(1). The cursor stays.
     ///
     /// # Errors
     ///
-    /// [`Error::Null`] if there is no member behind the cursor. [`Error::OutOfRange`] or [`Error::Linked`] of `place`. [`Error::Broken`] or
-    /// [`Error::NotLinked`] if the table and the list do not belong together.
+    /// [`Error::Null`] if there is no member after the cursor. [`Error::OutOfRange`] if `place` is not below the table's length.
+    /// [`Error::Linked`] if `place` is linked already. [`Error::Broken`] or [`Error::NotLinked`] if the table and the list do not belong
+    /// together.
     #[inline]
     pub fn replace_next_with(&mut self, place: u32) -> Result<u32, Error> {
         self.collection.replace_after(self.table, self.position, place)

@@ -19,15 +19,15 @@ use ic_sys::*;
 /// ```
 #[derive(Clone, Copy, Debug, PartialEq, Eq, Hash)]
 pub enum Error {
-    /// A place is not below the table's length, or there are fewer keys than places, or no buckets.
+    /// A place is not below the table's length, or there are fewer keys than places, or there is no bucket.
     OutOfRange,
     /// The place to insert is in a list or tree of this table.
     Linked,
     /// The member that is named is in no list or tree of this table.
     NotLinked,
-    /// There is no member where the call needs one.
+    /// The call needs a member, and there is none.
     Null,
-    /// Table, list or tree, and member do not belong together.
+    /// The table, the list or tree, and the members do not belong together.
     Broken,
 }
 
@@ -35,12 +35,12 @@ impl fmt::Display for Error {
     fn fmt(&self, f: &mut fmt::Formatter<'_>) -> fmt::Result {
         f.write_str(match self {
             Error::OutOfRange => {
-                "a place is not below the table's length, or there are fewer keys than places, or no buckets"
+                "a place is not below the table's length, or there are fewer keys than places, or there is no bucket"
             }
             Error::Linked => "the place to insert is in a list or tree of this table",
             Error::NotLinked => "the member that is named is in no list or tree of this table",
-            Error::Null => "there is no member where the call needs one",
-            Error::Broken => "table, list or tree, and member do not belong together",
+            Error::Null => "the call needs a member, and there is none",
+            Error::Broken => "the table, the list or tree, and the members do not belong together",
         })
     }
 }

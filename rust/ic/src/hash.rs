@@ -40,7 +40,7 @@ use crate::link::Link;
 use crate::{Error, Link1, Stack};
 use ic_sys::*;
 
-/// The chain of a hash, or `None` of no buckets. O(1).
+/// The chain of a hash, or `None` if there is no bucket. O(1).
 #[inline]
 #[must_use]
 pub fn chain(buckets: &[Stack], hash: u64) -> Option<&Stack> {

@@ -39,7 +39,7 @@ impl<'a> Entry<'a> {
     ///
     /// # Errors
     ///
-    /// As [`VacantEntry::insert`].
+    /// It returns the errors of [`VacantEntry::insert`].
     #[inline]
     pub fn or_insert(self, place: u32) -> Result<CursorMut<'a, Tree>, Error> {
         self.or_insert_with(|| place)
@@ -50,7 +50,7 @@ impl<'a> Entry<'a> {
     ///
     /// # Errors
     ///
-    /// As [`VacantEntry::insert`].
+    /// It returns the errors of [`VacantEntry::insert`].
     #[inline]
     pub fn or_insert_with(self, make: impl FnOnce() -> u32) -> Result<CursorMut<'a, Tree>, Error> {
         match self {

@@ -22,12 +22,12 @@
 //!
 //! | Type | Link | Good for |
 //! |---|---|---|
-//! | [`List`] | [`Link2`], 16 bytes | queues and caches, from whose middle objects leave |
-//! | [`ring`] | [`Link2`], 16 bytes | queues whose members leave with no queue named |
+//! | [`List`] | [`Link2`], 16 bytes | queues and caches, from whose middle you remove objects |
+//! | [`ring`] | [`Link2`], 16 bytes | queues whose members you remove without the queue's name |
 //! | [`Stack`] | [`Link1`], 8 bytes | stacks and free lists |
-//! | [`mod@hash`] | [`Link1`], 8 bytes | objects that are found by a key, in no order |
+//! | [`mod@hash`] | [`Link1`], 8 bytes | objects that you find by a key, in no order |
 //! | [`XorList`] | [`Link1`], 8 bytes | both ends and both directions, where memory is scarce |
-//! | [`Tree`] | [`Link3`], 24 bytes | timers, priorities and indices: objects in order, which are searched for |
+//! | [`Tree`] | [`Link3`], 24 bytes | timers, priorities and indices: objects in order, which you search for |
 //!
 //! # A list and its table
 //!
@@ -73,10 +73,13 @@
 //!
 //! The types don't say which table a list or tree belongs to. Use each with its own table. With another one every call is memory safe, but
 //! it may mix up the members of both, if no word tells it to return [`Error::Broken`]. An iterator ends after as many members as the table
-//! has places, and no cursor leaves the table: both read a word that names a place out of the table as none.
+//! has places, and at a place that is not linked. No cursor leaves the table: it reads a word that names a place out of the table as none.
 //!
-//! The edits, the searches and the steps through a tree are calls of the static library `libic_ffi.a`, which are proved. This crate is
-//! tested, and not proved.
+//! Links and lists hold numbers and no addresses. You can write their [words](Link2::words) to a file, and read them again. Words may be any, and
+//! [`List::check`] says whether they are a list.
+//!
+//! The edits, the searches and the steps through a tree are calls of the crate `ic-sys`, which are proved. This crate is tested, and not
+//! proved. Its `unsafe` blocks are these calls alone.
 
 #![no_std]
 #![warn(missing_docs, clippy::missing_errors_doc, clippy::undocumented_unsafe_blocks)]

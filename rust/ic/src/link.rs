@@ -93,7 +93,7 @@ macro_rules! link {
             /// The link of a place that is in no list and no tree.
             pub const UNLINKED: $Link = $Link($Raw { $first: 0 $(, $word: 0)* });
 
-            /// The link that has these words, which may be any, as of a file. The `check` of a list or tree says whether a table of them holds it.
+            /// The link that has these words, which may be any. They may come from a file: the `check` of a list or tree says whether a table holds it.
             #[inline]
             #[must_use]
             pub const fn from_words([$first $(, $word)*]: [u64; $words]) -> $Link {

@@ -11,7 +11,7 @@ use ic_sys::*;
 
 /// A doubly linked list over a table of [`Link2`].
 ///
-/// It is good for queues, and for caches, from whose middle objects leave. Here the place that was used last is in front:
+/// It is good for queues, and for caches, from whose middle objects leave. Here the place that was used last comes first:
 ///
 /// ```
 /// use ic::{Error, Link2, List};
@@ -37,7 +37,7 @@ use ic_sys::*;
 /// # Ok::<(), Error>(())
 /// ```
 ///
-/// Keys that stand in a slice of yours order the members, one for each place:
+/// A slice of yours may have a key for each place, by which you sort the members:
 ///
 /// ```
 /// # use ic::{Error, Link2, List};
@@ -64,7 +64,7 @@ use ic_sys::*;
 /// # Ok::<(), Error>(())
 /// ```
 ///
-/// Dropping the list leaves its members linked. A clone of it belongs to a clone of the table.
+/// If you drop the list, its members stay linked. A clone of it belongs to a clone of the table.
 #[repr(transparent)]
 #[derive(Clone, Default, PartialEq, Eq)]
 pub struct List(pub(crate) ic_list);
@@ -77,7 +77,7 @@ impl List {
         List(ic_list { head: 0, tail: 0 })
     }
 
-    /// The list that has these words, which may be any, as of a file. [`check`](Self::check) says whether a table holds it.
+    /// The list that has these words, which may be any. They may come from a file: [`check`](Self::check) says whether a table holds it.
     #[inline]
     #[must_use]
     pub const fn from_words([head, tail]: [u64; 2]) -> List {
@@ -91,7 +91,7 @@ impl List {
         [self.0.head, self.0.tail]
     }
 
-    /// Whether it has no members. O(1).
+    /// Whether there are no members. O(1).
     #[inline]
     #[must_use]
     pub fn is_empty(&self) -> bool {

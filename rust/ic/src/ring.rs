@@ -108,7 +108,7 @@ pub fn exchange(table: &mut [Link2], one: u32, other: u32) -> Result<(), Error> 
 ///
 /// # Errors
 ///
-/// As [`insert_after`].
+/// It returns the errors of [`insert_after`].
 #[inline]
 pub fn push_front(table: &mut [Link2], head: u32, place: u32) -> Result<(), Error> {
     insert_after(table, head, place)
@@ -118,7 +118,7 @@ pub fn push_front(table: &mut [Link2], head: u32, place: u32) -> Result<(), Erro
 ///
 /// # Errors
 ///
-/// As [`insert_before`].
+/// It returns the errors of [`insert_before`].
 #[inline]
 pub fn push_back(table: &mut [Link2], head: u32, place: u32) -> Result<(), Error> {
     insert_before(table, head, place)
@@ -128,7 +128,7 @@ pub fn push_back(table: &mut [Link2], head: u32, place: u32) -> Result<(), Error
 ///
 /// # Errors
 ///
-/// As [`remove`], of the head or of its first member.
+/// It returns the errors of [`remove`], which it calls for the first member. If the head is in no ring, it returns the error for the head.
 #[inline]
 pub fn pop_front(table: &mut [Link2], head: u32) -> Result<Option<u32>, Error> {
     pop(table, head, next(table, head))
@@ -138,7 +138,7 @@ pub fn pop_front(table: &mut [Link2], head: u32) -> Result<Option<u32>, Error> {
 ///
 /// # Errors
 ///
-/// As [`remove`], of the head or of its last member.
+/// It returns the errors of [`remove`], which it calls for the last member. If the head is in no ring, it returns the error for the head.
 #[inline]
 pub fn pop_back(table: &mut [Link2], head: u32) -> Result<Option<u32>, Error> {
     pop(table, head, prev(table, head))
@@ -148,7 +148,7 @@ pub fn pop_back(table: &mut [Link2], head: u32) -> Result<Option<u32>, Error> {
 ///
 /// # Errors
 ///
-/// As [`insert_before`] and [`remove`].
+/// It returns the errors of [`insert_before`] and [`remove`].
 pub fn replace(table: &mut [Link2], at: u32, place: u32) -> Result<(), Error> {
     insert_before(table, at, place)?;
     undone_if(remove(table, at), || remove(table, place))
@@ -160,7 +160,7 @@ pub fn replace(table: &mut [Link2], at: u32, place: u32) -> Result<(), Error> {
 ///
 /// # Errors
 ///
-/// [`Error::Linked`] if `at` and `place` are the same. Otherwise as [`remove`] and [`insert_after`].
+/// [`Error::Linked`] if `at` and `place` are the same. Otherwise it returns the errors of [`remove`] and [`insert_after`].
 #[inline]
 pub fn move_after(table: &mut [Link2], at: u32, place: u32) -> Result<(), Error> {
     move_by(table, at, place, insert_after)
@@ -172,7 +172,7 @@ pub fn move_after(table: &mut [Link2], at: u32, place: u32) -> Result<(), Error>
 ///
 /// # Errors
 ///
-/// [`Error::Linked`] if `at` and `place` are the same. Otherwise as [`remove`] and [`insert_before`].
+/// [`Error::Linked`] if `at` and `place` are the same. Otherwise it returns the errors of [`remove`] and [`insert_before`].
 #[inline]
 pub fn move_before(table: &mut [Link2], at: u32, place: u32) -> Result<(), Error> {
     move_by(table, at, place, insert_before)
@@ -182,7 +182,7 @@ pub fn move_before(table: &mut [Link2], at: u32, place: u32) -> Result<(), Error
 ///
 /// # Errors
 ///
-/// As [`exchange`].
+/// It returns the errors of [`exchange`].
 pub fn splice_after(table: &mut [Link2], at: u32, given: u32) -> Result<(), Error> {
     let Some(last) = prev(table, given) else { return beside_none(table, given, at) };
     exchange(table, last, at)?;
@@ -193,7 +193,7 @@ pub fn splice_after(table: &mut [Link2], at: u32, given: u32) -> Result<(), Erro
 ///
 /// # Errors
 ///
-/// As [`exchange`].
+/// It returns the errors of [`exchange`].
 pub fn splice_before(table: &mut [Link2], at: u32, given: u32) -> Result<(), Error> {
     match prev(table, at) {
         Some(before) => splice_after(table, before, given),

@@ -9,7 +9,7 @@ use ic_sys::*;
 
 /// A singly linked list over a table of [`Link1`].
 ///
-/// It is good for stacks and free lists. What is edited is behind a member, or at the front:
+/// It is good for stacks and free lists. Calls edit it after a member, or at the front:
 ///
 /// ```
 /// use ic::{Error, Link1, Stack};
@@ -31,7 +31,7 @@ use ic_sys::*;
 /// # Ok::<(), Error>(())
 /// ```
 ///
-/// Dropping the list leaves its members linked. A clone of it belongs to a clone of the table.
+/// If you drop the list, its members stay linked. A clone of it belongs to a clone of the table.
 #[repr(transparent)]
 #[derive(Clone, Default, PartialEq, Eq)]
 pub struct Stack(pub(crate) ic_stack);
@@ -44,7 +44,7 @@ impl Stack {
         Stack(ic_stack { head: 0 })
     }
 
-    /// The list that has these words, which may be any, as of a file. [`check`](Self::check) says whether a table holds it.
+    /// The list that has these words, which may be any. They may come from a file: [`check`](Self::check) says whether a table holds it.
     #[inline]
     #[must_use]
     pub const fn from_words([head]: [u64; 1]) -> Stack {
@@ -58,7 +58,7 @@ impl Stack {
         [self.0.head]
     }
 
-    /// Whether it has no members. O(1).
+    /// Whether there are no members. O(1).
     #[inline]
     #[must_use]
     pub fn is_empty(&self) -> bool {

@@ -9,8 +9,8 @@ use ic_sys::*;
 
 /// A red-black tree over a table of [`Link3`].
 ///
-/// It is good for timers, priorities and indices: objects in order that come and leave anywhere, and are searched for. You order the members
-/// in one of two ways. By a number each, in a slice of your own, where `keys[place]` is a place's key:
+/// It is good for timers, priorities and indices: objects in order, which you insert and remove anywhere, and search for. You order the
+/// members in one of two ways. By a number each, in a slice of your own, where `keys[place]` is a place's key:
 ///
 /// ```
 /// use ic::{Error, Link3, Tree};
@@ -27,7 +27,8 @@ use ic_sys::*;
 /// # Ok::<(), Error>(())
 /// ```
 ///
-/// Or by any comparison of yours. Go down from the root to where the place belongs, and put it in there:
+/// Or by any comparison of yours, which you hand to [`insert_by`](Self::insert_by). You can also go down from the root to where the place belongs, and
+/// insert it there:
 ///
 /// ```
 /// use ic::{Error, Link3, Tree};
@@ -52,7 +53,7 @@ use ic_sys::*;
 /// # Ok::<(), Error>(())
 /// ```
 ///
-/// Members leave by name, at a [cursor](CursorMut), or many at once:
+/// You remove a member by its place, at a [cursor](CursorMut), or many at once:
 ///
 /// ```
 /// use ic::{Error, Link3, Tree};
@@ -71,7 +72,7 @@ use ic_sys::*;
 /// # Ok::<(), Error>(())
 /// ```
 ///
-/// n is how many members there are. Dropping the tree leaves its members linked. A clone of the tree belongs to a clone of the table.
+/// n is how many members there are. If you drop the tree, its members stay linked. A clone of the tree belongs to a clone of the table.
 #[repr(transparent)]
 #[derive(Clone, Default, PartialEq, Eq)]
 pub struct Tree(pub(crate) ic_tree);
@@ -84,7 +85,7 @@ impl Tree {
         Tree(ic_tree { root: 0 })
     }
 
-    /// The tree that has these words, which may be any, as of a file. [`check`](Self::check) says whether a table holds it.
+    /// The tree that has these words, which may be any. They may come from a file: [`check`](Self::check) says whether a table holds it.
     #[inline]
     #[must_use]
     pub const fn from_words([root]: [u64; 1]) -> Tree {
@@ -98,7 +99,7 @@ impl Tree {
         [self.0.root]
     }
 
-    /// Whether it has no members. O(1).
+    /// Whether there are no members. O(1).
     #[inline]
     #[must_use]
     pub fn is_empty(&self) -> bool {
@@ -219,7 +220,7 @@ impl Tree {
     // to here
 }
 
-/// Trees by keys. A key is the number at the place's index, and there has to be one for each place. The least is in front.
+/// Trees by keys. A key is the number at the place's index, and there has to be one for each place. The least comes first.
 ///
 /// A member's key must not change. The searches are for trees whose members are in order by their keys. In others they find some member
 /// or none.
@@ -285,7 +286,7 @@ impl Tree {
     ///
     /// # Errors
     ///
-    /// [`Error::Broken`] if the root is none of this table.
+    /// [`Error::Broken`] if the root does not belong to this table.
     #[inline]
     pub fn first(&self, table: &[Link3]) -> Result<Option<u32>, Error> {
         Tree::next(self, table, None)
@@ -295,7 +296,7 @@ impl Tree {
     ///
     /// # Errors
     ///
-    /// As [`first`](Self::first).
+    /// [`Error::Broken`] if the root does not belong to this table.
     #[inline]
     pub fn last(&self, table: &[Link3]) -> Result<Option<u32>, Error> {
         Tree::prev(self, table, None)
@@ -342,7 +343,7 @@ impl fmt::Debug for Tree {
     }
 }
 
-// A place is put in beside a member where that has no child. Where it has one, the member's neighbor on that side has none.
+// These calls insert a place beside a member as its child, if it has none on that side. If it has one, its neighbor on that side has none.
 impl Collection for Tree {
     type Link = Link3;
     type Position = Option<u32>;

@@ -9,9 +9,9 @@ use ic_sys::*;
 
 /// An XOR list over a table of [`Link1`].
 ///
-/// It is good for lists that are used at both ends and walked both ways, where memory is scarce. A member alone does not tell its neighbors,
-/// so a gap is named by both members beside it: `before` is the member in front of it, or `None` at the front, and `behind` is the member
-/// behind it, or `None` at the back. A [cursor](CursorMut) knows them:
+/// It is good for lists that you use at both ends and walk both ways, if memory is scarce. A member alone does not tell its neighbors, so you
+/// name a gap by both members beside it: `before` is the member before the gap, or `None` at the front, and `after` is the member after the
+/// gap, or `None` at the back. A [cursor](CursorMut) knows them:
 ///
 /// ```
 /// use ic::{Error, Link1, XorList};
@@ -37,7 +37,7 @@ use ic_sys::*;
 /// # Ok::<(), Error>(())
 /// ```
 ///
-/// Dropping the list leaves its members linked. A clone of it belongs to a clone of the table.
+/// If you drop the list, its members stay linked. A clone of it belongs to a clone of the table.
 #[repr(transparent)]
 #[derive(Clone, Default, PartialEq, Eq)]
 pub struct XorList(pub(crate) ic_xor_list);
@@ -50,8 +50,7 @@ impl XorList {
         XorList(ic_xor_list { head: 0, tail: 0 })
     }
 
-    /// The list that has these words, which may be any, as of a file. No call tells
-    /// whether a table holds an XOR list.
+    /// The list that has these words, which may be any. No call tells whether a table holds an XOR list.
     #[inline]
     #[must_use]
     pub const fn from_words([head, tail]: [u64; 2]) -> XorList {
@@ -65,7 +64,7 @@ impl XorList {
         [self.0.head, self.0.tail]
     }
 
-    /// Whether it has no members. O(1).
+    /// Whether there are no members. O(1).
     #[inline]
     #[must_use]
     pub fn is_empty(&self) -> bool {
@@ -145,23 +144,23 @@ impl XorList {
         handed_out(|it| unsafe { ic_xor_pop_back(links, places, &mut self.0, it) })
     }
 
-    /// Inserts `place` in the gap between the members `before` and `behind`. O(1).
+    /// Inserts `place` in the gap between the members `before` and `after`. O(1).
     ///
     /// # Errors
     ///
-    /// [`Error::OutOfRange`] if `before`, `place`, or `behind` is not below the table's length. [`Error::Linked`] if `place` is linked
-    /// already. [`Error::NotLinked`] if `before` or `behind` is not linked. [`Error::Broken`] if there is no such gap.
+    /// [`Error::OutOfRange`] if `before`, `place` or `after` is not below the table's length. [`Error::Linked`] if `place` is linked
+    /// already. [`Error::NotLinked`] if `before` or `after` is not linked. [`Error::Broken`] if there is no such gap.
     #[inline]
     pub fn insert_between(
         &mut self,
         table: &mut [Link1],
         before: Option<u32>,
         place: u32,
-        behind: Option<u32>,
+        after: Option<u32>,
     ) -> Result<(), Error> {
         let (links, places) = Link1::parts(table);
         // SAFETY: each pointer comes from a reference, with the length of its slice, and no mutable reference overlaps another one.
-        done(unsafe { ic_xor_insert_between(links, places, &mut self.0, number(before), place, number(behind)) })
+        done(unsafe { ic_xor_insert_between(links, places, &mut self.0, number(before), place, number(after)) })
     }
 
     /// Removes the member `at`. O(1). The member before it is `before`, or `None` if `at` is the first member.
@@ -182,7 +181,7 @@ impl XorList {
     ///
     /// # Errors
     ///
-    /// [`Error::Null`] if `at` is `u32::MAX`. [`Error::OutOfRange`] if `before`, `at`, or `place` is not below the table's length.
+    /// [`Error::Null`] if `at` is `u32::MAX`. [`Error::OutOfRange`] if `before`, `at` or `place` is not below the table's length.
     /// [`Error::Linked`] if `place` is linked already, as it is if `at` and `place` are the same. [`Error::NotLinked`] if `before` or `at`
     /// is not linked. [`Error::Broken`] if there are no two such members.
     #[inline]
@@ -192,11 +191,11 @@ impl XorList {
         done(unsafe { ic_xor_replace(links, places, &mut self.0, number(before), at, place) })
     }
 
-    /// Moves all members of `given`, in their order, into the gap between the members `before` and `behind`. O(1). Then `given` is empty.
+    /// Moves all members of `given`, in their order, into the gap between the members `before` and `after`. O(1). Then `given` is empty.
     ///
     /// # Errors
     ///
-    /// [`Error::OutOfRange`] if `before` or `behind` is not below the table's length. [`Error::NotLinked`] if `before` or `behind` is not
+    /// [`Error::OutOfRange`] if `before` or `after` is not below the table's length. [`Error::NotLinked`] if `before` or `after` is not
     /// linked. [`Error::Broken`] if there is no such gap, or `given` is no list of this table, or both lists begin with the same member, as
     /// a list and its copy do.
     #[inline]
@@ -205,11 +204,11 @@ impl XorList {
         table: &mut [Link1],
         before: Option<u32>,
         given: &mut XorList,
-        behind: Option<u32>,
+        after: Option<u32>,
     ) -> Result<(), Error> {
         let (links, places) = Link1::parts(table);
         // SAFETY: each pointer comes from a reference, with the length of its slice, and no mutable reference overlaps another one.
-        done(unsafe { ic_xor_splice_between(links, places, &mut self.0, number(before), &mut given.0, number(behind)) })
+        done(unsafe { ic_xor_splice_between(links, places, &mut self.0, number(before), &mut given.0, number(after)) })
     }
 
     /// Moves all members of `given`, in their order, to the back. O(1). Then `given` is empty.
@@ -252,23 +251,23 @@ impl XorList {
         done(unsafe { ic_xor_clear(links, places, &mut self.0) })
     }
 
-    /// Moves the members from `behind` on to a new list, which it returns, so that `before` becomes the last member. O(1). All members move
-    /// if `before` is `None`, and none if `behind` is `None`.
+    /// Moves the members from `after` on to a new list, which it returns, so that `before` becomes the last member. O(1). All members move
+    /// if `before` is `None`, and none if `after` is `None`.
     ///
     /// # Errors
     ///
-    /// [`Error::OutOfRange`] if `before` or `behind` is not below the table's length. [`Error::NotLinked`] if `before` or `behind` is not
+    /// [`Error::OutOfRange`] if `before` or `after` is not below the table's length. [`Error::NotLinked`] if `before` or `after` is not
     /// linked. [`Error::Broken`] if there is no such gap.
     #[inline]
     pub fn split_between(
         &mut self,
         table: &mut [Link1],
         before: Option<u32>,
-        behind: Option<u32>,
+        after: Option<u32>,
     ) -> Result<XorList, Error> {
         let ((links, places), mut rest) = (Link1::parts(table), XorList::new());
         // SAFETY: each pointer comes from a reference, with the length of its slice, and no mutable reference overlaps another one.
-        done(unsafe { ic_xor_split_between(links, places, &mut self.0, number(before), number(behind), &mut rest.0) })?;
+        done(unsafe { ic_xor_split_between(links, places, &mut self.0, number(before), number(after), &mut rest.0) })?;
         Ok(rest)
     }
 
@@ -286,11 +285,11 @@ bidirectional!(XorList, Link1);
 
 /// Cursors on a member that is named with a neighbor.
 impl XorList {
-    /// A cursor on a member, whose neighbor in front is `prev`. O(1). The call cannot tell the members of this list from those of another.
+    /// A cursor on the member `place`, before which `prev` is. O(1). The call cannot tell the members of this list from those of another.
     ///
     /// # Errors
     ///
-    /// [`Error::OutOfRange`] or [`Error::NotLinked`] of `place` or `prev`.
+    /// [`Error::OutOfRange`] if `place` or `prev` is not below the table's length. [`Error::NotLinked`] if one of them is not linked.
     #[inline]
     pub fn cursor_from_place_and_prev<'a>(
         &'a self,
@@ -302,11 +301,11 @@ impl XorList {
         Ok(Cursor::new(self, table, position))
     }
 
-    /// A cursor on a member, whose neighbor behind is `next`. O(1). The call cannot tell the members of this list from those of another.
+    /// A cursor on the member `place`, after which `next` is. O(1). The call cannot tell the members of this list from those of another.
     ///
     /// # Errors
     ///
-    /// [`Error::OutOfRange`] or [`Error::NotLinked`] of `place` or `next`.
+    /// [`Error::OutOfRange`] if `place` or `next` is not below the table's length. [`Error::NotLinked`] if one of them is not linked.
     #[inline]
     pub fn cursor_from_place_and_next<'a>(
         &'a self,
@@ -318,12 +317,12 @@ impl XorList {
         Ok(Cursor::new(self, table, position))
     }
 
-    /// A cursor on a member, whose neighbor in front is `prev`, which edits. O(1). The call cannot tell the members of this list from those of
+    /// A cursor on the member `place`, before which `prev` is, which edits. O(1). The call cannot tell the members of this list from those of
     /// another.
     ///
     /// # Errors
     ///
-    /// [`Error::OutOfRange`] or [`Error::NotLinked`] of `place` or `prev`.
+    /// [`Error::OutOfRange`] if `place` or `prev` is not below the table's length. [`Error::NotLinked`] if one of them is not linked.
     #[inline]
     pub fn cursor_mut_from_place_and_prev<'a>(
         &'a mut self,
@@ -335,12 +334,12 @@ impl XorList {
         Ok(CursorMut::new(self, table, position))
     }
 
-    /// A cursor on a member, whose neighbor behind is `next`, which edits. O(1). The call cannot tell the members of this list from those of
+    /// A cursor on the member `place`, after which `next` is, which edits. O(1). The call cannot tell the members of this list from those of
     /// another.
     ///
     /// # Errors
     ///
-    /// [`Error::OutOfRange`] or [`Error::NotLinked`] of `place` or `next`.
+    /// [`Error::OutOfRange`] if `place` or `next` is not below the table's length. [`Error::NotLinked`] if one of them is not linked.
     #[inline]
     pub fn cursor_mut_from_place_and_next<'a>(
         &'a mut self,
@@ -359,7 +358,7 @@ impl fmt::Debug for XorList {
     }
 }
 
-/// A position: the member, and the one in front of it. Both are none at no member.
+/// A position: the member, and the one before it. Both are none at no member.
 #[derive(Clone, Copy)]
 pub struct Beside {
     before: Option<u32>,
@@ -381,7 +380,7 @@ impl Beside {
         at.map_or(Beside::NULL, |_| Beside { before, at })
     }
 
-    // On a member whose neighbor in front is named. Both have to be linked.
+    // On a member whose neighbor before it is named. Both have to be linked.
     #[inline]
     fn with_prev(table: &[Link1], at: u32, prev: Option<u32>) -> Result<Beside, Error> {
         linked(table, at)?;
@@ -389,7 +388,7 @@ impl Beside {
         Ok(Beside { before: prev, at: Some(at) })
     }
 
-    // On a member whose neighbor behind is named. Both have to be linked.
+    // On a member whose neighbor after it is named. Both have to be linked.
     #[inline]
     fn with_next(table: &[Link1], at: u32, next: Option<u32>) -> Result<Beside, Error> {
         let facing = Beside::with_prev(table, at, next)?;
@@ -409,8 +408,8 @@ impl Collection for XorList {
 
     #[inline]
     fn next(&self, table: &[Link1], Beside { before, at }: Beside) -> Beside {
-        let behind = at.map_or(within(table, self.first()), |at| beyond(table, before, at));
-        Beside::new(at, behind)
+        let after = at.map_or(within(table, self.first()), |at| beyond(table, before, at));
+        Beside::new(at, after)
     }
 
     #[inline]
@@ -420,8 +419,8 @@ impl Collection for XorList {
 
     #[inline]
     fn insert_after(&mut self, table: &mut [Link1], position: Beside, place: u32) -> Result<(), Error> {
-        let behind = self.next(table, position).at;
-        self.insert_between(table, position.at, place, behind)
+        let after = self.next(table, position).at;
+        self.insert_between(table, position.at, place, after)
     }
 
     #[inline]
@@ -448,9 +447,9 @@ impl Bidirectional for XorList {
 
     #[inline]
     fn remove(&mut self, table: &mut [Link1], position: Beside) -> Result<Beside, Error> {
-        let behind = self.next(table, position).at;
+        let after = self.next(table, position).at;
         XorList::remove(self, table, position.before, number(position.at))?;
-        Ok(Beside::new(position.before, behind))
+        Ok(Beside::new(position.before, after))
     }
 
     #[inline]
@@ -463,14 +462,14 @@ impl Bidirectional for XorList {
 impl Splice for XorList {
     #[inline]
     fn splice_after(&mut self, table: &mut [Link1], position: Beside, given: &mut XorList) -> Result<(), Error> {
-        let behind = self.next(table, position).at;
-        self.splice_between(table, position.at, given, behind)
+        let after = self.next(table, position).at;
+        self.splice_between(table, position.at, given, after)
     }
 
     #[inline]
     fn split_after(&mut self, table: &mut [Link1], position: Beside) -> Result<XorList, Error> {
-        let behind = self.next(table, position).at;
-        self.split_between(table, position.at, behind)
+        let after = self.next(table, position).at;
+        self.split_between(table, position.at, after)
     }
 }
 

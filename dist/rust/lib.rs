@@ -2,8 +2,8 @@
 //! does; the crate `ic` has safe types.
 //!
 //! A call requires that `table` points to `places` links, `keys` to `key_count` keys, `buckets` to `bucket_count` lists, and each other
-//! pointer to one value of its type, that no two of these overlap, and that nothing else uses them during the call, but that others may read what is `*const`. It requires nothing
-//! of what they hold, nor of the places.
+//! pointer to one value of its type, that no two of these overlap, and that nothing else uses them during the call. Others may read what is
+//! `*const`. It requires nothing of what they hold, nor of the places.
 
 #![no_std]
 #![allow(non_camel_case_types)]
@@ -16,17 +16,17 @@ core::arch::global_asm!(include_str!(env!("IC_TEXT")), options(raw));
 /// Names no place.
 pub const IC_NONE: u32 = u32::MAX;
 
-/// The edit is made.
+/// The call has made the edit, or has found what it looked for.
 pub const IC_OK: u32 = 0;
-/// A place is not below `places`, or there are fewer keys than places, or no buckets.
+/// A place is not below `places`, or there are fewer keys than places, or there is no bucket.
 pub const IC_OUT_OF_RANGE: u32 = 1;
 /// The place to insert is in a list or tree of this table.
 pub const IC_LINKED: u32 = 2;
 /// The member that is named is in no list or tree of this table.
 pub const IC_NOT_LINKED: u32 = 3;
-/// There is no member where the call needs one.
+/// The call needs a member, and there is none.
 pub const IC_NULL: u32 = 4;
-/// Table, list or tree, and member do not belong together.
+/// The table, the list or tree, and the members do not belong together.
 pub const IC_BROKEN: u32 = 5;
 
 /// A link of a singly linked list or an XOR list.
@@ -250,7 +250,7 @@ extern "C" {
         list: *mut ic_xor_list,
         before: u32,
         place: u32,
-        behind: u32,
+        after: u32,
     ) -> u32;
     pub fn ic_xor_remove(table: *mut ic_link1, places: usize, list: *mut ic_xor_list, before: u32, at: u32) -> u32;
     pub fn ic_xor_replace(
@@ -267,7 +267,7 @@ extern "C" {
         list: *mut ic_xor_list,
         before: u32,
         given: *mut ic_xor_list,
-        behind: u32,
+        after: u32,
     ) -> u32;
     pub fn ic_xor_append(table: *mut ic_link1, places: usize, list: *mut ic_xor_list, given: *mut ic_xor_list) -> u32;
     pub fn ic_xor_fill(table: *mut ic_link1, places: usize, list: *mut ic_xor_list, first: u32, count: u32) -> u32;
@@ -277,7 +277,7 @@ extern "C" {
         places: usize,
         list: *mut ic_xor_list,
         before: u32,
-        behind: u32,
+        after: u32,
         rest: *mut ic_xor_list,
     ) -> u32;
     pub fn ic_xor_reverse(list: *mut ic_xor_list) -> u32;
