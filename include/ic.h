@@ -1033,7 +1033,7 @@ uint32_t ic_tree_check(const struct ic_link3 *table, ic_length places, const str
 
 /* tools/c-calls --write writes from here: tree-keys */
 
-/* Inserts `place` by its key, after all members whose keys are not greater than keys[place]. O(log n).
+/* Inserts `place` by its key, after all members whose keys are not greater than `keys[place]`. O(log n).
  * IC_OUT_OF_RANGE: there are fewer keys than places, or `place` is not below `places`. IC_LINKED: `place` is linked already. IC_BROKEN: the
  * root does not belong to this table. */
 IC_NODISCARD

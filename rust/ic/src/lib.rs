@@ -84,6 +84,11 @@
 #![no_std]
 #![warn(missing_docs, clippy::missing_errors_doc, clippy::undocumented_unsafe_blocks)]
 
+/// The sample of the package's page.
+#[cfg(doctest)]
+#[doc = include_str!("../README.md")]
+struct Readme;
+
 mod collection;
 mod cursor;
 mod error;

@@ -226,7 +226,7 @@ impl Tree {
 /// or none.
 impl Tree {
     // tools/c-calls --write writes from here: tree-keys
-    /// Inserts `place` by its key, after all members whose keys are not greater than keys[place]. O(log n).
+    /// Inserts `place` by its key, after all members whose keys are not greater than `keys[place]`. O(log n).
     ///
     /// # Errors
     ///
