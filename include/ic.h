@@ -872,27 +872,28 @@ uint32_t ic_xor_pop_front(struct ic_link1 *table, ic_length places, struct ic_xo
 IC_NODISCARD
 uint32_t ic_xor_pop_back(struct ic_link1 *table, ic_length places, struct ic_xor_list *list, uint32_t *popped);
 
-/* Inserts `place` in the gap between the members `before` and `after`. O(1).
+/* Inserts `place` in the gap between the members `before` and `after`, which are IC_NONE beyond an end. O(1).
  * IC_OUT_OF_RANGE: `before`, `place` or `after` is not below `places`. IC_LINKED: `place` is linked already. IC_NOT_LINKED: `before` or
  * `after` is not linked. IC_BROKEN: there is no such gap. */
 IC_NODISCARD
 uint32_t ic_xor_insert_between(struct ic_link1 *table, size_t places, struct ic_xor_list *list, uint32_t before, uint32_t place,
                                uint32_t after);
 
-/* Removes the member `at`. O(1). The member before it is `before`, or IC_NONE if `at` is the first member.
+/* Removes the member `at`. O(1). Before it is the member `before`, which is IC_NONE if `at` is the first member.
  * IC_NULL: `at` is IC_NONE. IC_OUT_OF_RANGE: `before` or `at` is not below `places`. IC_NOT_LINKED: `before` or `at` is not linked.
- * IC_BROKEN: there are no two such members. */
+ * IC_BROKEN: `before` and `at` are no such members. */
 IC_NODISCARD
 uint32_t ic_xor_remove(struct ic_link1 *table, ic_length places, struct ic_xor_list *list, uint32_t before, uint32_t at);
 
-/* Removes the member `at`, and inserts `place` where it was. O(1). The member before `at` is `before`, or IC_NONE if `at` is the first
- * member.
+/* Removes the member `at`, and inserts `place` where it was. O(1). Before `at` is the member `before`, which is IC_NONE if `at` is the
+ * first member.
  * IC_NULL: `at` is IC_NONE. IC_OUT_OF_RANGE: `before`, `at` or `place` is not below `places`. IC_LINKED: `place` is linked already, as it
- * is if `at` and `place` are the same. IC_NOT_LINKED: `before` or `at` is not linked. IC_BROKEN: there are no two such members. */
+ * is if `at` and `place` are the same. IC_NOT_LINKED: `before` or `at` is not linked. IC_BROKEN: `before` and `at` are no such members. */
 IC_NODISCARD
 uint32_t ic_xor_replace(struct ic_link1 *table, ic_length places, struct ic_xor_list *list, uint32_t before, uint32_t at, uint32_t place);
 
-/* Moves all members of `given`, in their order, into the gap between the members `before` and `after`. O(1). Then `given` is empty.
+/* Moves all members of `given`, in their order, into the gap between the members `before` and `after`, which are IC_NONE beyond an end.
+ * O(1). Then `given` is empty.
  * IC_OUT_OF_RANGE: `before` or `after` is not below `places`. IC_NOT_LINKED: `before` or `after` is not linked. IC_BROKEN: there is no such
  * gap, or `given` is no list of this table, or both lists begin with the same member, as a list and its copy do. */
 IC_NODISCARD

@@ -118,14 +118,15 @@ function u64(value, name) {
   if (!isIn) refuseNumber(value, name, "from 0 to 18446744073709551615");
   return BigInt(value);
 }
-function count(value, name) {
+/** A length, which is not negative. */
+function natural(value, name) {
   if (!Number.isSafeInteger(value) || value < 0) refuseNumber(value, name, "from 0 to 9007199254740991");
   return value;
 }
 
 /** A table of links, keys, buckets, or the words of a list: `width` words for each of `length` places. */
 export class Words {
-  constructor(library, length, width, address = library.take(8 * width * count(length, "length"))) {
+  constructor(library, length, width, address = library.take(8 * width * natural(length, "length"))) {
     Object.assign(this, { library, length, width, address });
   }
   /** All words. Take it anew after memory was taken. */
@@ -358,7 +359,7 @@ export class Stack extends Collection {
 export class HashTable extends Calls {
   constructor(links, buckets, keys = null) {
     super(links, 1);
-    Object.assign(this, { keys, buckets: new Words(links.library, count(buckets, "buckets"), 1) });
+    Object.assign(this, { keys, buckets: new Words(links.library, natural(buckets, "buckets"), 1) });
     [this.keysAt, this.keyCount] = keyParts(keys, links);
     [this.bucketsAt, this.bucketCount] = this.buckets.parts;
   }

@@ -144,7 +144,7 @@ impl XorList {
         handed_out(|it| unsafe { ic_xor_pop_back(links, places, &mut self.0, it) })
     }
 
-    /// Inserts `place` in the gap between the members `before` and `after`. O(1).
+    /// Inserts `place` in the gap between the members `before` and `after`, which are `None` beyond an end. O(1).
     ///
     /// # Errors
     ///
@@ -163,12 +163,12 @@ impl XorList {
         done(unsafe { ic_xor_insert_between(links, places, &mut self.0, number(before), place, number(after)) })
     }
 
-    /// Removes the member `at`. O(1). The member before it is `before`, or `None` if `at` is the first member.
+    /// Removes the member `at`. O(1). Before it is the member `before`, which is `None` if `at` is the first member.
     ///
     /// # Errors
     ///
     /// [`Error::Null`] if `at` is `u32::MAX`. [`Error::OutOfRange`] if `before` or `at` is not below the table's length.
-    /// [`Error::NotLinked`] if `before` or `at` is not linked. [`Error::Broken`] if there are no two such members.
+    /// [`Error::NotLinked`] if `before` or `at` is not linked. [`Error::Broken`] if `before` and `at` are no such members.
     #[inline]
     pub fn remove(&mut self, table: &mut [Link1], before: Option<u32>, at: u32) -> Result<(), Error> {
         let (links, places) = Link1::parts(table);
@@ -176,14 +176,14 @@ impl XorList {
         done(unsafe { ic_xor_remove(links, places, &mut self.0, number(before), at) })
     }
 
-    /// Removes the member `at`, and inserts `place` where it was. O(1). The member before `at` is `before`, or `None` if `at` is the first
-    /// member.
+    /// Removes the member `at`, and inserts `place` where it was. O(1). Before `at` is the member `before`, which is `None` if `at` is the
+    /// first member.
     ///
     /// # Errors
     ///
     /// [`Error::Null`] if `at` is `u32::MAX`. [`Error::OutOfRange`] if `before`, `at` or `place` is not below the table's length.
     /// [`Error::Linked`] if `place` is linked already, as it is if `at` and `place` are the same. [`Error::NotLinked`] if `before` or `at`
-    /// is not linked. [`Error::Broken`] if there are no two such members.
+    /// is not linked. [`Error::Broken`] if `before` and `at` are no such members.
     #[inline]
     pub fn replace(&mut self, table: &mut [Link1], before: Option<u32>, at: u32, place: u32) -> Result<(), Error> {
         let (links, places) = Link1::parts(table);
@@ -191,7 +191,8 @@ impl XorList {
         done(unsafe { ic_xor_replace(links, places, &mut self.0, number(before), at, place) })
     }
 
-    /// Moves all members of `given`, in their order, into the gap between the members `before` and `after`. O(1). Then `given` is empty.
+    /// Moves all members of `given`, in their order, into the gap between the members `before` and `after`, which are `None` beyond an end.
+    /// O(1). Then `given` is empty.
     ///
     /// # Errors
     ///
