@@ -85,7 +85,8 @@ def read_faults():
         for reason, answer in returned.items():
             seen = {it for read, why, it in cases if (read, why) == (name, reason)}
             if seen != {answer}:
-                yield f"tests/library/reads.txt: {name} ({reason}) returns {answer} by crates/ic_ffi/calls.txt, here {' and '.join(seen) or 'no case says'}"
+                here = " and ".join(sorted(seen)) or "no case says what"
+                yield f"tests/library/reads.txt: {name} ({reason}) returns {answer} by crates/ic_ffi/calls.txt, and here {here}"
 
 
 def names(call, *roles):
@@ -126,7 +127,8 @@ def refusals(call, none, length):
 def contract_roles(call):
     """The places that the contract calls members that are named or may be none, places to insert, first places of runs, and those without which
     it returns NULL."""
-    why, null = call.clauses.get("why", ""), call.clauses.get("null", "") + call.clauses.get("none", "") * ("≡ 4" in call.clauses.get("none", ""))
+    why, null, none = (call.clauses.get(name, "") for name in ("why", "null", "none"))
+    null += none * bool(re.search(r"result ≡ (?:4|NULL)\b", none))
     return (set(re.findall(r"\bfault_at table\.\w+ \(place_of (\w+)\)", why)), set(re.findall(r"\bfault_of table\.\w+ \(place_of (\w+)\)", why)),
             set(re.findall(r"\brun_faults \([^)]*\) (\w+) count", why)), set(re.findall(r"place_of (\w+) ≡ None", null)))
 

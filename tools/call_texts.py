@@ -15,6 +15,9 @@ CLASSES = {"list": "List", "stack": "Stack", "xor": "XorList", "tree": "Tree", "
 LINKS = {"list": 2, "ring": 2, "stack": 1, "hash": 1, "xor": 1, "tree": 3}
 SELF = ("list", "tree")
 ERRORS = {"NULL": "Null", "OUT_OF_RANGE": "OutOfRange", "LINKED": "Linked", "NOT_LINKED": "NotLinked", "BROKEN": "Broken"}
+# What the bindings have in place of the table's words in braces.
+BOUND = {"self": "this list", "rest": "a new list, which it returns", "rest_has": "", "accepted": "it returns a number"}
+RETURNED = {"members": "returns how many there are", "replaced": "returns the removed member"}
 # How many columns a line of comments, of C and of Rust has at most.
 COMMENT, C_LINE, RUST_LINE = 140, 142, 120
 SAFETY = "// SAFETY: each pointer comes from a reference, with the length of its slice, and no mutable reference overlaps another one."
@@ -94,8 +97,7 @@ def extern(call):
 
 def rust_comment(call, indent):
     out = outcome(call)
-    words = {"none": "`None`", "self": "this list", "rest": "a new list, which it returns", "rest_has": "", "accepted": "it returns a number", "out": "returns it"}
-    words["out"] = {"members": "returns how many there are", "replaced": "returns the removed member"}.get(out, words["out"])
+    words = {**BOUND, "none": "`None`", "out": RETURNED.get(out, "returns it")}
     of, text = broken(call, words), sentences(call, words)
     said = refusals(of, "`u32::MAX`", "the table's length")
     if out in ("popped", "removed", "found"):
@@ -182,7 +184,8 @@ def split_closure(line, indent):
 
 def reads_table(reads):
     """The rows of docs/LIBRARY.md: what each read is called in each language, and what it returns."""
-    lines = ["| C | Rust | JavaScript | Of a place that is not linked | Of a place beyond the table | If the link leads out of the table |", "|---|---|---|---|---|---|"]
+    lines = ["| C | Rust | JavaScript | Of a place that is not linked | Of a place beyond the table | If the link leads out of the table |",
+             "|---|---|---|---|---|---|"]
     for name, returned in reads.items():
         family, read = re.match(r"ic_(\w+?)_(\w+)", name).groups()
         own, link = CLASSES[family], f"Link{LINKS[family]}"
@@ -219,10 +222,16 @@ def script(call):
     """The method of ic.mjs. A constructor of Ring calls ic_ring_init."""
     if call.name == "ic_ring_init":
         return ""
-    called = f"this.calls.{call.name}({', '.join(script_words(call))})"
-    body = {"rest": f"return this.split((rest) => {called})", "members": f"return this.counted({called})", None: f"this.done({called})"}
-    parameters = ", ".join(arg.name for arg in script_parameters(call))
-    return f"  {camel(short(call))}({parameters}) {{ {body.get(outcome(call), f'return this.member({called})')}; }}\n"
+    begin = {"rest": "return this.split((rest) => ", "members": "return this.counted(", None: "this.done("}.get(outcome(call), "return this.member(")
+    begin += f"this.calls.{call.name}("
+    head, words = f"  {camel(short(call))}({', '.join(arg.name for arg in script_parameters(call))}) {{", list(script_words(call))
+    line = f"{begin}{', '.join(words)}));"
+    if len(head) + len(line) + 3 <= COMMENT:
+        return f"{head} {line} }}\n"
+    if len(line) + 4 <= COMMENT:
+        return f"{head}\n    {line}\n  }}\n"
+    wrapped = textwrap.indent(textwrap.fill(", ".join(words).replace(', "', ',\0"'), COMMENT - 8).replace("\0", " "), "      ")
+    return f"{head}\n    {begin}\n{wrapped},\n    ));\n  }}\n"
 
 
 def types(call):
@@ -231,10 +240,10 @@ def types(call):
         return ""
     out, own = outcome(call), CLASSES[call.family]
     kinds = {"given": own, "hash": "bigint | number", "key": "bigint | number", "keys": "Words", "count": "number"}
-    parameters = [f"{arg.name}: " + (kinds.get(arg.name) or ("Gap" if call.roles.get(arg.name) == "gap" else "Place")) for arg in script_parameters(call)]
+    kind = lambda arg: kinds.get(arg.name) or ("Gap" if call.roles.get(arg.name) == "gap" else "Place")
+    parameters = [f"{arg.name}: {kind(arg)}" for arg in script_parameters(call)]
     result = {"rest": own, "members": "number", None: "void"}.get(out, "Gap")
-    words = {"none": "null", "self": "this list", "rest": "a new list, which it returns", "rest_has": "", "accepted": "it returns a number", "out": "returns it"}
-    words["out"] = {"members": "returns how many there are", "replaced": "returns the removed member"}.get(out, words["out"])
+    words = {**BOUND, "none": "null", "out": RETURNED.get(out, "returns it")}
     said, text = refusals(broken(call, words), "null", "the table's length"), sentences(call, words)
     if out in ("popped", "removed", "replaced", "found"):
         text += f" It returns null if {said.pop('NULL')}."

@@ -241,24 +241,44 @@ export class List extends Collection {
   pushBack(place) { this.done(this.calls.ic_list_push_back(this.table, this.places, this.self, placeNumber(place, "place"))); }
   popFront() { return this.member(this.calls.ic_list_pop_front(this.table, this.places, this.self, this.out)); }
   popBack() { return this.member(this.calls.ic_list_pop_back(this.table, this.places, this.self, this.out)); }
-  insertAfter(at, place) { this.done(this.calls.ic_list_insert_after(this.table, this.places, this.self, placeNumber(at, "at"), placeNumber(place, "place"))); }
-  insertBefore(at, place) { this.done(this.calls.ic_list_insert_before(this.table, this.places, this.self, placeNumber(at, "at"), placeNumber(place, "place"))); }
+  insertAfter(at, place) {
+    this.done(this.calls.ic_list_insert_after(this.table, this.places, this.self, placeNumber(at, "at"), placeNumber(place, "place")));
+  }
+  insertBefore(at, place) {
+    this.done(this.calls.ic_list_insert_before(this.table, this.places, this.self, placeNumber(at, "at"), placeNumber(place, "place")));
+  }
   remove(at) { this.done(this.calls.ic_list_remove(this.table, this.places, this.self, placeNumber(at, "at"))); }
-  replace(at, place) { this.done(this.calls.ic_list_replace(this.table, this.places, this.self, placeNumber(at, "at"), placeNumber(place, "place"))); }
-  moveAfter(at, place) { this.done(this.calls.ic_list_move_after(this.table, this.places, this.self, placeNumber(at, "at"), placeNumber(place, "place"))); }
-  moveBefore(at, place) { this.done(this.calls.ic_list_move_before(this.table, this.places, this.self, placeNumber(at, "at"), placeNumber(place, "place"))); }
+  replace(at, place) {
+    this.done(this.calls.ic_list_replace(this.table, this.places, this.self, placeNumber(at, "at"), placeNumber(place, "place")));
+  }
+  moveAfter(at, place) {
+    this.done(this.calls.ic_list_move_after(this.table, this.places, this.self, placeNumber(at, "at"), placeNumber(place, "place")));
+  }
+  moveBefore(at, place) {
+    this.done(this.calls.ic_list_move_before(this.table, this.places, this.self, placeNumber(at, "at"), placeNumber(place, "place")));
+  }
   moveToFront(place) { this.done(this.calls.ic_list_move_to_front(this.table, this.places, this.self, placeNumber(place, "place"))); }
   moveToBack(place) { this.done(this.calls.ic_list_move_to_back(this.table, this.places, this.self, placeNumber(place, "place"))); }
-  spliceAfter(at, given) { this.done(this.calls.ic_list_splice_after(this.table, this.places, this.self, placeNumber(at, "at"), this.given(given))); }
-  spliceBefore(at, given) { this.done(this.calls.ic_list_splice_before(this.table, this.places, this.self, placeNumber(at, "at"), this.given(given))); }
+  spliceAfter(at, given) {
+    this.done(this.calls.ic_list_splice_after(this.table, this.places, this.self, placeNumber(at, "at"), this.given(given)));
+  }
+  spliceBefore(at, given) {
+    this.done(this.calls.ic_list_splice_before(this.table, this.places, this.self, placeNumber(at, "at"), this.given(given)));
+  }
   append(given) { this.done(this.calls.ic_list_append(this.table, this.places, this.self, this.given(given))); }
   fill(first, count) { this.done(this.calls.ic_list_fill(this.table, this.places, this.self, u32(first, "first"), u32(count, "count"))); }
   clear() { this.done(this.calls.ic_list_clear(this.table, this.places, this.self)); }
-  splitAfter(at) { return this.split((rest) => this.calls.ic_list_split_after(this.table, this.places, this.self, placeNumber(at, "at"), rest)); }
-  splitBefore(at) { return this.split((rest) => this.calls.ic_list_split_before(this.table, this.places, this.self, placeNumber(at, "at"), rest)); }
+  splitAfter(at) {
+    return this.split((rest) => this.calls.ic_list_split_after(this.table, this.places, this.self, placeNumber(at, "at"), rest));
+  }
+  splitBefore(at) {
+    return this.split((rest) => this.calls.ic_list_split_before(this.table, this.places, this.self, placeNumber(at, "at"), rest));
+  }
   check() { return this.counted(this.calls.ic_list_check(this.table, this.places, this.self, this.out)); }
   sort(keys) { this.done(this.calls.ic_list_sort(this.table, this.places, ...keyParts(keys, this.links), this.self)); }
-  merge(keys, given) { this.done(this.calls.ic_list_merge(this.table, this.places, ...keyParts(keys, this.links), this.self, this.given(given))); }
+  merge(keys, given) {
+    this.done(this.calls.ic_list_merge(this.table, this.places, ...keyParts(keys, this.links), this.self, this.given(given)));
+  }
   // to here
 }
 
@@ -276,10 +296,16 @@ export class Ring extends Calls {
   prev(at) { return this.links.beside(at, 1); }
   [Symbol.iterator]() { return walk(this.links, this.first, (at) => this.unlessHead(this.next(at))); }
   // tools/c-calls --write writes from here: ring
-  insertAfter(at, place) { this.done(this.calls.ic_ring_insert_after(this.table, this.places, placeNumber(at, "at"), placeNumber(place, "place"))); }
-  insertBefore(at, place) { this.done(this.calls.ic_ring_insert_before(this.table, this.places, placeNumber(at, "at"), placeNumber(place, "place"))); }
+  insertAfter(at, place) {
+    this.done(this.calls.ic_ring_insert_after(this.table, this.places, placeNumber(at, "at"), placeNumber(place, "place")));
+  }
+  insertBefore(at, place) {
+    this.done(this.calls.ic_ring_insert_before(this.table, this.places, placeNumber(at, "at"), placeNumber(place, "place")));
+  }
   remove(place) { this.done(this.calls.ic_ring_remove(this.table, this.places, placeNumber(place, "place"))); }
-  exchange(one, other) { this.done(this.calls.ic_ring_exchange(this.table, this.places, placeNumber(one, "one"), placeNumber(other, "other"))); }
+  exchange(one, other) {
+    this.done(this.calls.ic_ring_exchange(this.table, this.places, placeNumber(one, "one"), placeNumber(other, "other")));
+  }
   // to here
   pushFront(place) { this.insertAfter(this.head, place); }
   pushBack(place) { this.insertBefore(this.head, place); }
@@ -344,11 +370,23 @@ export class Stack extends Collection {
   // tools/c-calls --write writes from here: stack
   pushFront(place) { this.done(this.calls.ic_stack_push_front(this.table, this.places, this.self, placeNumber(place, "place"))); }
   popFront() { return this.member(this.calls.ic_stack_pop_front(this.table, this.places, this.self, this.out)); }
-  insertAfter(at, place) { this.done(this.calls.ic_stack_insert_after(this.table, this.places, this.self, placeNumber(at, "at"), placeNumber(place, "place"))); }
-  removeAfter(at) { return this.member(this.calls.ic_stack_remove_after(this.table, this.places, this.self, placeNumber(at, "at"), this.out)); }
-  replaceAfter(at, place) { return this.member(this.calls.ic_stack_replace_after(this.table, this.places, this.self, placeNumber(at, "at"), placeNumber(place, "place"), this.out)); }
-  spliceAfter(at, given) { this.done(this.calls.ic_stack_splice_after(this.table, this.places, this.self, placeNumber(at, "at"), this.given(given))); }
-  splitAfter(at) { return this.split((rest) => this.calls.ic_stack_split_after(this.table, this.places, this.self, placeNumber(at, "at"), rest)); }
+  insertAfter(at, place) {
+    this.done(this.calls.ic_stack_insert_after(this.table, this.places, this.self, placeNumber(at, "at"), placeNumber(place, "place")));
+  }
+  removeAfter(at) {
+    return this.member(this.calls.ic_stack_remove_after(this.table, this.places, this.self, placeNumber(at, "at"), this.out));
+  }
+  replaceAfter(at, place) {
+    return this.member(this.calls.ic_stack_replace_after(
+      this.table, this.places, this.self, placeNumber(at, "at"), placeNumber(place, "place"), this.out,
+    ));
+  }
+  spliceAfter(at, given) {
+    this.done(this.calls.ic_stack_splice_after(this.table, this.places, this.self, placeNumber(at, "at"), this.given(given)));
+  }
+  splitAfter(at) {
+    return this.split((rest) => this.calls.ic_stack_split_after(this.table, this.places, this.self, placeNumber(at, "at"), rest));
+  }
   fill(first, count) { this.done(this.calls.ic_stack_fill(this.table, this.places, this.self, u32(first, "first"), u32(count, "count"))); }
   clear() { this.done(this.calls.ic_stack_clear(this.table, this.places, this.self)); }
   check() { return this.counted(this.calls.ic_stack_check(this.table, this.places, this.self, this.out)); }
@@ -376,10 +414,24 @@ export class HashTable extends Calls {
   chain(hash) { return this.bucket(Number(u64(hash, "hash") % this.bucketCount)); }
   bucket(at) { return new Stack(this.links, new Words(this.library, 1, 1, this.buckets.address + 8 * at)); }
   // tools/c-calls --write writes from here: hash
-  insert(hash, place) { this.done(this.calls.ic_hash_insert(this.table, this.places, this.bucketsAt, this.bucketCount, u64(hash, "hash"), placeNumber(place, "place"))); }
-  remove(hash, place) { this.done(this.calls.ic_hash_remove(this.table, this.places, this.bucketsAt, this.bucketCount, u64(hash, "hash"), placeNumber(place, "place"))); }
-  find(hash, key) { return this.member(this.calls.ic_hash_find(this.table, this.places, this.keysAt, this.keyCount, this.bucketsAt, this.bucketCount, u64(hash, "hash"), u64(key, "key"), this.out)); }
-  nextEqual(at) { return this.member(this.calls.ic_hash_next_equal(this.table, this.places, this.keysAt, this.keyCount, placeNumber(at, "at"), this.out)); }
+  insert(hash, place) {
+    this.done(this.calls.ic_hash_insert(
+      this.table, this.places, this.bucketsAt, this.bucketCount, u64(hash, "hash"), placeNumber(place, "place"),
+    ));
+  }
+  remove(hash, place) {
+    this.done(this.calls.ic_hash_remove(
+      this.table, this.places, this.bucketsAt, this.bucketCount, u64(hash, "hash"), placeNumber(place, "place"),
+    ));
+  }
+  find(hash, key) {
+    return this.member(this.calls.ic_hash_find(
+      this.table, this.places, this.keysAt, this.keyCount, this.bucketsAt, this.bucketCount, u64(hash, "hash"), u64(key, "key"), this.out,
+    ));
+  }
+  nextEqual(at) {
+    return this.member(this.calls.ic_hash_next_equal(this.table, this.places, this.keysAt, this.keyCount, placeNumber(at, "at"), this.out));
+  }
   // to here
 }
 
@@ -405,14 +457,32 @@ export class XorList extends Collection {
   pushBack(place) { this.done(this.calls.ic_xor_push_back(this.table, this.places, this.self, placeNumber(place, "place"))); }
   popFront() { return this.member(this.calls.ic_xor_pop_front(this.table, this.places, this.self, this.out)); }
   popBack() { return this.member(this.calls.ic_xor_pop_back(this.table, this.places, this.self, this.out)); }
-  insertBetween(before, place, after) { this.done(this.calls.ic_xor_insert_between(this.table, this.places, this.self, placeNumber(before, "before"), placeNumber(place, "place"), placeNumber(after, "after"))); }
-  remove(before, at) { this.done(this.calls.ic_xor_remove(this.table, this.places, this.self, placeNumber(before, "before"), placeNumber(at, "at"))); }
-  replace(before, at, place) { this.done(this.calls.ic_xor_replace(this.table, this.places, this.self, placeNumber(before, "before"), placeNumber(at, "at"), placeNumber(place, "place"))); }
-  spliceBetween(before, given, after) { this.done(this.calls.ic_xor_splice_between(this.table, this.places, this.self, placeNumber(before, "before"), this.given(given), placeNumber(after, "after"))); }
+  insertBetween(before, place, after) {
+    this.done(this.calls.ic_xor_insert_between(
+      this.table, this.places, this.self, placeNumber(before, "before"), placeNumber(place, "place"), placeNumber(after, "after"),
+    ));
+  }
+  remove(before, at) {
+    this.done(this.calls.ic_xor_remove(this.table, this.places, this.self, placeNumber(before, "before"), placeNumber(at, "at")));
+  }
+  replace(before, at, place) {
+    this.done(this.calls.ic_xor_replace(
+      this.table, this.places, this.self, placeNumber(before, "before"), placeNumber(at, "at"), placeNumber(place, "place"),
+    ));
+  }
+  spliceBetween(before, given, after) {
+    this.done(this.calls.ic_xor_splice_between(
+      this.table, this.places, this.self, placeNumber(before, "before"), this.given(given), placeNumber(after, "after"),
+    ));
+  }
   append(given) { this.done(this.calls.ic_xor_append(this.table, this.places, this.self, this.given(given))); }
   fill(first, count) { this.done(this.calls.ic_xor_fill(this.table, this.places, this.self, u32(first, "first"), u32(count, "count"))); }
   clear() { this.done(this.calls.ic_xor_clear(this.table, this.places, this.self)); }
-  splitBetween(before, after) { return this.split((rest) => this.calls.ic_xor_split_between(this.table, this.places, this.self, placeNumber(before, "before"), placeNumber(after, "after"), rest)); }
+  splitBetween(before, after) {
+    return this.split((rest) => this.calls.ic_xor_split_between(
+      this.table, this.places, this.self, placeNumber(before, "before"), placeNumber(after, "after"), rest,
+    ));
+  }
   reverse() { this.done(this.calls.ic_xor_reverse(this.self)); }
   // to here
 }
@@ -430,16 +500,34 @@ export class Tree extends Collection {
   parent(at) { return this.links.beside(at, 2); }
   isBlack(at) { return this.links.hasMember(placeNumber(at, "at")) && (this.links.word(at, 2) & 1n) === 1n; }
   // tools/c-calls --write writes from here: tree tree-keys tree-steps
-  insertLeft(at, place) { this.done(this.calls.ic_tree_insert_left(this.table, this.places, this.self, placeNumber(at, "at"), placeNumber(place, "place"))); }
-  insertRight(at, place) { this.done(this.calls.ic_tree_insert_right(this.table, this.places, this.self, placeNumber(at, "at"), placeNumber(place, "place"))); }
+  insertLeft(at, place) {
+    this.done(this.calls.ic_tree_insert_left(this.table, this.places, this.self, placeNumber(at, "at"), placeNumber(place, "place")));
+  }
+  insertRight(at, place) {
+    this.done(this.calls.ic_tree_insert_right(this.table, this.places, this.self, placeNumber(at, "at"), placeNumber(place, "place")));
+  }
   remove(at) { this.done(this.calls.ic_tree_remove(this.table, this.places, this.self, placeNumber(at, "at"))); }
-  replace(at, place) { this.done(this.calls.ic_tree_replace(this.table, this.places, this.self, placeNumber(at, "at"), placeNumber(place, "place"))); }
+  replace(at, place) {
+    this.done(this.calls.ic_tree_replace(this.table, this.places, this.self, placeNumber(at, "at"), placeNumber(place, "place")));
+  }
   clear() { this.done(this.calls.ic_tree_clear(this.table, this.places, this.self)); }
   check() { return this.counted(this.calls.ic_tree_check(this.table, this.places, this.self, this.out)); }
-  insert(place) { this.done(this.calls.ic_tree_insert(this.table, this.places, this.keysAt, this.keyCount, this.self, placeNumber(place, "place"))); }
-  find(key) { return this.member(this.calls.ic_tree_find(this.table, this.places, this.keysAt, this.keyCount, this.self, u64(key, "key"), this.out)); }
-  lowerBound(key) { return this.member(this.calls.ic_tree_lower_bound(this.table, this.places, this.keysAt, this.keyCount, this.self, u64(key, "key"), this.out)); }
-  upperBound(key) { return this.member(this.calls.ic_tree_upper_bound(this.table, this.places, this.keysAt, this.keyCount, this.self, u64(key, "key"), this.out)); }
+  insert(place) {
+    this.done(this.calls.ic_tree_insert(this.table, this.places, this.keysAt, this.keyCount, this.self, placeNumber(place, "place")));
+  }
+  find(key) {
+    return this.member(this.calls.ic_tree_find(this.table, this.places, this.keysAt, this.keyCount, this.self, u64(key, "key"), this.out));
+  }
+  lowerBound(key) {
+    return this.member(this.calls.ic_tree_lower_bound(
+      this.table, this.places, this.keysAt, this.keyCount, this.self, u64(key, "key"), this.out,
+    ));
+  }
+  upperBound(key) {
+    return this.member(this.calls.ic_tree_upper_bound(
+      this.table, this.places, this.keysAt, this.keyCount, this.self, u64(key, "key"), this.out,
+    ));
+  }
   next(at) { return this.member(this.calls.ic_tree_next(this.table, this.places, this.self, placeNumber(at, "at"), this.out)); }
   prev(at) { return this.member(this.calls.ic_tree_prev(this.table, this.places, this.self, placeNumber(at, "at"), this.out)); }
   // to here
