@@ -149,6 +149,8 @@ def faults(call):
     for name, role in call.roles.items():
         if role not in ROLES or not has(call, name):
             yield f"{call.name}: its row gives `{name}` the role {role}, which is no role or no argument's"
+    if not {"why", "ok"} & call.clauses.keys():
+        yield f"{call.name}: its contract has no clause `why`, which says the status of a refused call"
     gaps, new, run, needed = contract_roles(call)
     seen = {"gap, member or ring": (set(names(call, "gap", "member", "ring")), gaps), "new": (set(names(call, "new")), new),
             "run": (set(names(call, "run")), run)}

@@ -28,11 +28,11 @@ fn last(tree: &Tree, links: &[Link3]) -> Position {
 }
 
 fn next(tree: &Tree, links: &[Link3], position: Position) -> Position {
-    position.at.map_or(first(tree, links), |at| Position { at: tree.next(links, at).unwrap() })
+    Position { at: tree.next(links, position.at).unwrap() }
 }
 
 fn prev(tree: &Tree, links: &[Link3], position: Position) -> Position {
-    position.at.map_or(last(tree, links), |at| Position { at: tree.prev(links, at).unwrap() })
+    Position { at: tree.prev(links, position.at).unwrap() }
 }
 
 /// In the gap behind a position: under the member in front of it, if that has no right child, else under the one behind it.
