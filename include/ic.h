@@ -60,10 +60,13 @@ __asm__(".globl ic_version_0_1");
 extern "C" {
 #endif
 
-/* Marks a call that may be refused: the compiler warns if its status is overlooked. -DIC_NODISCARD= switches the warning off. */
+/* Marks a call that may be refused: the compiler warns if its status is overlooked. -DIC_NODISCARD= switches the warning off. GCC's older
+ * attribute warns of (void)call, too, and the standard one does not. GCC has that from version 10 on, in each standard. */
 #ifndef IC_NODISCARD
 #if (defined(__cplusplus) && __cplusplus >= 201703L) || (defined(__STDC_VERSION__) && __STDC_VERSION__ >= 202311L)
 #define IC_NODISCARD [[nodiscard]]
+#elif defined(__GNUC__) && __GNUC__ >= 10 && !defined(__clang__) && !defined(__EDG__)
+#define IC_NODISCARD __extension__ [[nodiscard]]
 #elif defined(__GNUC__)
 #define IC_NODISCARD __attribute__((warn_unused_result))
 #else
@@ -103,6 +106,11 @@ static inline const char *ic_status_name(uint32_t status) {
     case IC_BROKEN: return "IC_BROKEN";
     default: return "unknown";
     }
+}
+
+/* Drops a status on purpose, with no warning from any compiler: ic_ignore(ic_list_remove(links, 100, &list, 7)); */
+static inline void ic_ignore(uint32_t status) {
+    (void)status;
 }
 
 /* A link of a singly linked list or an XOR list. */
@@ -497,12 +505,21 @@ static inline uint32_t ic_ring_push_back(struct ic_link2 *table, ic_length place
     return ic_ring_insert_before(table, places, head, place);
 }
 
-/* Removes the place `first`, which is beside a head, and sets *popped to it. */
+/* The status of a call that needs a linked place and is handed this one, behind or in front of which there is no place of the table. */
+static inline uint32_t ic_ring_refusal(const struct ic_link2 *table, size_t places, uint32_t at) {
+    if (at == IC_NONE)
+        return IC_NULL;
+    if (at >= ic_bound(places))
+        return IC_OUT_OF_RANGE;
+    return ic_ring_is_linked(table, places, at) ? IC_BROKEN : IC_NOT_LINKED;
+}
+
+/* Takes `first` off, which stands beside a head, and sets *popped to it. */
 IC_NODISCARD
 static inline uint32_t ic_ring_pop(struct ic_link2 *table, ic_length places, uint32_t head, uint32_t first, uint32_t *popped) {
     uint32_t status;
     if (first == IC_NONE)
-        return ic_ring_is_linked(table, places, head) ? (uint32_t)IC_BROKEN : ic_ring_remove(table, places, head);
+        return ic_ring_refusal(table, places, head);
     if (first == head)
         return IC_NULL;
     status = ic_ring_remove(table, places, first);
