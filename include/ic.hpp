@@ -9,13 +9,19 @@
 //     std::optional<std::uint32_t> oldest = list.pop_front();
 //
 // A view has pointers to a table and to a list or tree. Both are yours and have to live as long as the view and its iterators. You can copy
-// a view as you copy a pointer. The comments of ic.h say what each edit does and why it is refused, at the call with the same name. Take
-// ic::const_list_view, ic::const_stack_view, ic::const_xor_view or ic::const_tree_view to read a table and a list or tree that are const.
+// a view as you copy a pointer. The comments of ic.h say what each edit does and why it is refused, at the call with the same name. Each
+// view has a twin whose name begins with const_, such as ic::const_list_view. It reads a table and a list or tree that are const.
+//
+// In C++20 each view with a begin() is a std::ranges::view, and a borrowed range: its iterators outlive it.
 //
 // Nothing here allocates or throws, and it compiles with -fno-exceptions and -fno-rtti. As in C, no words of a table make a view read or
 // write outside it. A loop from begin() to end(), or from rbegin() to rend(), has at most as many rounds as the table has places.
 #ifndef IC_HPP
 #define IC_HPP
+
+#if !(__cplusplus >= 201703L || (defined(_MSVC_LANG) && _MSVC_LANG >= 201703L))
+#error "ic.hpp needs C++17: compile with -std=c++17 or a later standard, or include ic.h."
+#else
 
 #include "ic.h"
 
@@ -25,6 +31,12 @@
 #include <optional>
 #include <type_traits>
 #include <utility>
+#if __has_include(<version>)
+#include <version>
+#endif
+#ifdef __cpp_lib_ranges
+#include <span> // declares what makes a type a view and a borrowed range, in less text than <ranges>
+#endif
 
 namespace ic {
 
@@ -46,17 +58,38 @@ enum class [[nodiscard]] status : std::uint32_t {
     return ic_status_name(static_cast<std::uint32_t>(it));
 }
 
-/// A pointer and a length, made of these, or of a vector, an array, or whatever else has both.
+template <class Element>
+class array_view;
+
+namespace detail {
+
+/// Whether a container that is passed as an rvalue leaves its elements to somebody else, as a std::span does and a std::vector does not.
+template <class Container>
+#ifdef __cpp_lib_ranges
+inline constexpr bool is_borrowed = std::ranges::enable_borrowed_range<Container>;
+#else
+inline constexpr bool is_borrowed = false;
+#endif
+template <class Element>
+inline constexpr bool is_borrowed<array_view<Element>> = true;
+
+} // namespace detail
+
+/// A pointer and a length, made of these, or of a vector, an array, or whatever else has both. Of the containers that end with the
+/// expression it takes those alone that are borrowed, as a std::span.
 template <class Element>
 class array_view {
     template <class Container>
     using element = std::remove_pointer_t<decltype(std::data(std::declval<Container &>()))>;
 
+    template <class Container>
+    static constexpr bool lasts = std::is_lvalue_reference_v<Container> || detail::is_borrowed<std::remove_cv_t<Container>>;
+
 public:
     constexpr array_view(Element *data, std::size_t size) noexcept : data_(data), size_(size) {}
 
-    template <class Container, class = std::enable_if_t<std::is_convertible_v<element<Container> (*)[], Element (*)[]>>>
-    constexpr array_view(Container &container) noexcept : data_(std::data(container)), size_(std::size(container)) {}
+    template <class Container, class = std::enable_if_t<std::is_convertible_v<element<Container> (*)[], Element (*)[]> && lasts<Container>>>
+    constexpr array_view(Container &&container) noexcept : data_(std::data(container)), size_(std::size(container)) {}
 
     [[nodiscard]] constexpr Element *data() const noexcept { return data_; }
     [[nodiscard]] constexpr std::size_t size() const noexcept { return size_; }
@@ -83,10 +116,18 @@ struct words {
 
 // ---- Kinds: which calls each has, the member at an end, the one beyond a member, and how a member is taken off ----------------------
 
-struct doubly {
-    using link = ic_link2;
-    using head = ic_list;
-    using source = words<link, head>;
+/// A kind with a head of its own, which views point to.
+template <class Link, class Head>
+struct headed {
+    using link = Link;
+    using head = Head;
+    using source = words<Link, Head>;
+    using argument = Head &;
+    using handle = Head *;
+    static handle handle_of(argument list) noexcept { return &list; }
+};
+
+struct doubly : headed<ic_link2, ic_list> {
     static constexpr bool is_bidirectional = true, needs_from = false;
     static constexpr auto clear = ic_list_clear;
     static constexpr auto check = ic_list_check;
@@ -107,10 +148,7 @@ struct doubly {
     }
 };
 
-struct singly {
-    using link = ic_link1;
-    using head = ic_stack;
-    using source = words<link, head>;
+struct singly : headed<ic_link1, ic_stack> {
     static constexpr bool is_bidirectional = false, needs_from = true;
     static constexpr auto clear = ic_stack_clear;
     static constexpr auto check = ic_stack_check;
@@ -128,10 +166,7 @@ struct singly {
     }
 };
 
-struct xored {
-    using link = ic_link1;
-    using head = ic_xor_list;
-    using source = words<link, head>;
+struct xored : headed<ic_link1, ic_xor_list> {
     static constexpr bool is_bidirectional = true, needs_from = true;
     static constexpr auto clear = ic_xor_clear;
     static constexpr auto fill = ic_xor_fill;
@@ -149,10 +184,7 @@ struct xored {
     }
 };
 
-struct red_black {
-    using link = ic_link3;
-    using head = ic_tree;
-    using source = words<link, head>;
+struct red_black : headed<ic_link3, ic_tree> {
     static constexpr bool is_bidirectional = true, needs_from = false;
     static constexpr auto clear = ic_tree_clear;
     static constexpr auto check = ic_tree_check;
@@ -168,15 +200,51 @@ struct red_black {
     }
 };
 
+/// The head of a ring is a place of its table.
+struct circular {
+    using link = ic_link2;
+    using head = std::uint32_t;
+    struct source {
+        const link *table = nullptr;
+        std::size_t places = 0;
+        std::uint32_t head = none;
+    };
+    using argument = head;
+    using handle = head;
+    static handle handle_of(argument place) noexcept { return place; }
+    static constexpr bool is_bidirectional = true, needs_from = false;
+    static constexpr auto push_front = ic_ring_push_front, push_back = ic_ring_push_back;
+    static constexpr auto pop_front = ic_ring_pop_front, pop_back = ic_ring_pop_back;
+
+    static bool is_linked(const source &in, std::uint32_t at) noexcept { return ic_ring_is_linked(in.table, in.places, at) != 0; }
+    static bool is_empty(const source &in) noexcept { return ic_ring_is_empty(in.table, in.places, in.head) != 0; }
+    static std::uint32_t outermost(const source &in, bool back) noexcept { return beyond(in, {none, in.head}, back); }
+    static std::uint32_t beyond(const source &in, position it, bool back) noexcept {
+        const std::uint32_t place = (back ? ic_ring_prev : ic_ring_next)(in.table, in.places, it.at);
+        return place == in.head ? none : place;
+    }
+    static std::uint32_t take(link *table, std::size_t places, handle, position it) noexcept {
+        return ic_ring_remove(table, places, it.at);
+    }
+};
+
 // ---- Iterators ---------------------------------------------------------------------------------------------------------------------
 
+/// What an iterator keeps besides, whose place alone does not tell the member in front of it: from which position it came to `from`.
+struct trail {
+    position before{};
+    bool is_kept = false;
+};
+struct no_trail {};
+
 /// Goes from member to member, and gives the place of each. It stays valid until its member is taken off. In a singly linked or an XOR list
-/// it also needs the member that it came from: make it anew if that has been taken off.
+/// it also needs the member that it came from: make it anew if that has been taken off. An iterator that has gone on by `it++` does not, so
+/// that `erase(it++)` is right for each kind.
 ///
-/// `Back` is whether it goes from the last member to the first. It counts its steps, and after as many as the table has places it is at the
-/// end.
+/// `Back` is whether it goes from the last member to the first. It counts its steps. After as many forwards as the table has places it is at
+/// the end, and after as many backwards at the beginning.
 template <class Kind, bool Back>
-class iterator {
+class iterator : std::conditional_t<Kind::needs_from, trail, no_trail> {
 public:
     using iterator_category = std::conditional_t<Kind::is_bidirectional, std::bidirectional_iterator_tag, std::forward_iterator_tag>;
     using value_type = std::uint32_t;
@@ -187,30 +255,37 @@ public:
     iterator() = default;
 
     /// The iterator at a position, or at the end if no member is there.
-    iterator(typename Kind::source in, position it) noexcept : in_(in), left_(ic_bound(in.places)) { go(it); }
+    iterator(typename Kind::source in, position it) noexcept : in_(in), left_(ic_bound(in.places)), behind_(left_) { go(it); }
 
     [[nodiscard]] std::uint32_t operator*() const noexcept { return it_.at; }
 
     iterator &operator++() noexcept {
-        const std::uint32_t beyond = Kind::beyond(in_, it_, Back);
-        count_step();
-        go({it_.at, beyond});
+        const position it = where();
+        const std::uint32_t beyond = Kind::beyond(in_, it, Back);
+        count(left_, behind_);
+        go(left_ > 0 ? position{it.at, beyond} : position{it.at, none});
         return *this;
     }
 
     iterator operator++(int) noexcept {
         const iterator was = *this;
+        const position it = where();
         ++*this;
+        if constexpr (Kind::needs_from) {
+            this->before = {it.from == none ? none : Kind::beyond(in_, {it.at, it.from}, !Back), it.from};
+            this->is_kept = true;
+        }
         return was;
     }
 
     iterator &operator--() noexcept {
         static_assert(Kind::is_bidirectional, "a singly linked list is walked forwards only");
-        position it{none, it_.at == none ? Kind::outermost(in_, !Back) : Kind::needs_from ? it_.from : Kind::beyond(in_, it_, !Back)};
+        const position from = where();
+        position it{none, from.at == none ? Kind::outermost(in_, !Back) : Kind::needs_from ? from.from : Kind::beyond(in_, from, !Back)};
         if constexpr (Kind::needs_from)
-            it.from = Kind::beyond(in_, {it_.at, it.at}, !Back);
-        left_ += left_ < ic_bound(in_.places);
-        go(it);
+            it.from = Kind::beyond(in_, {from.at, it.at}, !Back);
+        count(behind_, left_);
+        go(behind_ > 0 ? it : position{none, Kind::outermost(in_, Back)});
         return *this;
     }
 
@@ -223,45 +298,74 @@ public:
     [[nodiscard]] friend bool operator==(const iterator &one, const iterator &other) noexcept { return one.it_.at == other.it_.at; }
     [[nodiscard]] friend bool operator!=(const iterator &one, const iterator &other) noexcept { return !(one == other); }
 
-    /// The member, and the one from which the iterator came to it.
-    [[nodiscard]] position where() const noexcept { return it_; }
+    /// The member, and the one in front of it, from which the iterator came unless that has been taken off.
+    [[nodiscard]] position where() const noexcept {
+        if constexpr (Kind::needs_from)
+            if (this->is_kept && it_.at == (this->before.at == none ? Kind::outermost(in_, Back) : Kind::beyond(in_, this->before, Back)))
+                return {this->before.at, it_.at};
+        return it_;
+    }
 
     /// The iterator behind this one, as it is after this one's member has been taken off.
     [[nodiscard]] iterator past() const noexcept {
         iterator next = *this;
         ++next;
-        next.it_.from = it_.from;
+        next.it_.from = where().from;
         return next;
     }
 
 private:
-    void count_step() noexcept { left_ -= left_ > 0; }
+    /// Counts a step, of which fewer are left then, and more the other way.
+    void count(std::uint32_t &fewer, std::uint32_t &more) noexcept {
+        fewer -= fewer > 0;
+        more += more < ic_bound(in_.places);
+    }
 
     void go(position it) noexcept {
         it_ = it;
-        if (left_ == 0 || !Kind::is_linked(in_, it.at))
+        if (!Kind::is_linked(in_, it.at))
             it_.at = none;
+        if constexpr (Kind::needs_from)
+            this->is_kept = false;
     }
 
     typename Kind::source in_;
     position it_;
-    std::uint32_t left_ = 0;
+    std::uint32_t left_ = 0, behind_ = 0;
+};
+
+/// What `erase` returns: the iterator behind the member that it took off, and its status. If the status is not ok, nothing is changed, and the
+/// iterator is end(), so that a loop of `it = erase(it)` ends.
+template <class Iterator>
+class erased : public Iterator {
+public:
+    erased(ic::status done, Iterator next) noexcept : Iterator(next), done_(done) {}
+
+    [[nodiscard]] ic::status status() const noexcept { return done_; }
+    [[nodiscard]] operator ic::status() const noexcept { return done_; }
+
+private:
+    ic::status done_;
 };
 
 // ---- What all kinds have -----------------------------------------------------------------------------------------------------------
 
-/// Reads a list or a tree.
+/// Marks what reads members. Its copies are cheap, and its iterators outlive it.
+struct view_base {};
+
+#ifdef __cpp_lib_ranges
+template <class View>
+concept is_view = std::is_base_of_v<view_base, View>;
+#endif
+
+/// Reads a list, a ring or a tree.
 template <class Kind>
-class members {
+class members : public view_base {
 public:
     using kind = Kind;
     using value_type = std::uint32_t;
     using iterator = detail::iterator<Kind, false>;
     using const_iterator = iterator;
-
-    members(array_view<const typename Kind::link> table, const typename Kind::head &head) noexcept
-        : in_{table.data(), table.size(), &head} {}
-    members(array_view<const typename Kind::link> table, const typename Kind::head &&head) = delete;
 
     [[nodiscard]] iterator begin() const noexcept { return {in_, {none, Kind::outermost(in_, false)}}; }
     [[nodiscard]] iterator end() const noexcept { return {in_, {}}; }
@@ -282,6 +386,8 @@ public:
     [[nodiscard]] std::optional<std::uint32_t> front() const noexcept { return found(*begin()); }
 
 protected:
+    explicit members(typename Kind::source in) noexcept : in_(in) {}
+
     static std::optional<std::uint32_t> found(std::uint32_t place) noexcept {
         return place == none ? std::nullopt : std::optional<std::uint32_t>(place);
     }
@@ -295,46 +401,68 @@ class two_way : public members<Kind> {
 public:
     using reverse_iterator = detail::iterator<Kind, true>;
     using const_reverse_iterator = reverse_iterator;
-    using members<Kind>::members;
 
     [[nodiscard]] reverse_iterator rbegin() const noexcept { return {this->in_, {none, Kind::outermost(this->in_, true)}}; }
     [[nodiscard]] reverse_iterator rend() const noexcept { return {this->in_, {}}; }
 
     /// The last member. std::nullopt: there is none, or it is none of this table.
     [[nodiscard]] std::optional<std::uint32_t> back() const noexcept { return this->found(*rbegin()); }
+
+protected:
+    using members<Kind>::members;
 };
 
 /// Reads a list or a tree whose members tell both of their neighbors.
 template <class Kind>
 class placed : public two_way<Kind> {
 public:
-    using two_way<Kind>::two_way;
-
     /// The iterator at a member, or end() if the place is `none` or unlinked.
     [[nodiscard]] typename two_way<Kind>::iterator iterator_to(std::uint32_t place) const noexcept {
         return {this->in_, {none, place}};
     }
+
+protected:
+    using two_way<Kind>::two_way;
 };
 
-/// Edits a list or a tree.
+/// Is made of a table and of a list or a tree.
 template <class Base>
-class edits : public Base {
-public:
-    using kind = typename Base::kind;
-    using link = typename kind::link;
-    using head = typename kind::head;
-    using iterator = typename Base::iterator;
+class of_head : public Base {
+    using link = typename Base::kind::link;
+    using head = typename Base::kind::head;
 
-    edits(array_view<link> table, head &list) noexcept
-        : Base(array_view<const link>(table.data(), table.size()), list), table_(table.data()), head_(&list) {}
+public:
+    of_head(array_view<const link> table, const head &list) noexcept : Base({table.data(), table.size(), &list}) {}
+    of_head(array_view<const link> table, const head &&list) = delete;
+};
+
+/// Takes members off that iterators name.
+template <class Base>
+class erases : public Base {
+public:
+    using iterator = typename Base::iterator;
+    using Base::Base;
 
     /// Takes the member of an iterator off, and moves the iterator on to the next one.
-    status erase(iterator &at) const noexcept {
+    [[nodiscard]] erased<iterator> erase(iterator &at) const noexcept {
         const iterator next = at.past();
-        const auto done = static_cast<status>(kind::take(table_, this->in_.places, head_, at.where()));
-        if (done == status::ok)
-            at = next;
-        return done;
+        const status done = this->take(at);
+        if (done != status::ok)
+            return {done, this->end()};
+        at = next;
+        return {done, next};
+    }
+
+    /// The same of an iterator that nobody reads again, as `it++`. The status may be overlooked here, as in the standard library.
+    erased<iterator> erase(iterator &&at) const noexcept { return erase(at); }
+    [[nodiscard]] erased<iterator> erase(const iterator &at) const noexcept { return erase(iterator(at)); }
+
+    /// Takes the members from `first` on off, up to `last`. Stops at the first refusal.
+    [[nodiscard]] erased<iterator> erase(iterator first, iterator last) const noexcept {
+        while (first != last)
+            if (const auto done = erase(first); done.status() != status::ok)
+                return done;
+        return {status::ok, first};
     }
 
     /// Takes off each member of which the predicate is true, and hands it to `then`, which may link it in another list or tree. Neither may
@@ -365,11 +493,24 @@ public:
     status retain(Predicate is_wanted) const {
         return remove_if([&](std::uint32_t place) { return !is_wanted(place); });
     }
+};
 
-    /// Takes all members off. ic::status::broken: they are no list or tree of this table, and nothing is changed.
-    status clear() const noexcept { return edit(kind::clear); }
+/// Has what edits a list, a ring or a tree.
+template <class Base>
+class writes : public Base {
+public:
+    using kind = typename Base::kind;
+    using link = typename kind::link;
+    using head = typename kind::head;
+
+    writes(array_view<link> table, typename kind::argument list) noexcept
+        : Base(array_view<const link>(table), list), table_(table.data()), head_(kind::handle_of(list)) {}
 
 protected:
+    status take(const typename Base::iterator &at) const noexcept {
+        return static_cast<status>(kind::take(table_, this->in_.places, head_, at.where()));
+    }
+
     template <class Call, class... Arguments>
     status edit(Call call, Arguments... arguments) const noexcept {
         return static_cast<status>(call(table_, this->in_.places, head_, arguments...));
@@ -384,32 +525,28 @@ protected:
 
     /// An edit with a second list, which has to be another one of the same table.
     template <class Call, class... Arguments>
-    status edit_both(const edits &other, Call call, Arguments... arguments) const noexcept {
+    status edit_both(const writes &other, Call call, Arguments... arguments) const noexcept {
         return other.table_ == table_ && other.head_ != head_ ? edit(call, arguments...) : status::broken;
     }
 
     link *table_;
-    head *head_;
+    typename kind::handle head_;
 };
 
-/// Edits a list at its front, and fills it.
+/// Edits a list or a ring at its front.
 template <class Base>
-class front_edits : public edits<Base> {
+class front_edits : public erases<writes<Base>> {
 public:
     using kind = typename Base::kind;
-    using edits<Base>::edits;
+    using erases<writes<Base>>::erases;
 
     status push_front(std::uint32_t place) const noexcept { return this->edit(kind::push_front, place); }
 
     /// Takes the first member off. std::nullopt: there is none, or, if the list is not empty(), it is none of this table.
     [[nodiscard]] std::optional<std::uint32_t> pop_front() const noexcept { return this->taken(kind::pop_front); }
-
-    /// Links `count` places, `first` and those behind it, in the order of their numbers: at the back, and of a singly linked list at the
-    /// front. If one of them is refused, none is linked.
-    status fill(std::uint32_t first, std::uint32_t count) const noexcept { return this->edit(kind::fill, first, count); }
 };
 
-/// Edits a list at both ends.
+/// Edits a list or a ring at both ends.
 template <class Base>
 class end_edits : public front_edits<Base> {
 public:
@@ -422,17 +559,32 @@ public:
     [[nodiscard]] std::optional<std::uint32_t> pop_back() const noexcept { return this->taken(kind::pop_back); }
 };
 
+/// Edits a list as a whole, too.
+template <class Base>
+class list_edits : public Base {
+public:
+    using kind = typename Base::kind;
+    using Base::Base;
+
+    /// Links `count` places, `first` and those behind it, in the order of their numbers: at the back, and of a singly linked list at the
+    /// front. If one of them is refused, none is linked.
+    status fill(std::uint32_t first, std::uint32_t count) const noexcept { return this->edit(kind::fill, first, count); }
+
+    /// Takes all members off. ic::status::broken: they are no list of this table, and nothing is changed.
+    status clear() const noexcept { return this->edit(kind::clear); }
+};
+
 } // namespace detail
 
 // ---- Doubly linked lists -----------------------------------------------------------------------------------------------------------
 
-using const_list_view = detail::placed<detail::doubly>;
+using const_list_view = detail::of_head<detail::placed<detail::doubly>>;
 
 /// Edits a doubly linked list.
-class list_view : public detail::end_edits<const_list_view> {
+class list_view : public detail::list_edits<detail::end_edits<const_list_view>> {
 public:
     using keys_view = array_view<const std::uint64_t>;
-    using end_edits::end_edits;
+    using list_edits::list_edits;
 
     /// Links a place in front of an iterator's member, and at the back if that is end().
     status insert(iterator at, std::uint32_t place) const noexcept { return insert_before(*at, place); }
@@ -475,15 +627,50 @@ public:
 
 // ---- Rings ---------------------------------------------------------------------------------------------------------------------------
 
-/// Edits the rings of a table, whose heads are places of it. A member leaves, and gets neighbors, with no ring named.
-class ring_view {
+/// Reads the members of one ring, from behind its head on.
+class const_ring_members : public detail::placed<detail::circular> {
 public:
-    ring_view(array_view<ic_link2> table) noexcept : table_(table.data()), places_(table.size()) {}
+    const_ring_members(array_view<const ic_link2> table, std::uint32_t head) noexcept : placed({table.data(), table.size(), head}) {}
 
-    [[nodiscard]] bool empty(std::uint32_t head) const noexcept { return ic_ring_is_empty(table_, places_, head) != 0; }
-    [[nodiscard]] bool is_linked(std::uint32_t place) const noexcept { return ic_ring_is_linked(table_, places_, place) != 0; }
-    [[nodiscard]] std::uint32_t next(std::uint32_t at) const noexcept { return ic_ring_next(table_, places_, at); }
-    [[nodiscard]] std::uint32_t prev(std::uint32_t at) const noexcept { return ic_ring_prev(table_, places_, at); }
+    /// The iterator at a member, or end() if the place is the head, `none` or unlinked.
+    [[nodiscard]] iterator iterator_to(std::uint32_t place) const noexcept { return placed::iterator_to(place == in_.head ? none : place); }
+};
+
+/// Edits the members of one ring.
+class ring_members : public detail::end_edits<const_ring_members> {
+public:
+    using end_edits::end_edits;
+
+    /// Links a place in front of an iterator's member, and at the back if that is end().
+    status insert(iterator at, std::uint32_t place) const noexcept {
+        return *at == none ? push_back(place) : static_cast<status>(ic_ring_insert_before(table_, in_.places, *at, place));
+    }
+};
+
+/// Reads the rings of a table, whose heads are places of it.
+class const_ring_view {
+public:
+    const_ring_view(array_view<const ic_link2> table) noexcept : in_(table) {}
+
+    [[nodiscard]] bool empty(std::uint32_t head) const noexcept { return ic_ring_is_empty(in_.data(), in_.size(), head) != 0; }
+    [[nodiscard]] bool is_linked(std::uint32_t place) const noexcept { return ic_ring_is_linked(in_.data(), in_.size(), place) != 0; }
+    [[nodiscard]] std::uint32_t next(std::uint32_t at) const noexcept { return ic_ring_next(in_.data(), in_.size(), at); }
+    [[nodiscard]] std::uint32_t prev(std::uint32_t at) const noexcept { return ic_ring_prev(in_.data(), in_.size(), at); }
+
+    /// The members of a head, for a loop or an algorithm.
+    [[nodiscard]] const_ring_members members(std::uint32_t head) const noexcept { return {in_, head}; }
+
+protected:
+    array_view<const ic_link2> in_;
+};
+
+/// Edits the rings of a table. A member leaves, and gets neighbors, with no ring named.
+class ring_view : public const_ring_view {
+public:
+    ring_view(array_view<ic_link2> table) noexcept : const_ring_view(array_view<const ic_link2>(table)), table_(table.data()), places_(table.size()) {}
+
+    /// The members of a head, whose iterators `erase` takes, too.
+    [[nodiscard]] ring_members members(std::uint32_t head) const noexcept { return {{table_, places_}, head}; }
 
     /// Makes a place the head of a ring with no members.
     status init(std::uint32_t head) const noexcept { return edit(ic_ring_init, head); }
@@ -535,12 +722,12 @@ private:
 
 // ---- Singly linked lists -----------------------------------------------------------------------------------------------------------
 
-using const_stack_view = detail::members<detail::singly>;
+using const_stack_view = detail::of_head<detail::members<detail::singly>>;
 
 /// Edits a singly linked list. Its edits in the middle are behind the member `at`, or at the front if that is `none`.
-class stack_view : public detail::front_edits<const_stack_view> {
+class stack_view : public detail::list_edits<detail::front_edits<const_stack_view>> {
 public:
-    using front_edits::front_edits;
+    using list_edits::list_edits;
 
     status insert_after(std::uint32_t at, std::uint32_t place) const noexcept { return edit(ic_stack_insert_after, at, place); }
 
@@ -561,13 +748,166 @@ public:
 
 // ---- Hash tables ---------------------------------------------------------------------------------------------------------------------
 
-/// Edits a hash table: an array of buckets, each a singly linked list of the members whose hash leads there. Hand each call for one object
-/// the same hash.
-class hash_view {
+namespace detail {
+
+/// A table and its buckets, that are read.
+struct hash_words {
+    const ic_link1 *table = nullptr;
+    std::size_t places = 0;
+    const ic_stack *buckets = nullptr;
+    std::size_t bucket_count = 0;
+};
+
+/// Goes from member to member, chain by chain. It stays valid until its member is taken off. After as many steps as the table has places it
+/// is at the end.
+class hash_iterator {
+public:
+    using iterator_category = std::forward_iterator_tag;
+    using value_type = std::uint32_t;
+    using difference_type = std::ptrdiff_t;
+    using pointer = void;
+    using reference = std::uint32_t;
+
+    hash_iterator() = default;
+
+    /// The iterator at the first member.
+    explicit hash_iterator(hash_words in) noexcept : in_(in), left_(ic_bound(in.places)) {
+        if (in.bucket_count > 0)
+            go(ic_stack_first(in.buckets));
+    }
+
+    [[nodiscard]] std::uint32_t operator*() const noexcept { return at_; }
+
+    hash_iterator &operator++() noexcept {
+        left_ -= left_ > 0;
+        go(ic_stack_next(in_.table, in_.places, at_));
+        return *this;
+    }
+
+    hash_iterator operator++(int) noexcept {
+        const hash_iterator was = *this;
+        ++*this;
+        return was;
+    }
+
+    [[nodiscard]] friend bool operator==(const hash_iterator &one, const hash_iterator &other) noexcept { return one.at_ == other.at_; }
+    [[nodiscard]] friend bool operator!=(const hash_iterator &one, const hash_iterator &other) noexcept { return !(one == other); }
+
+    /// The index of the member's bucket.
+    [[nodiscard]] std::size_t bucket() const noexcept { return bucket_; }
+
+    /// The iterator behind this one.
+    [[nodiscard]] hash_iterator past() const noexcept {
+        hash_iterator next = *this;
+        ++next;
+        return next;
+    }
+
+private:
+    /// Goes to a place, or if it is no member to the first member of the chains behind.
+    void go(std::uint32_t place) noexcept {
+        while (!ic_stack_is_linked(in_.table, in_.places, place) && ++bucket_ < in_.bucket_count)
+            place = ic_stack_first(&in_.buckets[bucket_]);
+        at_ = left_ > 0 && bucket_ < in_.bucket_count ? place : none;
+    }
+
+    hash_words in_;
+    std::size_t bucket_ = 0;
+    std::uint32_t at_ = none, left_ = 0;
+};
+
+} // namespace detail
+
+/// Reads a hash table: an array of buckets, each a singly linked list of the members whose hash leads there. Hand each call for one object the
+/// same hash. A loop goes over all members, chain by chain.
+class const_hash_view : public detail::view_base {
 public:
     using keys_view = array_view<const std::uint64_t>;
+    using value_type = std::uint32_t;
+    using iterator = detail::hash_iterator;
+    using const_iterator = iterator;
 
-    hash_view(array_view<ic_link1> table, array_view<ic_stack> buckets) noexcept : table_(table), buckets_(buckets) {}
+    const_hash_view(array_view<const ic_link1> table, array_view<const ic_stack> buckets) noexcept
+        : in_{table.data(), table.size(), buckets.data(), buckets.size()} {}
+
+    [[nodiscard]] iterator begin() const noexcept { return iterator(in_); }
+    [[nodiscard]] iterator end() const noexcept { return {}; }
+    [[nodiscard]] bool empty() const noexcept { return begin() == end(); }
+
+    /// Whether a place is in this hash table, or in another list of the table of links.
+    [[nodiscard]] bool is_linked(std::uint32_t place) const noexcept { return ic_stack_is_linked(in_.table, in_.places, place) != 0; }
+
+    /// The first member of the chain with this key: of several, the one that was inserted last. std::nullopt: there is none, or it is refused.
+    [[nodiscard]] std::optional<std::uint32_t> find(keys_view keys, std::uint64_t hash, std::uint64_t key) const noexcept {
+        std::uint32_t place = none;
+        const std::uint32_t done =
+            ic_hash_find(in_.table, in_.places, keys.data(), keys.size(), in_.buckets, in_.bucket_count, hash, key, &place);
+        return found(done, place);
+    }
+
+    /// The next member behind the member `at` with the key of that one. std::nullopt: there is none, or it is refused.
+    [[nodiscard]] std::optional<std::uint32_t> next_equal(keys_view keys, std::uint32_t at) const noexcept {
+        std::uint32_t place = none;
+        const std::uint32_t done = ic_hash_next_equal(in_.table, in_.places, keys.data(), keys.size(), at, &place);
+        return found(done, place);
+    }
+
+    /// The first member of the chain of which the predicate is true.
+    template <class Predicate>
+    [[nodiscard]] std::optional<std::uint32_t> find_by(std::uint64_t hash, Predicate is_equal) const {
+        IC_HASH_FOREACH(place, in_.table, in_.places, in_.buckets, in_.bucket_count, hash)
+            if (is_equal(place))
+                return place;
+        return std::nullopt;
+    }
+
+    /// The chain of a hash, as a list. There has to be a bucket.
+    [[nodiscard]] const_stack_view chain(std::uint64_t hash) const noexcept {
+        return {{in_.table, in_.places}, in_.buckets[hash % in_.bucket_count]};
+    }
+
+    /// Calls a function with each member, chain by chain.
+    template <class Function>
+    void for_each(Function then) const {
+        for (std::size_t i = 0; i < in_.bucket_count; ++i)
+            for (const std::uint32_t place : chain(i))
+                then(place);
+    }
+
+protected:
+    static std::optional<std::uint32_t> found(std::uint32_t done, std::uint32_t place) noexcept {
+        return done == IC_OK ? std::optional<std::uint32_t>(place) : std::nullopt;
+    }
+
+    detail::hash_words in_;
+};
+
+namespace detail {
+
+/// Has what edits a hash table.
+class hash_writes : public const_hash_view {
+public:
+    hash_writes(array_view<ic_link1> table, array_view<ic_stack> buckets) noexcept
+        : const_hash_view(array_view<const ic_link1>(table), array_view<const ic_stack>(buckets)), table_(table.data()), buckets_(buckets.data()) {}
+
+protected:
+    status take(const iterator &at) const noexcept { return edit(ic_hash_remove, at.bucket(), *at); }
+
+    template <class Call>
+    status edit(Call call, std::uint64_t hash, std::uint32_t place) const noexcept {
+        return static_cast<status>(call(table_, in_.places, buckets_, in_.bucket_count, hash, place));
+    }
+
+    ic_link1 *table_;
+    ic_stack *buckets_;
+};
+
+} // namespace detail
+
+/// Edits a hash table.
+class hash_view : public detail::erases<detail::hash_writes> {
+public:
+    using erases::erases;
 
     /// Links a place at the front of its chain.
     status insert(std::uint64_t hash, std::uint32_t place) const noexcept { return edit(ic_hash_insert, hash, place); }
@@ -575,63 +915,18 @@ public:
     /// Takes a place off its chain, wherever it is in it.
     status remove(std::uint64_t hash, std::uint32_t place) const noexcept { return edit(ic_hash_remove, hash, place); }
 
-    /// The first member of the chain with this key: of several, the one that was inserted last. std::nullopt: there is none, or it is refused.
-    [[nodiscard]] std::optional<std::uint32_t> find(keys_view keys, std::uint64_t hash, std::uint64_t key) const noexcept {
-        std::uint32_t place = none;
-        const std::uint32_t done = ic_hash_find(table_.data(), table_.size(), keys.data(), keys.size(), buckets_.data(), buckets_.size(), hash,
-                                                key, &place);
-        return found(done, place);
-    }
-
-    /// The next member behind the member `at` with the key of that one. std::nullopt: there is none, or it is refused.
-    [[nodiscard]] std::optional<std::uint32_t> next_equal(keys_view keys, std::uint32_t at) const noexcept {
-        std::uint32_t place = none;
-        const std::uint32_t done = ic_hash_next_equal(table_.data(), table_.size(), keys.data(), keys.size(), at, &place);
-        return found(done, place);
-    }
-
-    /// The first member of the chain of which the predicate is true.
-    template <class Predicate>
-    [[nodiscard]] std::optional<std::uint32_t> find_by(std::uint64_t hash, Predicate is_equal) const {
-        IC_HASH_FOREACH(place, table_.data(), table_.size(), buckets_.data(), buckets_.size(), hash)
-            if (is_equal(place))
-                return place;
-        return std::nullopt;
-    }
-
     /// The chain of a hash, as a list. There has to be a bucket.
-    [[nodiscard]] stack_view chain(std::uint64_t hash) const noexcept { return {table_, buckets_.data()[hash % buckets_.size()]}; }
-
-    /// Calls a function with each member, chain by chain.
-    template <class Function>
-    void for_each(Function then) const {
-        for (std::size_t i = 0; i < buckets_.size(); ++i)
-            for (const std::uint32_t place : stack_view(table_, buckets_.data()[i]))
-                then(place);
-    }
-
-private:
-    template <class Call>
-    status edit(Call call, std::uint64_t hash, std::uint32_t place) const noexcept {
-        return static_cast<status>(call(table_.data(), table_.size(), buckets_.data(), buckets_.size(), hash, place));
-    }
-
-    static std::optional<std::uint32_t> found(std::uint32_t done, std::uint32_t place) noexcept {
-        return done == IC_OK ? std::optional<std::uint32_t>(place) : std::nullopt;
-    }
-
-    array_view<ic_link1> table_;
-    array_view<ic_stack> buckets_;
+    [[nodiscard]] stack_view chain(std::uint64_t hash) const noexcept { return {{table_, in_.places}, buckets_[hash % in_.bucket_count]}; }
 };
 
 // ---- XOR lists ---------------------------------------------------------------------------------------------------------------------
 
-using const_xor_view = detail::two_way<detail::xored>;
+using const_xor_view = detail::of_head<detail::two_way<detail::xored>>;
 
 /// Edits an XOR list. Its edits in the middle take the members on both sides, `none` beyond an end, or an iterator.
-class xor_view : public detail::end_edits<const_xor_view> {
+class xor_view : public detail::list_edits<detail::end_edits<const_xor_view>> {
 public:
-    using end_edits::end_edits;
+    using list_edits::list_edits;
 
     /// Links a place in front of an iterator's member, and at the back if that is end().
     status insert(iterator at, std::uint32_t place) const noexcept { return insert_between(front_of(at), place, *at); }
@@ -662,10 +957,10 @@ private:
 // ---- Red-black trees ---------------------------------------------------------------------------------------------------------------
 
 /// Reads a tree. The keys of a search are one number for each place: a vector, an array, or a pointer and a length.
-class const_tree_view : public detail::placed<detail::red_black> {
+class const_tree_view : public detail::of_head<detail::placed<detail::red_black>> {
 public:
     using keys_view = array_view<const std::uint64_t>;
-    using placed::placed;
+    using of_head::of_head;
 
     /// The first member with this key. All searches return std::nullopt if there is no such member, if there are fewer keys than places, or
     /// if the root is none of this table.
@@ -733,9 +1028,9 @@ private:
 };
 
 /// Edits a tree.
-class tree_view : public detail::edits<const_tree_view> {
+class tree_view : public detail::erases<detail::writes<const_tree_view>> {
 public:
-    using edits::edits;
+    using erases::erases;
 
     /// Links a place by its key, behind all members whose keys are not greater.
     status insert(keys_view keys, std::uint32_t place) const noexcept {
@@ -762,6 +1057,9 @@ public:
     /// Takes the last member off. std::nullopt as of pop_front().
     [[nodiscard]] std::optional<std::uint32_t> pop_back() const noexcept { return popped(*rbegin()); }
 
+    /// Takes all members off. ic::status::broken: they are no tree of this table, and nothing is changed.
+    status clear() const noexcept { return edit(ic_tree_clear); }
+
 private:
     std::optional<std::uint32_t> popped(std::uint32_t place) const noexcept {
         return remove(place) == status::ok ? found(place) : std::nullopt;
@@ -770,4 +1068,12 @@ private:
 
 } // namespace ic
 
+#ifdef __cpp_lib_ranges
+template <ic::detail::is_view View>
+inline constexpr bool std::ranges::enable_view<View> = true;
+template <ic::detail::is_view View>
+inline constexpr bool std::ranges::enable_borrowed_range<View> = true;
+#endif
+
+#endif // C++17
 #endif

@@ -2,9 +2,9 @@
 //
 //     views [EDITS [SEED]]
 //
-// Two lists of each kind are in one table, and two trees, two rings, and a hash table. After each edit they have the members of the plain ones, forwards and backwards.
-// In between, loops run over tables of random words: each ends within as many rounds as there are places. Prints how many edits were made,
-// and how many of them were refused.
+// Two lists of each kind are in one table, and two trees, two rings, and a hash table. After each edit they have the members of the plain ones,
+// forwards and backwards. In between, loops run over tables of random words: each ends within as many rounds as there are places. Prints how
+// many edits were made, and how many of them were refused.
 #include "ic.hpp"
 #include "common.h"
 #include <algorithm>
@@ -97,6 +97,26 @@ std::optional<std::uint32_t> take_back(std::list<std::uint32_t> &members) {
     return place;
 }
 
+/// Takes off the members of a mask by iterators that have gone on before, and links some of them in the other list.
+template <class View>
+void erase_passed(lists<View> &it, int which, std::uint32_t mask) {
+    const View view = it.view(which), other = it.view(1 - which);
+    auto &plain = it.plain[which], &others = it.plain[1 - which];
+    auto member = plain.begin();
+    for (auto at = view.begin(); at != view.end();) {
+        const std::uint32_t value = *at;
+        if (!(mask >> value & 1)) {
+            below(2) ? void(++at) : void(at++);
+            ++member;
+            continue;
+        }
+        made(view.erase(at++), ic::status::ok);
+        plain.erase(member++);
+        if (below(2) && made(other.push_front(value), ic::status::ok))
+            others.push_front(value);
+    }
+}
+
 /// An edit that each kind of list has, at the member with this number.
 template <class View>
 void edit(lists<View> &it, int which, std::uint32_t index, std::uint32_t call) {
@@ -127,6 +147,10 @@ void edit(lists<View> &it, int which, std::uint32_t index, std::uint32_t call) {
         plain.remove_if(leaves);
         break;
     case 4:
+        if (below(2)) {
+            erase_passed(it, which, mask);
+            break;
+        }
         made(view.retain(leaves), ic::status::ok);
         plain.remove_if([&](std::uint32_t value) { return !leaves(value); });
         break;
@@ -434,6 +458,9 @@ struct rings {
 
     void check() {
         for (int which : {0, 1}) {
+            const ic::const_ring_members reads = ic::const_ring_view(table).members(head(which));
+            expect(std::equal(reads.begin(), reads.end(), plain[which].begin(), plain[which].end()), "a loop over a ring has other members");
+            expect(std::equal(reads.rbegin(), reads.rend(), plain[which].rbegin(), plain[which].rend()), "a loop back over a ring has other members");
             auto member = plain[which].begin();
             view().for_each(head(which), [&](std::uint32_t place) { expect(place == *member++, "a ring has another member"); });
             expect(member == plain[which].end() && view().empty(head(which)) == plain[which].empty(), "a ring has other members");
@@ -470,6 +497,16 @@ void step(rings &it) {
             other.remove(place);
         }
         break;
+    case 6: {
+        const ic::ring_members members = view.members(head);
+        const auto at = member == plain.end() ? members.end() : members.iterator_to(*member);
+        if (below(2)) {
+            if (made(members.insert(at, place), linking))
+                plain.insert(member, place);
+        } else if (made(members.erase(at), at == members.end() ? ic::status::null : ic::status::ok))
+            plain.erase(member);
+        break;
+    }
     default:
         if (made(below(2) ? view.insert_before(member == plain.end() ? head : *member, place)
                           : view.insert_after(member == plain.begin() ? head : *std::prev(member), place), linking))
@@ -497,6 +534,8 @@ struct chains {
             expect(view().chain(i).front() == (plain[i].empty() ? std::nullopt : std::optional(plain[i].front())), "a chain has another first member");
         }
         expect(all == gathered, "a hash table has other members");
+        const ic::const_hash_view reads(table, buckets);
+        expect(std::equal(reads.begin(), reads.end(), all.begin(), all.end()) && reads.empty() == all.empty(), "a loop over a hash table has other members");
     }
 };
 
@@ -509,7 +548,7 @@ void step(chains &it) {
     const auto has_key = [&](std::uint32_t at) { return it.keys[at] == key; };
     const auto found = std::find_if(plain.begin(), plain.end(), has_key);
     const auto first = found == plain.end() ? std::nullopt : std::optional(*found);
-    switch (below(4)) {
+    switch (below(5)) {
     case 0:
         if (!is_linked)
             it.keys[place] = key;
@@ -522,7 +561,14 @@ void step(chains &it) {
             plain.erase(at);
         break;
     }
-    case 2:
+    case 2: {
+        const std::uint32_t mask = static_cast<std::uint32_t>(any() & any() & any());
+        made(view.remove_if([&](std::uint32_t at) { return (mask >> at & 1) != 0; }), ic::status::ok);
+        for (auto &members : it.plain)
+            members.remove_if([&](std::uint32_t at) { return (mask >> at & 1) != 0; });
+        break;
+    }
+    case 3:
         expect_taken(view.find(it.keys, hash, key), first);
         expect(view.find_by(hash, has_key) == first, "a search by a predicate finds another member");
         break;
@@ -537,26 +583,68 @@ void step(chains &it) {
 
 // ---- Any words -----------------------------------------------------------------------------------------------------------------------
 
+/// Writes random words over some links or heads, most of which lead to a place of a table of this length, or just beyond.
+template <class Element>
+void spoil(Element *elements, std::size_t count, std::uint32_t length) {
+    for (std::uint64_t *word = reinterpret_cast<std::uint64_t *>(elements), *end = reinterpret_cast<std::uint64_t *>(elements + count); word != end; word++)
+        *word = below(8) ? ic_word(below(length + 2)) + below(2) : any();
+}
+
+/// Loops forwards, by iterators that were at the end backwards, and by erase, which may be refused.
+template <class View>
+void check_rounds(const View &view, std::uint32_t count) {
+    expect(static_cast<std::uint64_t>(std::distance(view.begin(), view.end())) <= count, "a loop over any words has too many rounds");
+    if constexpr (std::is_base_of_v<std::bidirectional_iterator_tag, typename View::iterator::iterator_category>) {
+        std::uint32_t rounds = 0;
+        for (auto at = view.end(); at != view.begin(); --at)
+            expect(++rounds <= count, "a loop from the end over any words has too many rounds");
+        rounds = 0;
+        for (auto at = view.rend(); at != view.rbegin(); --at)
+            expect(++rounds <= count, "a loop from rend over any words has too many rounds");
+        expect(static_cast<std::uint64_t>(std::distance(view.rbegin(), view.rend())) <= count, "a loop backwards over any words gives too many places");
+    }
+    std::uint32_t rounds = 0;
+    const bool passes = below(2) != 0;
+    for (auto at = view.begin(); at != view.end(); rounds++)
+        if (passes)
+            view.erase(at++);
+        else
+            at = view.erase(at);
+    expect(rounds <= count, "a loop that erases any words has too many rounds");
+}
+
+void check_any_rings() {
+    const std::uint32_t count = below(7);
+    std::vector<ic_link2> table(count);
+    spoil(table.data(), count, count);
+    check_rounds(ic::ring_view(table).members(below(count + 2)), count);
+}
+
+void check_any_hashes() {
+    const std::uint32_t count = below(7);
+    std::vector<ic_link1> table(count);
+    std::vector<ic_stack> buckets(below(4));
+    spoil(table.data(), count, count);
+    spoil(buckets.data(), buckets.size(), count);
+    check_rounds(ic::hash_view(table, buckets), count);
+}
+
 template <class View>
 void check_any() {
     const std::uint32_t count = below(7);
     std::vector<typename View::link> table(count);
     typename View::head head;
-    const auto spoil = [&](auto *bytes, std::size_t size) {
-        for (std::uint64_t *word = reinterpret_cast<std::uint64_t *>(bytes); size; size -= sizeof *word, word++)
-            *word = below(8) ? ic_word(below(count + 2)) + below(2) : any();
-    };
-    spoil(table.data(), count * sizeof *table.data());
-    spoil(&head, sizeof head);
+    spoil(table.data(), count, count);
+    spoil(&head, 1, count);
     const View view{table, head};
+    if (below(2))
+        return check_rounds(view, count);
     std::uint32_t rounds = 0;
     for (const std::uint32_t place : view)
         expect(view.is_linked(place) && ++rounds <= count, "a loop over any words gives too many places, or an unlinked one");
     if constexpr (!std::is_same_v<typename View::kind, ic::xor_view::kind>)
         if (const auto members = view.check())
             expect(*members == static_cast<std::uint64_t>(std::distance(view.begin(), view.end())), "a check counts other members than a loop");
-    if constexpr (View::kind::is_bidirectional)
-        expect(static_cast<std::uint64_t>(std::distance(view.rbegin(), view.rend())) <= count, "a loop backwards over any words gives too many places");
     if (const auto popped = view.pop_front())
         expect(*popped < count && !view.is_linked(*popped), "a pop from any words gives a place that is none");
     rounds = 0;
@@ -586,12 +674,8 @@ int main(int count, char **words) {
         check_any<ic::stack_view>();
         check_any<ic::xor_view>();
         check_any<ic::tree_view>();
+        check_any_rings();
+        check_any_hashes();
     }
     std::printf("edits %llu %llu\n", static_cast<unsigned long long>(edits - refused), static_cast<unsigned long long>(refused));
 }
-
-#if __cplusplus >= 202002L
-static_assert(std::bidirectional_iterator<ic::list_view::iterator> && std::bidirectional_iterator<ic::list_view::reverse_iterator>);
-static_assert(std::bidirectional_iterator<ic::xor_view::iterator> && std::bidirectional_iterator<ic::tree_view::iterator>);
-static_assert(std::forward_iterator<ic::stack_view::iterator>);
-#endif
