@@ -23,3 +23,8 @@
 #if defined(__linux__) && (defined(__arm__) || defined(__riscv))
 	.section .note.GNU-stack,"",%progbits
 #endif
+
+// GNU ld warns of a program that refers to a name of a shared library without a type.
+#ifdef __ELF__
+        .type ic_version_0_1, %object
+#endif

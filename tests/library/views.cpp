@@ -461,6 +461,7 @@ struct rings {
             const ic::const_ring_members reads = ic::const_ring_view(table).members(head(which));
             expect(std::equal(reads.begin(), reads.end(), plain[which].begin(), plain[which].end()), "a loop over a ring has other members");
             expect(std::equal(reads.rbegin(), reads.rend(), plain[which].rbegin(), plain[which].rend()), "a loop back over a ring has other members");
+            expect(reads.iterator_to(head(which)) == reads.end(), "a head is a member of its ring");
             auto member = plain[which].begin();
             view().for_each(head(which), [&](std::uint32_t place) { expect(place == *member++, "a ring has another member"); });
             expect(member == plain[which].end() && view().empty(head(which)) == plain[which].empty(), "a ring has other members");
