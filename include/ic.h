@@ -232,12 +232,12 @@ static inline uint32_t ic_list_last(const struct ic_list *list) {
 }
 
 /* The member after the member `at`, or IC_NONE. */
-static inline uint32_t ic_list_next(const struct ic_link2 *table, size_t places, uint32_t at) {
+static inline uint32_t ic_list_next(const struct ic_link2 *table, ic_length places, uint32_t at) {
     return ic_list_is_linked(table, places, at) ? ic_place_within(places, table[at].next) : IC_NONE;
 }
 
 /* The member before the member `at`, or IC_NONE. */
-static inline uint32_t ic_list_prev(const struct ic_link2 *table, size_t places, uint32_t at) {
+static inline uint32_t ic_list_prev(const struct ic_link2 *table, ic_length places, uint32_t at) {
     return ic_list_is_linked(table, places, at) ? ic_place_within(places, table[at].prev) : IC_NONE;
 }
 
@@ -421,17 +421,17 @@ uint32_t ic_list_merge(struct ic_link2 *table, ic_length places, const uint64_t 
  */
 
 /* Whether a place is in a ring or a list of the table. */
-static inline int ic_ring_is_linked(const struct ic_link2 *table, size_t places, uint32_t place) {
+static inline int ic_ring_is_linked(const struct ic_link2 *table, ic_length places, uint32_t place) {
     return ic_list_is_linked(table, places, place);
 }
 
 /* The place after the place `at` of a ring, or IC_NONE. After a head comes the first member, and after the last member the head. */
-static inline uint32_t ic_ring_next(const struct ic_link2 *table, size_t places, uint32_t at) {
+static inline uint32_t ic_ring_next(const struct ic_link2 *table, ic_length places, uint32_t at) {
     return ic_list_next(table, places, at);
 }
 
 /* The place before the place `at` of a ring, or IC_NONE. */
-static inline uint32_t ic_ring_prev(const struct ic_link2 *table, size_t places, uint32_t at) {
+static inline uint32_t ic_ring_prev(const struct ic_link2 *table, ic_length places, uint32_t at) {
     return ic_list_prev(table, places, at);
 }
 
@@ -506,7 +506,7 @@ static inline uint32_t ic_ring_push_back(struct ic_link2 *table, ic_length place
 }
 
 /* The status of a call that needs a linked place and is handed this one, behind or in front of which there is no place of the table. */
-static inline uint32_t ic_ring_refusal(const struct ic_link2 *table, size_t places, uint32_t at) {
+static inline uint32_t ic_ring_refusal(const struct ic_link2 *table, ic_length places, uint32_t at) {
     if (at == IC_NONE)
         return IC_NULL;
     if (at >= ic_bound(places))
@@ -633,13 +633,13 @@ static inline uint32_t ic_stack_first(const struct ic_stack *list) {
 }
 
 /* The member after the member `at`, or IC_NONE. */
-static inline uint32_t ic_stack_next(const struct ic_link1 *table, size_t places, uint32_t at) {
+static inline uint32_t ic_stack_next(const struct ic_link1 *table, ic_length places, uint32_t at) {
     return ic_stack_is_linked(table, places, at) ? ic_place_within(places, table[at].next) : IC_NONE;
 }
 
 /* The member to go on to from `place`, which was the member after *before, or the first member if *before is IC_NONE. If `place` is still
  * there, *before becomes `place`. If it has been removed, the loop goes on to the member that is there now. */
-static inline uint32_t ic_stack_go_on(const struct ic_link1 *table, size_t places, const struct ic_stack *list, uint32_t *before,
+static inline uint32_t ic_stack_go_on(const struct ic_link1 *table, ic_length places, const struct ic_stack *list, uint32_t *before,
                                       uint32_t place) {
     uint32_t after = *before == IC_NONE ? ic_stack_first(list) : ic_stack_next(table, places, *before);
     if (after != place)
@@ -691,7 +691,8 @@ uint32_t ic_stack_remove_after(struct ic_link1 *table, ic_length places, struct 
  * IC_NULL: there is no such member. IC_OUT_OF_RANGE: `at` or `place` is not below `places`. IC_LINKED: `place` is linked already.
  * IC_NOT_LINKED: `at` is not linked. IC_BROKEN: the next member does not belong to this table. */
 IC_NODISCARD
-uint32_t ic_stack_replace_after(struct ic_link1 *table, size_t places, struct ic_stack *list, uint32_t at, uint32_t place, uint32_t *replaced);
+uint32_t ic_stack_replace_after(struct ic_link1 *table, ic_length places, struct ic_stack *list, uint32_t at, uint32_t place,
+                                uint32_t *replaced);
 
 /* Moves all members of `given`, in their order, after the member `at`, or to the front if `at` is IC_NONE. O(members of `given`). Then
  * `given` is empty.
@@ -779,14 +780,15 @@ uint32_t ic_hash_remove(struct ic_link1 *table, ic_length places, struct ic_stac
  * IC_NULL: there is no such member. IC_OUT_OF_RANGE: there are fewer keys than places, or there is no bucket. IC_BROKEN: the chain does not
  * belong to this table. */
 IC_NODISCARD
-uint32_t ic_hash_find(const struct ic_link1 *table, ic_length places, const uint64_t *keys, ic_length key_count, const struct ic_stack *buckets,
-                      ic_length bucket_count, uint64_t hash, uint64_t key, uint32_t *found);
+uint32_t ic_hash_find(const struct ic_link1 *table, ic_length places, const uint64_t *keys, ic_length key_count,
+                      const struct ic_stack *buckets, ic_length bucket_count, uint64_t hash, uint64_t key, uint32_t *found);
 
 /* Finds the next member after the member `at`, in its chain, that has the same key as `at`, and sets *found to it. O(members of the chain).
  * IC_NULL: `at` is IC_NONE, or there is no such member. IC_OUT_OF_RANGE: there are fewer keys than places, or `at` is not below `places`.
  * IC_NOT_LINKED: `at` is not linked. IC_BROKEN: the chain does not belong to this table. */
 IC_NODISCARD
-uint32_t ic_hash_next_equal(const struct ic_link1 *table, size_t places, const uint64_t *keys, size_t key_count, uint32_t at, uint32_t *found);
+uint32_t ic_hash_next_equal(const struct ic_link1 *table, ic_length places, const uint64_t *keys, ic_length key_count, uint32_t at,
+                            uint32_t *found);
 
 /* to here */
 
@@ -893,7 +895,7 @@ uint32_t ic_xor_pop_back(struct ic_link1 *table, ic_length places, struct ic_xor
  * IC_OUT_OF_RANGE: `before`, `place` or `after` is not below `places`. IC_LINKED: `place` is linked already. IC_NOT_LINKED: `before` or
  * `after` is not linked. IC_BROKEN: there is no such gap. */
 IC_NODISCARD
-uint32_t ic_xor_insert_between(struct ic_link1 *table, size_t places, struct ic_xor_list *list, uint32_t before, uint32_t place,
+uint32_t ic_xor_insert_between(struct ic_link1 *table, ic_length places, struct ic_xor_list *list, uint32_t before, uint32_t place,
                                uint32_t after);
 
 /* Removes the member `at`. O(1). Before it is the member `before`, which is IC_NONE if `at` is the first member.
@@ -914,7 +916,7 @@ uint32_t ic_xor_replace(struct ic_link1 *table, ic_length places, struct ic_xor_
  * IC_OUT_OF_RANGE: `before` or `after` is not below `places`. IC_NOT_LINKED: `before` or `after` is not linked. IC_BROKEN: there is no such
  * gap, or `given` is no list of this table, or both lists begin with the same member, as a list and its copy do. */
 IC_NODISCARD
-uint32_t ic_xor_splice_between(struct ic_link1 *table, size_t places, struct ic_xor_list *list, uint32_t before, struct ic_xor_list *given,
+uint32_t ic_xor_splice_between(struct ic_link1 *table, ic_length places, struct ic_xor_list *list, uint32_t before, struct ic_xor_list *given,
                                uint32_t after);
 
 /* Moves all members of `given`, in their order, to the back. O(1). Then `given` is empty.
@@ -940,7 +942,7 @@ uint32_t ic_xor_clear(struct ic_link1 *table, ic_length places, struct ic_xor_li
  * IC_OUT_OF_RANGE: `before` or `after` is not below `places`. IC_NOT_LINKED: `before` or `after` is not linked. IC_BROKEN: there is no such
  * gap, or `rest` has members. */
 IC_NODISCARD
-uint32_t ic_xor_split_between(struct ic_link1 *table, size_t places, struct ic_xor_list *list, uint32_t before, uint32_t after,
+uint32_t ic_xor_split_between(struct ic_link1 *table, ic_length places, struct ic_xor_list *list, uint32_t before, uint32_t after,
                               struct ic_xor_list *rest);
 
 /* Reverses the list. O(1). The call reads and writes no table, and is never refused. */
@@ -986,17 +988,17 @@ static inline uint32_t ic_tree_root(const struct ic_tree *tree) {
 }
 
 /* The left child of the member `at`, or IC_NONE. The members under it come before `at`. */
-static inline uint32_t ic_tree_left(const struct ic_link3 *table, size_t places, uint32_t at) {
+static inline uint32_t ic_tree_left(const struct ic_link3 *table, ic_length places, uint32_t at) {
     return ic_tree_is_linked(table, places, at) ? ic_place_within(places, table[at].left) : IC_NONE;
 }
 
 /* The right child of the member `at`, or IC_NONE. The members under it come after `at`. */
-static inline uint32_t ic_tree_right(const struct ic_link3 *table, size_t places, uint32_t at) {
+static inline uint32_t ic_tree_right(const struct ic_link3 *table, ic_length places, uint32_t at) {
     return ic_tree_is_linked(table, places, at) ? ic_place_within(places, table[at].right) : IC_NONE;
 }
 
 /* The parent of the member `at`, or IC_NONE. */
-static inline uint32_t ic_tree_parent(const struct ic_link3 *table, size_t places, uint32_t at) {
+static inline uint32_t ic_tree_parent(const struct ic_link3 *table, ic_length places, uint32_t at) {
     return ic_tree_is_linked(table, places, at) ? ic_place_within(places, table[at].parent) : IC_NONE;
 }
 
@@ -1055,7 +1057,8 @@ uint32_t ic_tree_check(const struct ic_link3 *table, ic_length places, const str
  * IC_OUT_OF_RANGE: there are fewer keys than places, or `place` is not below `places`. IC_LINKED: `place` is linked already. IC_BROKEN: the
  * root does not belong to this table. */
 IC_NODISCARD
-uint32_t ic_tree_insert(struct ic_link3 *table, size_t places, const uint64_t *keys, size_t key_count, struct ic_tree *tree, uint32_t place);
+uint32_t ic_tree_insert(struct ic_link3 *table, ic_length places, const uint64_t *keys, ic_length key_count, struct ic_tree *tree,
+                        uint32_t place);
 
 /* Finds the first member whose key is `key`, and sets *found to it. O(log n).
  * IC_NULL: there is no such member. IC_OUT_OF_RANGE: there are fewer keys than places. IC_BROKEN: the root does not belong to this table. */
@@ -1066,16 +1069,16 @@ uint32_t ic_tree_find(const struct ic_link3 *table, ic_length places, const uint
 /* Finds the first member whose key is not less than `key`, and sets *found to it. O(log n).
  * IC_NULL: there is no such member. IC_OUT_OF_RANGE: there are fewer keys than places. IC_BROKEN: the root does not belong to this table. */
 IC_NODISCARD
-uint32_t ic_tree_lower_bound(const struct ic_link3 *table, size_t places, const uint64_t *keys, size_t key_count, const struct ic_tree *tree,
-                             uint64_t key, uint32_t *found);
+uint32_t ic_tree_lower_bound(const struct ic_link3 *table, ic_length places, const uint64_t *keys, ic_length key_count,
+                             const struct ic_tree *tree, uint64_t key, uint32_t *found);
 
 /* Finds the LAST member whose key is NOT GREATER than `key`, and sets *found to it. O(log n). The upper_bound of C++ finds another one, the
  * first member whose key is greater. Both bounds are named as in the Rust crate intrusive-collections: if there are members with keys from
  * `low` to `high`, the lower bound of `low` is the first of them, and the upper bound of `high` is the last.
  * IC_NULL: there is no such member. IC_OUT_OF_RANGE: there are fewer keys than places. IC_BROKEN: the root does not belong to this table. */
 IC_NODISCARD
-uint32_t ic_tree_upper_bound(const struct ic_link3 *table, size_t places, const uint64_t *keys, size_t key_count, const struct ic_tree *tree,
-                             uint64_t key, uint32_t *found);
+uint32_t ic_tree_upper_bound(const struct ic_link3 *table, ic_length places, const uint64_t *keys, ic_length key_count,
+                             const struct ic_tree *tree, uint64_t key, uint32_t *found);
 
 /* to here */
 
@@ -1113,13 +1116,13 @@ static inline uint32_t ic_tree_last(const struct ic_link3 *table, ic_length plac
 }
 
 /* The member after the member `at`, or the first member if `at` is IC_NONE, or IC_NONE if there is none. */
-static inline uint32_t ic_tree_behind(const struct ic_link3 *table, size_t places, const struct ic_tree *tree, uint32_t at) {
+static inline uint32_t ic_tree_behind(const struct ic_link3 *table, ic_length places, const struct ic_tree *tree, uint32_t at) {
     uint32_t found;
     return ic_tree_next(table, places, tree, at, &found) == IC_OK ? found : IC_NONE;
 }
 
 /* The member before the member `at`, or the last member if `at` is IC_NONE, or IC_NONE if there is none. */
-static inline uint32_t ic_tree_before(const struct ic_link3 *table, size_t places, const struct ic_tree *tree, uint32_t at) {
+static inline uint32_t ic_tree_before(const struct ic_link3 *table, ic_length places, const struct ic_tree *tree, uint32_t at) {
     uint32_t found;
     return ic_tree_prev(table, places, tree, at, &found) == IC_OK ? found : IC_NONE;
 }

@@ -7,7 +7,7 @@ from call_table import OUT, has, refusals
 
 # The types of the numbers, and of lengths, in C and in Rust. A slice is handed as a pointer and a length.
 NUMBERS = {"u32": ("uint32_t", "u32"), "u64": ("uint64_t", "u64")}
-LENGTH = ("size_t", "usize")
+LENGTH = ("ic_length", "usize")
 STRUCTS = {"RawOne": "ic_link1", "RawTwo": "ic_link2", "RawThree": "ic_link3", "RawFront": "ic_stack", "RawEnds": "ic_list", "RawRoot": "ic_tree"}
 COUNTS = {"table": "places", "keys": "key_count", "buckets": "bucket_count"}
 # The classes and types of the bindings, and how many words a link of each kind has.
