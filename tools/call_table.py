@@ -5,7 +5,7 @@ import re
 
 from checks import ROOT
 
-CRATE = ROOT / "crates/ic_ffi"
+CRATE, RECORDS = ROOT / "crates/ic_ffi", ROOT / "crates/ic_raw/specs"
 TABLE = CRATE / "calls.txt"
 HEADER = ROOT / "include/ic.h"
 CASES = ROOT / "tests/library/reads.txt"
@@ -15,6 +15,11 @@ Call = collections.namedtuple("Call", "name family group args roles cost what nu
 # or a slice.
 Arg = collections.namedtuple("Arg", "name type is_mut form")
 
+# A contract that is one record, and a record of crates/ic_raw, with the parameters of the module in which it stands.
+WHOLE = re.compile(r"^    ensures \{ (\w+) (.*) \}\n$")
+MODULE = re.compile(r"^module _ (.*) where$", re.M)
+RECORD = re.compile(r"^  pub record (\w+) (.*) : Type 0 where\n((?:    .*\n)+)", re.M)
+FIELD = re.compile(r"^    pub (\w+) : ((?:.*\n)(?:      .*\n)*)", re.M)
 SIGNATURE = re.compile(r'pub extern "C" fn (\w+)\((.*?)\) -> u32\n((?:    [^\n]*\n)*)\{', re.S)
 ROW = re.compile(r"^(ic_(\w+?)_\w+)\(([^)]*)\) (O\(.+\))\n    (.*)\n(?:    NULL: (.*)\n)?(?:    BROKEN: (.*)\n)?", re.M)
 GROUP = re.compile(r"^\[([\w-]+)\]\n((?:(?!\[).*\n?)*)", re.M)
@@ -36,13 +41,39 @@ def argument(words):
     return Arg(name, borrowed[3], bool(borrowed[1]), "slice" if borrowed[2] else "one")
 
 
+def parameters(text):
+    """The names that parameters such as `(old new : List RawTwo) (status : ℕ)` have."""
+    return [name for names in re.findall(r"\(([^:()]+) :", text) for name in names.split()]
+
+
+def records():
+    """Each record that is a whole contract: its parameters, and its fields by their names."""
+    found = {}
+    for file in sorted(RECORDS.glob("*Calls.antt")):
+        outer, *parts = re.split(r"^(?=module _)", file.read_text(), flags=re.M)
+        for part in parts:
+            module = parameters(MODULE.search(part)[1])
+            found.update({name: (module + parameters(own), dict(FIELD.findall(fields))) for name, own, fields in RECORD.findall(part)})
+    return found
+
+
+def clauses_of(contract, of):
+    """The clauses of a contract by their names, or the fields of the record that it is, with what it hands to the record in place of parameters."""
+    whole = WHOLE.match(contract)
+    if not whole or whole[1] not in of:
+        return dict(re.findall(r"^    ensures (\w+) \{(.*?)\}\n(?=    ensures|\Z)", contract, re.M | re.S))
+    names, fields = of[whole[1]]
+    handed = dict(zip(names, re.findall(r"\([^()]*\)|\S+", whole[2])))
+    filled = {field: re.sub(r"(?<![\w.])\w+(?![\w.])", lambda it: handed.get(it[0], it[0]), text) for field, text in fields.items()}
+    return {field: re.sub(r"\((place_of \w+)\) ≡", r"\1 ≡", text) for field, text in filled.items()}
+
+
 def signatures():
     """The arguments of each call, and the clauses of its contract by their names."""
-    found = {}
+    found, of = {}, records()
     for file in sorted((CRATE / "src").glob("*_calls.rt")):
         for name, words, contract in SIGNATURE.findall(file.read_text()):
-            clauses = re.findall(r"^    ensures (\w+) \{(.*?)\}\n(?=    ensures|\Z)", contract, re.M | re.S)
-            found[name] = [argument(it) for it in words.split(",") if it.strip()], dict(clauses)
+            found[name] = [argument(it) for it in words.split(",") if it.strip()], clauses_of(contract, of)
     return found
 
 

@@ -15,6 +15,7 @@ ghost use Rattle.ic_raw.specs.declared.gap.Side.TheVariants.{After, Before};
 ghost use Rattle.ic_raw.specs.Answers.{IsStatus, IsAccepted, refusal};
 ghost use Rattle.ic_raw.specs.Doubly.{table_of, FreeIn, fault_at, fault_of};
 ghost use Rattle.ic_raw.specs.Ring.{IsCircle, IsTold, Makes, MakesTwo};
+ghost use Rattle.ic_raw.specs.RingCalls.{PopCall, ReplaceCall, MoveCall, SpliceCall};
 ghost use Rattle.ic_raw.specs.Words.{place_of, is_linked_two};
 
 use ic_raw::{RawTwo, Side, ring_calls};
@@ -110,4 +111,70 @@ pub extern "C" fn ic_ring_exchange(table: &mut [RawTwo], one: u32, other: u32) -
     ensures status { IsStatus result }
 {
     ring_calls::exchange(table, one, other)
+}
+
+/// Takes the first member of a head out, and hands its number out. O(1).
+#[unsafe(no_mangle)]
+pub extern "C" fn ic_ring_pop_front(table: &mut [RawTwo], head: u32, popped: &mut u32) -> u32
+    ensures { PopCall table.old table.new result popped.old popped.new After (place_of head) }
+{
+    ring_calls::pop(table, Side::After, head, popped)
+}
+
+/// Takes the last member of a head out, and hands its number out. O(1).
+#[unsafe(no_mangle)]
+pub extern "C" fn ic_ring_pop_back(table: &mut [RawTwo], head: u32, popped: &mut u32) -> u32
+    ensures { PopCall table.old table.new result popped.old popped.new Before (place_of head) }
+{
+    ring_calls::pop(table, Side::Before, head, popped)
+}
+
+/// Puts a place where another one stands in a ring, which leaves it. O(1).
+///
+/// The place has to be one of the table, and not linked. Linux: `list_replace`.
+#[unsafe(no_mangle)]
+pub extern "C" fn ic_ring_replace(table: &mut [RawTwo], at: u32, place: u32) -> u32
+    ensures { ReplaceCall table.old table.new result (place_of at) (place_of place) }
+{
+    ring_calls::replace(table, at, place)
+}
+
+/// Moves a place, from whichever ring it stands in, behind another one: behind a head it is the first member. O(1).
+///
+/// Beside itself it stays. Linux: `list_move`.
+#[unsafe(no_mangle)]
+pub extern "C" fn ic_ring_move_after(table: &mut [RawTwo], at: u32, place: u32) -> u32
+    ensures { MoveCall table.old table.new result After (place_of at) (place_of place) }
+{
+    ring_calls::move_beside(table, Side::After, at, place)
+}
+
+/// Moves a place, from whichever ring it stands in, in front of another one: in front of a head it is the last member. O(1).
+///
+/// Beside itself it stays. Linux: `list_move_tail`.
+#[unsafe(no_mangle)]
+pub extern "C" fn ic_ring_move_before(table: &mut [RawTwo], at: u32, place: u32) -> u32
+    ensures { MoveCall table.old table.new result Before (place_of at) (place_of place) }
+{
+    ring_calls::move_beside(table, Side::Before, at, place)
+}
+
+/// Moves all members of a head behind a place of another ring. O(1).
+///
+/// The head stands alone then. Linux: `list_splice_init`.
+#[unsafe(no_mangle)]
+pub extern "C" fn ic_ring_splice_after(table: &mut [RawTwo], at: u32, head: u32) -> u32
+    ensures { SpliceCall table.old table.new result After (place_of at) (place_of head) }
+{
+    ring_calls::splice(table, Side::After, at, head)
+}
+
+/// Moves all members of a head in front of a place of another ring. O(1).
+///
+/// The head stands alone then. Linux: `list_splice_tail_init`.
+#[unsafe(no_mangle)]
+pub extern "C" fn ic_ring_splice_before(table: &mut [RawTwo], at: u32, head: u32) -> u32
+    ensures { SpliceCall table.old table.new result Before (place_of at) (place_of head) }
+{
+    ring_calls::splice(table, Side::Before, at, head)
 }

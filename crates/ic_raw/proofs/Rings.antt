@@ -1,11 +1,11 @@
 -- What the calls of rings test, and what any circle passes.
-use Rattle.std.proofs.Common.{◌≡◌, ◌≢◌, Option, Some, None, IsSome, List, [], ◌∷◌, ◌++◌, refl, sym, ap, ◌∙◌, inl, inr, true}
+use Rattle.std.proofs.Common.{◌≡◌, ◌≢◌, append_assoc, subst, Option, Some, None, IsSome, List, [], ◌∷◌, ◌++◌, refl, sym, ap, ◌∙◌, inl, inr, true, false, append-nil}
 use Rattle.ic_unsafe_ref.specs.declared.place.Place.{Place}
 use Rattle.ic_unsafe_ref.proofs.PlaceLemmas.{same_or_not}
 use Rattle.ic_link_ops.specs.LinkedList.{IsBetween}
-use Rattle.ic_link_ops.specs.Sequences.{IsAbsent, last}
+use Rattle.ic_link_ops.specs.Sequences.{IsAbsent, IsDisjoint, first, last}
 use Rattle.ic_link_ops.proofs.Chains.{last_between}
-use Rattle.ic_link_ops.proofs.SequenceLemmas.{last_not, last_or-append, none_not}
+use Rattle.ic_link_ops.proofs.SequenceLemmas.{absent_both, absent_left, absent_right, absent_turned, disjoint_both, last_not, last_or-append, none_not, some_same}
 use Rattle.ic_link_ops.specs.Tables.{Table, ChangesOnly}
 use Rattle.ic_ring.proofs.Circles.{circle_after_free, next_not, next_some, next_stands, prev_not, prev_some, prev_stands, rotated}
 use Rattle.ic_raw.specs.declared.words.RawTwo.{RawTwo}
@@ -13,15 +13,21 @@ use Rattle.ic_raw.specs.declared.table.RawTable.{RawTable}
 use Rattle.ic_raw.specs.declared.gap.Side.{Side}
 use Rattle.ic_raw.specs.declared.gap.Side.TheVariants.{After, Before}
 use Rattle.ic_raw.specs.Doubly.{lent_table, neighbors, table_of}
-use Rattle.ic_raw.specs.Ring.{IsCircle, IsTold, Makes, MakesTwo, own_on, put_in}
+use Rattle.ic_raw.specs.Ring.{IsCircle, IsTold, Makes, MakesTwo, own_on, neighbor_on, put_in, all_put_in}
+use Rattle.ic_raw.specs.RingCalls.{IsAmid}
 use Rattle.ic_raw.specs.Tables.{raw_entries}
 use Rattle.ic_raw.specs.Words.{no_words, is_linked_two}
+use Rattle.ic_raw.proofs.Gaps.{never}
 use Rattle.ic_raw.proofs.Views.{frame_back}
 
 -- the place that is there
 place_there : (o : Option Place) → IsSome o → (q : Place) × (o ≡ Some q)
 place_there None h = cc
 place_there (Some q) h = (q, refl)
+
+-- nothing is not some place
+pub some_there : {A : Type 0} {o : Option A} → o ≡ None → IsSome o → ⊥
+some_there {A} none there = let no : IsSome {T = A} None = rw none at there in cc
 
 module _ (t : Table RawTwo) {p : Place} (s : List Place) (c : IsCircle t (p ∷ s)) where
   -- IN A CIRCLE the words tell of each place what stands beside it
@@ -65,6 +71,47 @@ pub put_beside : (side : Side) (t u : Table RawTwo) {p at : Place} (s : List Pla
 put_beside After t u {p} s x own next c out puts = circle_after_free {n = neighbors} s c (ap (λ z. (neighbors (t.entry z)).next) (sym own) ∙ next) out puts
 put_beside Before t u {p} s x own next c out puts = rw own at (puts s (rw own c) (rw own out))
 
+-- WHAT THE WORDS TELL stays where both entries stay
+pub told_same : {t u : Table RawTwo} {x y : Place} → u.entry x ≡ t.entry x → u.entry y ≡ t.entry y → IsTold t x y → IsTold u x y
+told_same one other k = record {
+  linked = ap is_linked_two one ∙ k.linked;
+  next = ap (λ e. (neighbors e).next) one ∙ k.next;
+  stands = ap is_linked_two other ∙ k.stands;
+  prev = ap (λ e. (neighbors e).prev) other ∙ k.prev;
+}
+
+-- and where an entry changes that was not linked
+pub told_beside : {t u : Table RawTwo} {x y p : Place} → is_linked_two (t.entry p) ≡ false → ChangesOnly t u p → IsTold t x y → IsTold u x y
+told_beside {t} {u} {x} {y} {p} free only k =
+    let apart : (q : Place) → is_linked_two (t.entry q) ≡ true → q ≢ p = λ q on e. never free (rw e at on) in
+    told_same (only.others x (apart x k.linked)) (only.others y (apart y k.stands)) k
+
+-- each place has one next place, and one before it
+pub one_next : {t : Table RawTwo} {x y z : Place} → IsTold t x y → IsTold t x z → y ≡ z
+one_next a b = some_same (sym a.next ∙ b.next)
+
+pub one_before : {t : Table RawTwo} {x y z : Place} → IsTold t x z → IsTold t y z → x ≡ y
+one_before a b = some_same (sym a.prev ∙ b.prev)
+
+-- A SETTER KEEPS the neighbor on the other side, at each place
+module _ {old new : Table RawTwo} {p : Place} {to : Option Place} (only : ChangesOnly old new p) where
+  pub keeps_next : neighbors (new.entry p) ≡ record (neighbors (old.entry p)) { prev = to } → (q : Place) → (neighbors (new.entry q)).next ≡ (neighbors (old.entry q)).next
+  keeps_next set q = elim (same_or_not q p) [
+    | inl e ↦ rw e (ap (λ x. x.next) set)
+    | inr other ↦ ap (λ e. (neighbors e).next) (only.others q other)
+  ]
+
+  pub keeps_prev : neighbors (new.entry p) ≡ record (neighbors (old.entry p)) { next = to } → (q : Place) → (neighbors (new.entry q)).prev ≡ (neighbors (old.entry q)).prev
+  keeps_prev set q = elim (same_or_not q p) [
+    | inl e ↦ rw e (ap (λ x. x.prev) set)
+    | inr other ↦ ap (λ e. (neighbors e).prev) (only.others q other)
+  ]
+
+-- the same places in another order: what is changed of the ones is changed of the others
+pub makes_turned : {old new : Table RawTwo} {touched named made read : List Place} → ((q : Place) → IsAbsent q named → IsAbsent q touched)
+    → (IsCircle new made → IsCircle new read) → Makes old new touched made → Makes old new named read
+makes_turned among turned m = record { circle = turned m.circle; frame = record { extent = m.frame.extent; others = λ q out. m.frame.others q (among q out) } }
+
 -- a mark stays where a setter leaves it, and so does that of each other place
 pub mark_kept : {old new : Table RawTwo} {p : Place} → ChangesOnly old new p → is_linked_two (new.entry p) ≡ is_linked_two (old.entry p) → (q : Place)
     → is_linked_two (old.entry q) ≡ true → is_linked_two (new.entry q) ≡ true
@@ -101,3 +148,145 @@ module _ (a b : RawTable RawTwo) {es fs : List RawTwo} (e : raw_entries a ≡ es
 
   pub closed_back : {r : List Place} → IsCircle (lent_table b) r → IsCircle (table_of fs) r
   closed_back {r} c = let back : IsCircle (table_of (raw_entries b)) r = c in rw f back
+
+-- THE FIRST TWO of a circle tell of each other
+pub first_tells : {t : Table RawTwo} {x y : Place} (r : List Place) → IsCircle t (x ∷ y ∷ r) → IsTold t x y
+first_tells r c = record { linked = c.chain.0.linked; next = c.chain.0.next; stands = c.chain.1.0.linked; prev = c.chain.1.0.prev }
+
+-- A PLACE PUT IN beside another: what the words tell of the two, the circle read from either, and that they are two
+pub put_tells : (side : Side) (t : Table RawTwo) (at p : Place) (r : List Place) → IsCircle t (put_in side at p r)
+    → (x : Place × Place) × IsTold t x.0 x.1 × (own_on side x ≡ at) × (neighbor_on side x ≡ p)
+put_tells After t at p r c = ((at, p), first_tells r c, refl, refl)
+put_tells Before t at p r c = ((p, at), first_tells r c, refl, refl)
+
+-- the others of its circle, read from it
+abbrev pub others_of : Side → (at : Place) → List Place → List Place
+others_of After at r = r ++ at ∷ []
+others_of Before at r = at ∷ r
+
+pub from_put : (side : Side) (t : Table RawTwo) (at p : Place) (r : List Place) → IsCircle t (put_in side at p r) → IsCircle t (p ∷ others_of side at r)
+from_put After t at p r c = rotated {n = neighbors} (at ∷ []) (p ∷ r) c
+from_put Before t at p r c = c
+
+pub put_apart : (side : Side) (t : Table RawTwo) (at p : Place) (r : List Place) → IsCircle t (put_in side at p r) → p ≢ at
+put_apart After t at p r c = λ e. c.distinct.0.0 (sym e)
+put_apart Before t at p r c = c.distinct.0.0
+
+pub without_put : (side : Side) {old new : Table RawTwo} (at p : Place) (r : List Place) → Makes old new (p ∷ others_of side at r) (others_of side at r)
+    → Makes old new (put_in side at p r) (at ∷ r)
+without_put After at p r m = makes_turned (λ q out. absent_turned q (p ∷ r) (at ∷ []) out) (λ c. rotated {n = neighbors} r (at ∷ []) c) m
+without_put Before at p r m = m
+
+-- a place that stands alone is its own neighbor on either side
+pub alone_tells : (side : Side) {t : Table RawTwo} {p : Place} → IsCircle t (p ∷ [])
+    → (x : Place × Place) × IsTold t x.0 x.1 × (own_on side x ≡ p) × (neighbor_on side x ≡ p)
+alone_tells After {t} {p} c = ((p, p), last_tells t p [] c refl, refl, refl)
+alone_tells Before {t} {p} c = ((p, p), last_tells t p [] c refl, refl, refl)
+
+-- of two neighbors, neither is a place that is not in their circle
+pub neighbor_not : (side : Side) {q : Place} (x : Place × Place) → (q ≢ x.0) × (q ≢ x.1) → neighbor_on side x ≢ q
+neighbor_not After x apart e = apart.1 (sym e)
+neighbor_not Before x apart e = apart.0 (sym e)
+
+-- WHAT STANDS BEHIND p, which stands where `at` did: the next place of `at`, or p where `at` stood alone
+pub next_first : {t : Table RawTwo} {at n p next : Place} (r : List Place) → IsCircle t (at ∷ r) → IsTold t at n → (n ≡ at → next ≡ p) → (n ≢ at → next ≡ n)
+    → Some next ≡ first (r ++ p ∷ [])
+next_first [] c told alone other = ap Some (alone (some_same (sym told.next ∙ c.chain.0.next)))
+next_first {t} {at} {n} (x ∷ r) c told alone other =
+    let is : n ≡ x = some_same (sym told.next ∙ c.chain.0.next) in ap Some (other (λ e. c.distinct.0.0 (sym e ∙ is)) ∙ is)
+
+-- A PLACE THAT STANDS BESIDE ANOTHER ALREADY is where it would be put
+pub put_already : (side : Side) (t : Table RawTwo) (at p : Place) (r s : List Place) → IsCircle t (p ∷ r ++ at ∷ s) → (x : Place × Place) → IsTold t x.0 x.1
+    → own_on side x ≡ at → neighbor_on side x ≡ p → IsCircle t (put_in side at p (s ++ r))
+put_already After t at p r [] c x told own beside = rotated {n = neighbors} (p ∷ r) (at ∷ []) c
+put_already After t at p r (y ∷ s) c x told own beside =
+    let turned = rotated {n = neighbors} (p ∷ r) (at ∷ y ∷ s) c in
+    let next : y ≡ x.1 = some_same (sym turned.chain.0.next ∙ ap (λ z. (neighbors (t.entry z)).next) (sym own) ∙ told.next) in
+    absurd ((absent_right p r (at ∷ y ∷ s) c.distinct.0).1.0 (sym (next ∙ beside)))
+put_already Before t at p [] s c x told own beside = rw append-nil c
+put_already Before t at p (y ∷ r) s c x told own beside =
+    let turned = rotated {n = neighbors} (p ∷ y ∷ r) (at ∷ s) c in
+    let out = absent_left p (y ∷ r) (at ∷ s) c.distinct.0 in
+    let prev = ap (λ z. (neighbors (t.entry z)).prev) (sym own) ∙ told.prev ∙ ap Some beside in
+    absurd (last_not (Some y) r p (λ e. out.0 (sym (some_same e))) out.1 (sym (last_or-append None (at ∷ s) (p ∷ y ∷ r)) ∙ sym turned.chain.0.prev ∙ prev))
+
+-- TWO NEIGHBORS stay so where another place leaves its ring: they are none of the two that are turned to each other for it
+pub stays_told : (side : Side) {t : Table RawTwo} {p at : Place} (from to : Place × Place) → IsTold t from.0 p → IsTold t p from.1 → IsTold t to.0 to.1
+    → own_on side to ≡ at → at ≢ p → (neighbor_on side to ≢ p) → (to.0 ≢ from.0) × (to.1 ≢ from.1)
+stays_told After from to before behind told own other beside = (
+  (λ e. beside (one_next told (rw e before))),
+  (λ e. other (sym own ∙ one_before told (rw e behind))),
+)
+stays_told Before from to before behind told own other beside = (
+  (λ e. other (sym own ∙ one_next told (rw e before))),
+  (λ e. beside (one_before told (rw e behind))),
+)
+
+-- A HEAD WHOSE LAST MEMBER IS THE HEAD has none
+pub stands_alone : {t : Table RawTwo} {b p : Place} (s : List Place) → IsCircle t (p ∷ s) → IsTold t b p → b ≡ p → s ≡ []
+stands_alone [] c told same = refl
+stands_alone {p = p} (x ∷ s) c told same =
+    absurd (last_not (Some x) s p (λ e. c.distinct.0.0 (sym (some_same e))) c.distinct.0.1 (sym c.chain.0.prev ∙ told.prev ∙ ap Some same))
+
+-- the circle whose last place stands in front of the gap, and what it is once others are put in there
+abbrev pub before_gap : Side → (at : Place) → List Place → List Place
+before_gap After at r = r ++ at ∷ []
+before_gap Before at r = at ∷ r
+
+pub from_gap : (side : Side) (t : Table RawTwo) (at : Place) (r : List Place) → IsCircle t (at ∷ r) → IsCircle t (before_gap side at r)
+from_gap After t at r c = rotated {n = neighbors} (at ∷ []) r c
+from_gap Before t at r c = c
+
+pub last_before : (side : Side) (t : Table RawTwo) (at : Place) (r : List Place) → IsCircle t (at ∷ r) → (x : Place × Place) → IsTold t x.0 x.1 → own_on side x ≡ at
+    → last (before_gap side at r) ≡ Some x.0
+last_before After t at r c x told own = last_or-append None r (at ∷ []) ∙ ap Some (sym own)
+last_before Before t at r c x told own = sym c.chain.0.prev ∙ ap (λ z. (neighbors (t.entry z)).prev) (sym own) ∙ told.prev
+
+pub disjoint_gap : (side : Side) (at : Place) (r s : List Place) → IsDisjoint (at ∷ r) s → IsDisjoint (before_gap side at r) s
+disjoint_gap After at r s d = disjoint_both r (at ∷ []) s d.1 (d.0, tt)
+disjoint_gap Before at r s d = d
+
+pub absent_gap : (side : Side) (at : Place) (r : List Place) (q : Place) → IsAbsent q (at ∷ r) → IsAbsent q (before_gap side at r)
+absent_gap After at r q out = absent_both q r (at ∷ []) out.1 (out.0, tt)
+absent_gap Before at r q out = out
+
+pub all_put : (side : Side) (t : Table RawTwo) (at : Place) (r s : List Place) → IsCircle t (before_gap side at r ++ s) → IsCircle t (all_put_in side at r s)
+all_put After t at r s c = rotated {n = neighbors} r (at ∷ s) (rw (append_assoc r (at ∷ []) s) at c)
+all_put Before t at r s c = c
+
+pub none_put : (side : Side) (t : Table RawTwo) (at : Place) (r : List Place) → IsCircle t (at ∷ r) → IsCircle t (all_put_in side at r [])
+none_put After t at r c = c
+none_put Before t at r c = rw append-nil c
+
+pub absent_all : (side : Side) (at : Place) (r s : List Place) (q : Place) → IsAbsent q (at ∷ r) → IsAbsent q s → IsAbsent q (all_put_in side at r s)
+absent_all After at r s q out off = (out.0, absent_both q s r off out.1)
+absent_all Before at r s q out off = (out.0, absent_both q r s out.1 off)
+
+-- of two neighbors, each is linked
+pub own_linked : (side : Side) {t : Table RawTwo} {at : Place} (x : Place × Place) → IsTold t x.0 x.1 → own_on side x ≡ at → is_linked_two (t.entry at) ≡ true
+own_linked After x told own = rw (sym own) told.linked
+own_linked Before x told own = rw (sym own) told.stands
+
+-- A GAP THAT IS NOT BESIDE A HEAD, as its two tests tell, is not beside the head's own place
+pub splices_elsewhere : (side : Side) {t : Table RawTwo} {at given b : Place} (to : Place × Place) → IsTold t to.0 to.1 → own_on side to ≡ at → IsTold t b given
+    → to.0 ≢ given → to.0 ≢ b → at ≢ given
+splices_elsewhere After to told own before other apart e = other (own ∙ e)
+splices_elsewhere Before to told own before other apart e = apart (one_before told (rw (own ∙ e) before))
+
+-- what is told of two places that are one
+pub told_named : {t : Table RawTwo} {a b p : Place} → IsTold t a b → p ≡ a → p ≡ b → IsTold t p p
+told_named {t} {a} {p = p} k from to = subst (λ z. IsTold t z p) (sym from) (subst (λ z. IsTold t a z) (sym to) k)
+
+-- THE WORDS are those before the call, where the view is
+pub same_back : (a b : RawTable RawTwo) {es fs : List RawTwo} → raw_entries a ≡ es → fs ≡ raw_entries b → b ≡ a → fs ≡ es
+same_back a b e f same = f ∙ ap raw_entries same ∙ e
+
+-- a place that is linked in the view is so in the words
+pub linked_back : (t : RawTable RawTwo) {es : List RawTwo} (p : Place) → raw_entries t ≡ es → is_linked_two ((lent_table t).entry p) ≡ true
+    → is_linked_two ((table_of es).entry p) ≡ true
+linked_back t p e on = let back : is_linked_two ((table_of (raw_entries t)).entry p) ≡ true = on in rw (← e) back
+
+-- and one whose neighbors are told
+pub amid_back : (t : RawTable RawTwo) {es : List RawTwo} {p : Place} → raw_entries t ≡ es → (q : Place) × IsTold (lent_table t) q p → (q : Place) × IsTold (lent_table t) p q
+    → IsAmid es p
+amid_back t e from to = record { before = from.0; behind = to.0; comes = told_back t e from.1; goes = told_back t e to.1 }

@@ -14,4 +14,5 @@ pub mod WholeTree
 pub mod Sorting
 pub mod MarkedTree
 pub mod Ring
+pub mod RingCalls
 pub mod Hash

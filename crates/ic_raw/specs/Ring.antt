@@ -1,5 +1,5 @@
 -- Rings over a caller's words: a head is a place of the table, and stands in a circle with its members.
-use Rattle.std.specs.Prelude.{◌≡◌, List, ◌∷◌, Some, true}
+use Rattle.std.specs.Prelude.{◌≡◌, List, ◌∷◌, ◌++◌, Some, true}
 use Rattle.ic_unsafe_ref.specs.declared.place.Place.{Place}
 use Rattle.ic_link_ops.specs.Tables.{Table, KeepsBeside}
 use Rattle.ic_link_ops.specs.LinkedList.{neighbors_at}
@@ -37,7 +37,17 @@ abbrev pub own_on : Side → Place × Place → Place
 own_on After x = x.0
 own_on Before x = x.1
 
+-- and the other one
+abbrev pub neighbor_on : Side → Place × Place → Place
+neighbor_on After x = x.1
+neighbor_on Before x = x.0
+
 -- the circle with p put in on that side of its first place
 abbrev pub put_in : Side → (at p : Place) → List Place → List Place
 put_in After at p s = at ∷ p ∷ s
 put_in Before at p s = p ∷ at ∷ s
+
+-- the circle at ∷ r with the members s put in on that side of `at`
+abbrev pub all_put_in : Side → (at : Place) (r s : List Place) → List Place
+all_put_in After at r s = at ∷ s ++ r
+all_put_in Before at r s = at ∷ r ++ s

@@ -27,6 +27,7 @@ mod nodes;
 mod number;
 mod ring;
 pub mod ring_calls;
+mod ring_moves;
 mod search;
 pub mod search_calls;
 pub mod sort_calls;

@@ -4,10 +4,10 @@
 //! let made = remove(&mut links, place);
 //! ```
 
-ghost use Rattle.std.specs.Prelude.{◌≡◌, ◌∷◌, ◌++◌, List, [], Option, Some, None, true, false};
+ghost use Rattle.std.specs.Prelude.{◌≡◌, ◌≢◌, ◌∷◌, ◌++◌, List, [], Option, Some, None, IsSome, true, false};
 ghost use Rattle.ic_unsafe_ref.specs.declared.place.Place.{Place};
-ghost use Rattle.ic_link_ops.specs.Sequences.{IsDisjoint, last};
-ghost use Rattle.ic_link_ops.specs.Tables.{IsUnlinked, ChangesOnly};
+ghost use Rattle.ic_link_ops.specs.Sequences.{IsAbsent, IsDisjoint, first, last};
+ghost use Rattle.ic_link_ops.specs.Tables.{IsLinked, IsUnlinked, ChangesOnly};
 ghost use Rattle.ic_raw.specs.Doubly.{lent_table};
 ghost use Rattle.ic_raw.specs.Ring.{IsCircle, IsTold, Makes, MakesTwo, own_on, put_in};
 ghost use Rattle.ic_raw.specs.Tables.{IsFree};
@@ -22,7 +22,7 @@ use ic_ring::{bypass, turn_to};
 use ic_unsafe_ref::Place;
 
 /// Two places, of which the second stands behind the first.
-type Pair = (Place, Place);
+pub(crate) type Pair = (Place, Place);
 
 // The two places, where the words tell that the second stands behind the first: both are linked, and each names the other.
 #[inline]
@@ -49,7 +49,7 @@ fn pair(links: &RawTable<'_, RawTwo>, before: Option<Place>, behind: Option<Plac
 
 // A place and its neighbor on this side, where the words tell of them.
 #[inline]
-fn beside(links: &RawTable<'_, RawTwo>, side: Side, at: Place) -> Option<Pair>
+pub(crate) fn beside(links: &RawTable<'_, RawTwo>, side: Side, at: Place) -> Option<Pair>
     ensures told { (x : Place × Place) → result ≡ Some x → IsTold (lent_table links.now) x.0 x.1 × (own_on side x ≡ at) }
     ensures tells { (x : Place × Place) → IsTold (lent_table links.now) x.0 x.1 → own_on side x ≡ at → result ≡ Some x }
 {
@@ -60,6 +60,33 @@ fn beside(links: &RawTable<'_, RawTwo>, side: Side, at: Place) -> Option<Pair>
         Side::After => pair(links, Some(at), links.next(at)),
         Side::Before => pair(links, links.prev(at), Some(at)),
     }
+}
+
+// The two neighbors of a place, where the words tell of both.
+#[inline]
+pub(crate) fn around(links: &RawTable<'_, RawTwo>, place: Place) -> Option<Pair>
+    ensures told { (x : Place × Place) → result ≡ Some x → IsTold (lent_table links.now) x.0 place × IsTold (lent_table links.now) place x.1 }
+    ensures tells { (r : List Place) → IsCircle (lent_table links.now) (place ∷ r) → IsSome result }
+{
+    let Some(before) = beside(links, Side::Before, place) else {
+        return None;
+    };
+    let Some(behind) = beside(links, Side::After, place) else {
+        return None;
+    };
+    Some((before.0, behind.1))
+}
+
+// Whether the words tell that the place stands behind itself, as a head without members does.
+#[inline]
+pub(crate) fn is_alone(links: &RawTable<'_, RawTwo>, place: Place) -> bool
+    ensures told { result ≡ true → IsTold (lent_table links.now) place place }
+    ensures tells { IsTold (lent_table links.now) place place → result ≡ true }
+{
+    let Some(_) = pair(links, Some(place), Some(place)) else {
+        return false;
+    };
+    true
 }
 
 // Makes a circle of the place alone, and gives it, if it is one of the table and not linked.
@@ -77,6 +104,56 @@ pub(crate) fn close(links: &mut RawTable<'_, RawTwo>, place: Option<Place>) -> O
     Some(place)
 }
 
+// Puts a linked place, which stands in no ring, between two neighbors of one.
+#[inline]
+pub(crate) fn link_between(links: &mut RawTable<'_, RawTwo>, pair: Pair, place: Place)
+    requires held { IsLinked is_linked_two (lent_table links.old) place }
+    requires told { IsTold (lent_table links.old) pair.0 pair.1 }
+    ensures inserted { (side : Side) (at : Place) (r : List Place) → own_on side pair ≡ at → IsCircle (lent_table links.old) (at ∷ r)
+        → IsAbsent place (at ∷ r) → IsCircle (lent_table links.new) (put_in side at place r) }
+    ensures others { (q : Place) → q ≢ place → q ≢ pair.0 → q ≢ pair.1 → (lent_table links.new).entry q ≡ (lent_table links.old).entry q }
+    ensures extent { (lent_table links.new).extent ≡ (lent_table links.old).extent }
+    ensures no_step { (q : Place) → is_linked_two ((lent_table links.new).entry q) ≡ is_linked_two ((lent_table links.old).entry q) }
+{
+    links.set_prev(place, Some(pair.0));
+    links.set_next(place, Some(pair.1));
+    turn_to(links, pair.0, place, pair.1);
+}
+
+// Turns two linked places to each other. What stood between them has left its ring, and stays linked.
+#[inline]
+pub(crate) fn close_gap(links: &mut RawTable<'_, RawTwo>, before: Place, behind: Place)
+    requires before { IsLinked is_linked_two (lent_table links.old) before }
+    requires behind { IsLinked is_linked_two (lent_table links.old) behind }
+    ensures closed { (p : Place) (r : List Place) → IsCircle (lent_table links.old) (p ∷ r) → Some before ≡ last r → Some behind ≡ first r
+        → IsCircle (lent_table links.new) r }
+    ensures joined { IsTold (lent_table links.new) before behind }
+    ensures told { (x y : Place) → x ≢ before → y ≢ behind → IsTold (lent_table links.old) x y → IsTold (lent_table links.new) x y }
+    ensures others { (q : Place) → q ≢ before → q ≢ behind → (lent_table links.new).entry q ≡ (lent_table links.old).entry q }
+    ensures extent { (lent_table links.new).extent ≡ (lent_table links.old).extent }
+    ensures no_step { (q : Place) → is_linked_two ((lent_table links.new).entry q) ≡ is_linked_two ((lent_table links.old).entry q) }
+{
+    links.set_next(before, Some(behind));
+    links.set_prev(behind, Some(before));
+}
+
+// Two pairs of neighbors exchange their second places.
+#[inline]
+pub(crate) fn cross(links: &mut RawTable<'_, RawTwo>, first: Pair, second: Pair)
+    requires first { IsTold (lent_table links.old) first.0 first.1 }
+    requires second { IsTold (lent_table links.old) second.0 second.1 }
+    ensures joins { (r s : List Place) → IsCircle (lent_table links.old) r → IsCircle (lent_table links.old) s → IsDisjoint r s
+        → last r ≡ Some first.0 → last s ≡ Some second.0 → Makes (lent_table links.old) (lent_table links.new) (r ++ s) (r ++ s) }
+    ensures cuts { (r s : List Place) → IsCircle (lent_table links.old) (r ++ s) → last r ≡ Some first.0 → last s ≡ Some second.0
+        → MakesTwo (lent_table links.old) (lent_table links.new) (r ++ s) r s }
+    ensures no_step { (q : Place) → is_linked_two ((lent_table links.new).entry q) ≡ is_linked_two ((lent_table links.old).entry q) }
+{
+    links.set_next(first.0, Some(second.1));
+    links.set_prev(second.1, Some(first.0));
+    links.set_next(second.0, Some(first.1));
+    links.set_prev(first.1, Some(second.0));
+}
+
 // Takes the place out of its ring, whichever that is, and says whether it could.
 #[inline]
 pub(crate) fn remove(links: &mut RawTable<'_, RawTwo>, place: Place) -> bool
@@ -87,13 +164,10 @@ pub(crate) fn remove(links: &mut RawTable<'_, RawTwo>, place: Place) -> bool
     ensures behind { result ≡ true → (q : Place) × IsTold (lent_table links.old) place q }
     ensures refused { result ≡ false → links.new ≡ links.old }
 {
-    let Some(before) = beside(&*links, Side::Before, place) else {
+    let Some(pair) = around(&*links, place) else {
         return false;
     };
-    let Some(behind) = beside(&*links, Side::After, place) else {
-        return false;
-    };
-    bypass(links, before.0, behind.1);
+    bypass(links, pair.0, pair.1);
     links.release_link(place);
     true
 }
@@ -119,9 +193,7 @@ pub(crate) fn insert(
     let Some(own) = links.acquire(place) else {
         return false;
     };
-    links.set_prev(own, Some(pair.0));
-    links.set_next(own, Some(pair.1));
-    turn_to(links, pair.0, own, pair.1);
+    link_between(links, pair, own);
     true
 }
 
@@ -143,9 +215,6 @@ pub(crate) fn exchange(links: &mut RawTable<'_, RawTwo>, one: Place, other: Plac
     let Some(second) = beside(&*links, Side::After, other) else {
         return false;
     };
-    links.set_next(one, Some(second.1));
-    links.set_prev(second.1, Some(one));
-    links.set_next(other, Some(first.1));
-    links.set_prev(first.1, Some(other));
+    cross(links, first, second);
     true
 }

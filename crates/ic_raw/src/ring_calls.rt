@@ -11,16 +11,20 @@ ghost use Rattle.ic_unsafe_ref.specs.declared.place.Place.{Place};
 ghost use Rattle.ic_link_ops.specs.Sequences.{IsDisjoint, last};
 ghost use Rattle.ic_link_ops.specs.Tables.{IsUnlinked, ChangesOnly};
 ghost use Rattle.ic_raw.specs.Answers.{IsStatus, IsAccepted, refusal};
-ghost use Rattle.ic_raw.specs.Doubly.{table_of, FreeIn, fault_at, fault_of};
+ghost use Rattle.ic_raw.specs.Doubly.{lent_table, table_of, FreeIn, fault_at, fault_of};
 ghost use Rattle.ic_raw.specs.Ring.{IsCircle, IsTold, Makes, MakesTwo, own_on, put_in};
+ghost use Rattle.ic_raw.specs.RingCalls.{PopCall, ReplaceCall, MoveCall, SpliceCall};
+ghost use Rattle.ic_raw.specs.Tables.{member_fault};
 ghost use Rattle.ic_raw.specs.Words.{place_of, is_linked_two};
 
 use crate::gap::Side;
-use crate::number::place_of;
+use crate::number::{number_of, place_of};
 use crate::ring;
+use crate::ring_moves;
 use crate::status::{NULL, OK};
 use crate::table::{RawTable, refusal_at_end};
 use crate::words::RawTwo;
+use ic_unsafe_ref::Place;
 
 /// Makes a place the head of a ring with no members. O(1).
 ///
@@ -122,6 +126,96 @@ pub fn exchange(table: &mut [RawTwo], one: u32, other: u32) -> u32
     let mut links = RawTable::new(table);
     if !ring::exchange(&mut links, first, second) {
         return links.refusal_at_both(one, other);
+    }
+    OK
+}
+
+// Why nothing could be taken out beside a head: it has no members, or its words tell of none.
+#[cold]
+fn refusal_to_pop(links: &RawTable<'_, RawTwo>, head: Place) -> u32
+    ensures null { (result ≡ 4) ↔ IsTold (lent_table links.now) head head }
+    ensures why { result ≢ 4 → result ≡ refusal (member_fault is_linked_two (lent_table links.now) (Some head) ∷ []) }
+    ensures refused { result ≢ 0 }
+{
+    if ring::is_alone(links, head) {
+        return NULL;
+    }
+    links.refusal_of(head)
+}
+
+/// Takes out the place that stands on this side of a head, and hands its number out. O(1).
+///
+/// It returns [`NULL`] where `head` is [`NONE`](crate::NONE) or has no members. A refused call leaves the words and the number as they are.
+#[inline]
+pub fn pop(table: &mut [RawTwo], side: Side, head: u32, popped: &mut u32) -> u32
+    ensures { PopCall table.old table.new result popped.old popped.new side (place_of head) }
+{
+    let Some(place) = place_of(head) else {
+        return NULL;
+    };
+    let mut links = RawTable::new(table);
+    let Some(member) = ring_moves::pop(&mut links, side, place) else {
+        return refusal_to_pop(&links, place);
+    };
+    *popped = number_of(member);
+    OK
+}
+
+/// Puts `place` where `at` stands in a ring, which leaves it. O(1).
+///
+/// `place` has to be one of the table, and not linked. It returns [`NULL`] where `at` is [`NONE`](crate::NONE). A refused call leaves the words
+/// as they are.
+#[inline]
+pub fn replace(table: &mut [RawTwo], at: u32, place: u32) -> u32
+    ensures { ReplaceCall table.old table.new result (place_of at) (place_of place) }
+{
+    let Some(member) = place_of(at) else {
+        return NULL;
+    };
+    let mut links = RawTable::new(table);
+    if !ring_moves::replace(&mut links, member, place_of(place)) {
+        return links.refusal(at, place);
+    }
+    OK
+}
+
+/// Moves `place`, from whichever ring it stands in, to this side of `at`. O(1).
+///
+/// Beside itself it stays. It returns [`NULL`] where one of the two is [`NONE`](crate::NONE). A refused call leaves the words as they are.
+#[inline]
+pub fn move_beside(table: &mut [RawTwo], side: Side, at: u32, place: u32) -> u32
+    ensures { MoveCall table.old table.new result side (place_of at) (place_of place) }
+{
+    let Some(beside) = place_of(at) else {
+        return NULL;
+    };
+    let Some(member) = place_of(place) else {
+        return NULL;
+    };
+    let mut links = RawTable::new(table);
+    if !ring_moves::move_beside(&mut links, side, beside, member) {
+        return links.refusal_at_both(at, place);
+    }
+    OK
+}
+
+/// Moves all members of the head `head` to this side of `at`, which stands in another ring. O(1).
+///
+/// The head stands alone then. It returns [`NULL`] where one of the two is [`NONE`](crate::NONE), and [`BROKEN`](crate::BROKEN) beside the head
+/// itself, and behind its last member. A refused call leaves the words as they are.
+#[inline]
+pub fn splice(table: &mut [RawTwo], side: Side, at: u32, head: u32) -> u32
+    ensures { SpliceCall table.old table.new result side (place_of at) (place_of head) }
+{
+    let Some(beside) = place_of(at) else {
+        return NULL;
+    };
+    let Some(given) = place_of(head) else {
+        return NULL;
+    };
+    let mut links = RawTable::new(table);
+    if !ring_moves::splice(&mut links, side, beside, given) {
+        return links.refusal_at_both(at, head);
     }
     OK
 }

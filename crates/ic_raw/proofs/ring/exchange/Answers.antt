@@ -1,10 +1,8 @@
-use Rattle.std.proofs.Common.{◌≡◌, Some, [], ◌∷◌, refl, sym, ◌∙◌}
-use Rattle.ic_link_ops.specs.Sequences.{last}
-use Rattle.ic_link_ops.proofs.DoublyLists.{next_turns, prev_turns}
-use Rattle.ic_link_ops.proofs.SequenceLemmas.{absent_left, absent_right, none_not, some_same}
-use Rattle.ic_ring.proofs.Circles.{circles_joined, circle_cut, rotated}
+use Rattle.std.proofs.Common.{Some, [], ◌∷◌, refl, sym, ap, ◌∙◌}
+use Rattle.ic_link_ops.proofs.SequenceLemmas.{none_not}
+use Rattle.ic_ring.proofs.Circles.{rotated}
 use Rattle.ic_raw.specs.Doubly.{lent_table, neighbors}
-use Rattle.ic_raw.proofs.Rings.{last_tells, part_tells, not_last}
+use Rattle.ic_raw.proofs.Rings.{last_tells, part_tells}
 use Rattle.ic_raw.proofs.ring.exchange.Goals as goal
 
 pub returns-in_default-clause-joins : goal.returns-in_default-clause-joins
@@ -30,65 +28,23 @@ returns-in_default-beside-clause-cuts c (x ∷ r) (y ∷ s) circle last_r last_s
     absurd (none_not (c.args.other, x) (sym c.in_default-beside.is
     ∙ c.beside-2.ensures.tells (c.args.other, x) (part_tells (lent_table c.args.links.now) y s x r (rotated {n = neighbors} (x ∷ r) (y ∷ s) circle) last_s) refl))
 
-pub set_next-requires : goal.set_next-requires
-set_next-requires c = let a = c.beside.ensures.told c.in-Some.first c.in-Some.is in record { linked = rw a.1 at a.0.linked; next = tt }
+pub cross-requires-clause-first : goal.cross-requires-clause-first
+cross-requires-clause-first c = (c.beside.ensures.told c.in-Some.first c.in-Some.is).0
+
+pub cross-requires-clause-second : goal.cross-requires-clause-second
+cross-requires-clause-second c = (c.beside-2.ensures.told c.in-Some-beside.second c.in-Some-beside.is).0
 
 pub returns-clause-joins : goal.returns-clause-joins
-returns-clause-joins c [] s circle ring apart last_r last_s = absurd (none_not c.args.one last_r)
-returns-clause-joins c (x ∷ r) [] circle ring apart last_r last_s = absurd (none_not c.args.other last_s)
-returns-clause-joins c (x ∷ r) (y ∷ s) circle ring apart last_r last_s =
-    let t = lent_table c.args.links.now in
+returns-clause-joins c r s circle ring apart last_r last_s =
     let a = c.beside.ensures.told c.in-Some.first c.in-Some.is in
     let b = c.beside-2.ensures.told c.in-Some-beside.second c.in-Some-beside.is in
-    let to_x : c.in-Some.first.1 ≡ x = some_same (sym (rw a.1 at a.0.next) ∙ (last_tells t x r circle last_r).next) in
-    let to_y : c.in-Some-beside.second.1 ≡ y = some_same (sym (rw b.1 at b.0.next) ∙ (last_tells t y s ring last_s).next) in (
-      refl,
-      record {
-        circle = circles_joined {n = neighbors} x r y s circle ring apart
-            (rw (sym last_r, to_y) at (next_turns {n = neighbors} (Some x) c.set_next.ensures.frame c.set_next.ensures.set))
-            (rw (sym last_r, to_y) at (prev_turns {n = neighbors} (last (y ∷ s)) c.set_prev.ensures.frame c.set_prev.ensures.set))
-            (rw (sym last_s, to_x) at (next_turns {n = neighbors} (Some y) c.set_next-2.ensures.frame c.set_next-2.ensures.set))
-            (rw (sym last_s, to_x) at (prev_turns {n = neighbors} (last (x ∷ r)) c.set_prev-2.ensures.frame c.set_prev-2.ensures.set));
-        frame = record {
-          extent = c.set_prev-2.ensures.frame.extent ∙ c.set_next-2.ensures.frame.extent ∙ c.set_prev.ensures.frame.extent ∙ c.set_next.ensures.frame.extent;
-          others = λ q out.
-              let one = absent_left q (x ∷ r) (y ∷ s) out in
-              let two = absent_right q (x ∷ r) (y ∷ s) out in
-              c.set_prev-2.ensures.frame.others q (λ e. one.0 (e ∙ to_x)) ∙ c.set_next-2.ensures.frame.others q (not_last q c.args.other (y ∷ s) last_s two)
-              ∙ c.set_prev.ensures.frame.others q (λ e. two.0 (e ∙ to_y)) ∙ c.set_next.ensures.frame.others q (not_last q c.args.one (x ∷ r) last_r one);
-        };
-      },
-    )
+    (refl, c.cross.ensures.joins r s circle ring apart (last_r ∙ ap Some (sym a.1)) (last_s ∙ ap Some (sym b.1)))
 
 pub returns-clause-cuts : goal.returns-clause-cuts
-returns-clause-cuts c [] s circle last_r last_s = absurd (none_not c.args.one last_r)
-returns-clause-cuts c (x ∷ r) [] circle last_r last_s = absurd (none_not c.args.other last_s)
-returns-clause-cuts c (x ∷ r) (y ∷ s) circle last_r last_s =
-    let t = lent_table c.args.links.now in
+returns-clause-cuts c r s circle last_r last_s =
     let a = c.beside.ensures.told c.in-Some.first c.in-Some.is in
     let b = c.beside-2.ensures.told c.in-Some-beside.second c.in-Some-beside.is in
-    let to_y : c.in-Some.first.1 ≡ y = some_same (sym (rw a.1 at a.0.next) ∙ (part_tells t x r y s circle last_r).next) in
-    let to_x : c.in-Some-beside.second.1 ≡ x =
-    some_same (sym (rw b.1 at b.0.next) ∙ (part_tells t y s x r (rotated {n = neighbors} (x ∷ r) (y ∷ s) circle) last_s).next) in
-    let parts = circle_cut {n = neighbors} x r y s circle
-    (rw (sym last_r, to_x) at (next_turns {n = neighbors} (Some y) c.set_next.ensures.frame c.set_next.ensures.set))
-    (rw (sym last_r, to_x) at (prev_turns {n = neighbors} (last (y ∷ s)) c.set_prev.ensures.frame c.set_prev.ensures.set))
-    (rw (sym last_s, to_y) at (next_turns {n = neighbors} (Some x) c.set_next-2.ensures.frame c.set_next-2.ensures.set))
-    (rw (sym last_s, to_y) at (prev_turns {n = neighbors} (last (x ∷ r)) c.set_prev-2.ensures.frame c.set_prev-2.ensures.set)) in (
-      refl,
-      record {
-        circle = parts.0;
-        beside = parts.1;
-        frame = record {
-          extent = c.set_prev-2.ensures.frame.extent ∙ c.set_next-2.ensures.frame.extent ∙ c.set_prev.ensures.frame.extent ∙ c.set_next.ensures.frame.extent;
-          others = λ q out.
-              let one = absent_left q (x ∷ r) (y ∷ s) out in
-              let two = absent_right q (x ∷ r) (y ∷ s) out in
-              c.set_prev-2.ensures.frame.others q (λ e. two.0 (e ∙ to_y)) ∙ c.set_next-2.ensures.frame.others q (not_last q c.args.other (y ∷ s) last_s two)
-              ∙ c.set_prev.ensures.frame.others q (λ e. one.0 (e ∙ to_x)) ∙ c.set_next.ensures.frame.others q (not_last q c.args.one (x ∷ r) last_r one);
-        };
-      },
-    )
+    (refl, c.cross.ensures.cuts r s circle (last_r ∙ ap Some (sym a.1)) (last_s ∙ ap Some (sym b.1)))
 
 pub returns-clause-told : goal.returns-clause-told
 returns-clause-told c made = let a = c.beside.ensures.told c.in-Some.first c.in-Some.is in (c.in-Some.first.1, rw a.1 at a.0)

@@ -1,0 +1,55 @@
+use Rattle.std.proofs.Common.{◌≡◌, Some, [], ◌∷◌, refl, sym, ◌∙◌}
+use Rattle.ic_link_ops.specs.Sequences.{last}
+use Rattle.ic_link_ops.proofs.DoublyLists.{next_turns, prev_turns}
+use Rattle.ic_link_ops.proofs.SequenceLemmas.{absent_left, absent_right, none_not, some_same}
+use Rattle.ic_ring.proofs.Circles.{circles_joined, circle_cut, rotated}
+use Rattle.ic_raw.specs.Doubly.{lent_table, neighbors}
+use Rattle.ic_raw.proofs.Rings.{last_tells, part_tells, not_last}
+use Rattle.ic_raw.proofs.ring.cross.Goals as goal
+
+pub returns-clause-joins : goal.returns-clause-joins
+returns-clause-joins c [] s circle ring apart last_r last_s = absurd (none_not c.args.first.0 last_r)
+returns-clause-joins c (x ∷ r) [] circle ring apart last_r last_s = absurd (none_not c.args.second.0 last_s)
+returns-clause-joins c (x ∷ r) (y ∷ s) circle ring apart last_r last_s =
+    let t = lent_table c.args.links.now in
+    let to_x : c.args.first.1 ≡ x = some_same (sym c.requires.first.next ∙ (last_tells t x r circle last_r).next) in
+    let to_y : c.args.second.1 ≡ y = some_same (sym c.requires.second.next ∙ (last_tells t y s ring last_s).next) in record {
+      circle = circles_joined {n = neighbors} x r y s circle ring apart
+          (rw (sym last_r, to_y) at (next_turns {n = neighbors} (Some x) c.set_next.ensures.frame c.set_next.ensures.set))
+          (rw (sym last_r, to_y) at (prev_turns {n = neighbors} (last (y ∷ s)) c.set_prev.ensures.frame c.set_prev.ensures.set))
+          (rw (sym last_s, to_x) at (next_turns {n = neighbors} (Some y) c.set_next-2.ensures.frame c.set_next-2.ensures.set))
+          (rw (sym last_s, to_x) at (prev_turns {n = neighbors} (last (x ∷ r)) c.set_prev-2.ensures.frame c.set_prev-2.ensures.set));
+      frame = record {
+        extent = c.set_prev-2.ensures.frame.extent ∙ c.set_next-2.ensures.frame.extent ∙ c.set_prev.ensures.frame.extent ∙ c.set_next.ensures.frame.extent;
+        others = λ q out.
+            let one = absent_left q (x ∷ r) (y ∷ s) out in
+            let two = absent_right q (x ∷ r) (y ∷ s) out in
+            c.set_prev-2.ensures.frame.others q (λ e. one.0 (e ∙ to_x)) ∙ c.set_next-2.ensures.frame.others q (not_last q c.args.second.0 (y ∷ s) last_s two)
+            ∙ c.set_prev.ensures.frame.others q (λ e. two.0 (e ∙ to_y)) ∙ c.set_next.ensures.frame.others q (not_last q c.args.first.0 (x ∷ r) last_r one);
+      };
+    }
+
+pub returns-clause-cuts : goal.returns-clause-cuts
+returns-clause-cuts c [] s circle last_r last_s = absurd (none_not c.args.first.0 last_r)
+returns-clause-cuts c (x ∷ r) [] circle last_r last_s = absurd (none_not c.args.second.0 last_s)
+returns-clause-cuts c (x ∷ r) (y ∷ s) circle last_r last_s =
+    let t = lent_table c.args.links.now in
+    let to_y : c.args.first.1 ≡ y = some_same (sym c.requires.first.next ∙ (part_tells t x r y s circle last_r).next) in
+    let to_x : c.args.second.1 ≡ x =
+    some_same (sym c.requires.second.next ∙ (part_tells t y s x r (rotated {n = neighbors} (x ∷ r) (y ∷ s) circle) last_s).next) in
+    let parts = circle_cut {n = neighbors} x r y s circle
+    (rw (sym last_r, to_x) at (next_turns {n = neighbors} (Some y) c.set_next.ensures.frame c.set_next.ensures.set))
+    (rw (sym last_r, to_x) at (prev_turns {n = neighbors} (last (y ∷ s)) c.set_prev.ensures.frame c.set_prev.ensures.set))
+    (rw (sym last_s, to_y) at (next_turns {n = neighbors} (Some x) c.set_next-2.ensures.frame c.set_next-2.ensures.set))
+    (rw (sym last_s, to_y) at (prev_turns {n = neighbors} (last (x ∷ r)) c.set_prev-2.ensures.frame c.set_prev-2.ensures.set)) in record {
+      circle = parts.0;
+      beside = parts.1;
+      frame = record {
+        extent = c.set_prev-2.ensures.frame.extent ∙ c.set_next-2.ensures.frame.extent ∙ c.set_prev.ensures.frame.extent ∙ c.set_next.ensures.frame.extent;
+        others = λ q out.
+            let one = absent_left q (x ∷ r) (y ∷ s) out in
+            let two = absent_right q (x ∷ r) (y ∷ s) out in
+            c.set_prev-2.ensures.frame.others q (λ e. two.0 (e ∙ to_y)) ∙ c.set_next-2.ensures.frame.others q (not_last q c.args.second.0 (y ∷ s) last_s two)
+            ∙ c.set_prev.ensures.frame.others q (λ e. one.0 (e ∙ to_x)) ∙ c.set_next.ensures.frame.others q (not_last q c.args.first.0 (x ∷ r) last_r one);
+      };
+    }

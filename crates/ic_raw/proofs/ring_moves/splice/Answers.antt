@@ -1,0 +1,124 @@
+use Rattle.std.proofs.Common.{◌≡◌, ◌≢◌, Some, None, [], ◌∷◌, ◌++◌, refl, sym, ap, subst, ◌∙◌}
+use Rattle.ic_unsafe_ref.specs.declared.place.Place.{Place}
+use Rattle.ic_link_ops.proofs.SequenceLemmas.{IsOutside, absent_both, absent_left, absent_right, disjoint_right, disjoint_sym, last_outside, none_not, some_same}
+use Rattle.ic_ring.proofs.Circles.{circle_beside, circle_taken, last_some, next_not, prev_not, tested_same, tested_other}
+use Rattle.ic_ring.proofs.OtherRings.{circle_stays}
+use Rattle.ic_raw.specs.declared.gap.Side.TheVariants.{After, Before}
+use Rattle.ic_raw.specs.Doubly.{lent_table, neighbors}
+use Rattle.ic_raw.proofs.Rings.{circle_tells, not_beside, own_linked, some_there, stands_alone, splices_elsewhere, before_gap, from_gap, last_before, disjoint_gap, absent_gap, all_put, none_put, absent_all}
+use Rattle.ic_raw.proofs.ring_moves.splice.Goals as goal
+
+pub returns-in_default-clause-spliced : goal.returns-in_default-clause-spliced
+returns-in_default-clause-spliced c r s ring circle away = absurd (some_there c.in_default.is (c.around.ensures.tells s circle))
+
+pub returns-in_default-beside-clause-spliced : goal.returns-in_default-beside-clause-spliced
+returns-in_default-beside-clause-spliced c r s ring circle away =
+    let x = circle_tells (lent_table c.args.links.now) r ring c.args.side in absurd (none_not x.0 (sym c.in_default-beside.is ∙ c.beside.ensures.tells x.0 x.1 x.2))
+
+pub returns-then-eq-clause-spliced : goal.returns-then-eq-clause-spliced
+returns-then-eq-clause-spliced c r s ring circle away =
+    let to = c.beside.ensures.told c.in-Some-beside.to c.in-Some-beside.is in
+    let out = (disjoint_sym (c.args.at ∷ r) (c.args.given ∷ s) away).0 in
+    absurd ((not_beside c.args.side (lent_table c.args.links.now) r ring c.in-Some-beside.to to.0 to.1 c.args.given out).0 (sym (tested_same _ _ (sym c.eq.ensures ∙ c.if-eq.true))))
+
+pub returns-then-eq-2-clause-spliced : goal.returns-then-eq-2-clause-spliced
+returns-then-eq-2-clause-spliced c r s ring circle away =
+    let from = c.around.ensures.told c.in-Some.from c.in-Some.is in
+    let to = c.beside.ensures.told c.in-Some-beside.to c.in-Some-beside.is in
+    let is = sym circle.chain.0.prev ∙ from.0.prev in
+    let out = subst (λ o. IsOutside o (c.args.at ∷ r)) is (last_outside None (c.args.given ∷ s) (c.args.at ∷ r) tt (disjoint_sym (c.args.at ∷ r) (c.args.given ∷ s) away)) in
+    absurd ((not_beside c.args.side (lent_table c.args.links.now) r ring c.in-Some-beside.to to.0 to.1 c.in-Some.from.0 out).0 (sym (tested_same _ _ (sym c.eq-2.ensures ∙ c.if-eq-2.true))))
+
+pub returns-then-eq-3-clause-spliced : goal.returns-then-eq-3-clause-spliced
+returns-then-eq-3-clause-spliced c r s ring circle away =
+    let from = c.around.ensures.told c.in-Some.from c.in-Some.is in
+    let none = stands_alone s circle from.0 (tested_same _ _ (sym c.eq-3.ensures ∙ c.if-eq-3.true)) in
+    (refl, record { circle = rw none (none_put c.args.side (lent_table c.args.links.now) c.args.at r ring); beside = rw none at circle; frame = record { extent = refl; others = λ q out. refl } })
+
+pub returns-then-eq-3-clause-linked : goal.returns-then-eq-3-clause-linked
+returns-then-eq-3-clause-linked c made =
+    let to = c.beside.ensures.told c.in-Some-beside.to c.in-Some-beside.is in own_linked c.args.side c.in-Some-beside.to to.0 to.1
+
+pub returns-then-eq-3-clause-other : goal.returns-then-eq-3-clause-other
+returns-then-eq-3-clause-other c made =
+    let from = c.around.ensures.told c.in-Some.from c.in-Some.is in
+    let to = c.beside.ensures.told c.in-Some-beside.to c.in-Some-beside.is in
+    splices_elsewhere c.args.side c.in-Some-beside.to to.0 to.1 from.0 (tested_other _ _ (sym c.eq.ensures ∙ c.if-eq.false)) (tested_other _ _ (sym c.eq-2.ensures ∙ c.if-eq-2.false))
+
+pub close_gap-requires-clause-before : goal.close_gap-requires-clause-before
+close_gap-requires-clause-before c = (c.around.ensures.told c.in-Some.from c.in-Some.is).0.linked
+
+pub close_gap-requires-clause-behind : goal.close_gap-requires-clause-behind
+close_gap-requires-clause-behind c = (c.around.ensures.told c.in-Some.from c.in-Some.is).1.stands
+
+pub cross-requires-clause-first : goal.cross-requires-clause-first
+cross-requires-clause-first c =
+    let from = c.around.ensures.told c.in-Some.from c.in-Some.is in
+    let to = c.beside.ensures.told c.in-Some-beside.to c.in-Some-beside.is in
+    c.close_gap.ensures.told _ _ (tested_other _ _ (sym c.eq-2.ensures ∙ c.if-eq-2.false))
+    (λ e. tested_other _ _ (sym c.eq.ensures ∙ c.if-eq.false) (some_same (sym to.0.prev ∙ ap (λ z. (neighbors ((lent_table c.args.links.now).entry z)).prev) e ∙ from.1.prev))) to.0
+
+pub set_prev-requires : goal.set_prev-requires
+set_prev-requires c =
+    let given = c.args.given in
+    record { linked = c.cross.ensures.no_step given ∙ c.close_gap.ensures.no_step given ∙ (c.around.ensures.told c.in-Some.from c.in-Some.is).1.linked; prev = tt }
+
+pub returns-clause-spliced : goal.returns-clause-spliced
+returns-clause-spliced c r s ring circle away =
+    let old = lent_table c.args.links.now in
+    let side = c.args.side in
+    let at = c.args.at in
+    let given = c.args.given in
+    let from = c.around.ensures.told c.in-Some.from c.in-Some.is in
+    let to = c.beside.ensures.told c.in-Some-beside.to c.in-Some-beside.is in
+    let rest = disjoint_sym (at ∷ r) (given ∷ s) away in
+    let off = circle_taken {n = neighbors} from.0.prev from.1.next (c.close_gap.ensures.closed given) s circle in
+    let stays = circle_stays {n = neighbors} (at ∷ r) (given ∷ s) ring away
+    (λ q out. c.close_gap.ensures.others q (prev_not {n = neighbors} s circle from.0.prev out) (next_not {n = neighbors} s circle from.1.next out)) in
+    let apart = disjoint_gap side at r s (disjoint_right (at ∷ r) (given ∷ []) s away) in
+    let joined = c.cross.ensures.joins (before_gap side at r) s (from_gap side (lent_table c.close_gap.new.links) at r stays) off apart (last_before side old at r ring c.in-Some-beside.to to.0 to.1)
+    (sym (last_some {n = neighbors} s circle from.0.prev (tested_other _ _ (sym c.eq-3.ensures ∙ c.if-eq-3.false)))) in
+    let same : (q : Place) → q ≢ given → (lent_table c.set_next.new.self).entry q ≡ (lent_table c.cross.new.links).entry q =
+        λ q other. c.set_next.ensures.frame.others q other ∙ c.set_prev.ensures.frame.others q other in
+    (refl, record {
+      circle = circle_beside {n = neighbors} given (all_put side (lent_table c.cross.new.links) at r s joined.circle) (absent_all side at r s given rest.0 circle.distinct.0) same;
+      beside = record {
+        distinct = (tt, tt);
+        chain = (record {
+          linked = ap (λ x. x.linked) c.set_next.ensures.set ∙ ap (λ x. x.linked) c.set_prev.ensures.set
+              ∙ c.cross.ensures.no_step given ∙ c.close_gap.ensures.no_step given ∙ from.1.linked;
+          prev = ap (λ x. x.prev) c.set_next.ensures.set ∙ ap (λ x. x.prev) c.set_prev.ensures.set;
+          next = ap (λ x. x.next) c.set_next.ensures.set;
+        }, tt);
+      };
+      frame = record {
+        extent = c.set_next.ensures.frame.extent ∙ c.set_prev.ensures.frame.extent ∙ joined.frame.extent ∙ c.close_gap.ensures.extent;
+        others = λ q out.
+            let one = absent_left q (at ∷ r) (given ∷ s) out in
+            let two = absent_right q (at ∷ r) (given ∷ s) out in
+            same q two.0 ∙ joined.frame.others q (absent_both q (before_gap side at r) s (absent_gap side at r q one) two.1)
+            ∙ c.close_gap.ensures.others q (prev_not {n = neighbors} s circle from.0.prev two) (next_not {n = neighbors} s circle from.1.next two);
+      };
+    })
+
+pub returns-clause-before : goal.returns-clause-before
+returns-clause-before c made = (c.in-Some.from.0, (c.around.ensures.told c.in-Some.from c.in-Some.is).0)
+
+pub returns-clause-behind : goal.returns-clause-behind
+returns-clause-behind c made = (c.in-Some.from.1, (c.around.ensures.told c.in-Some.from c.in-Some.is).1)
+
+pub returns-clause-linked : goal.returns-clause-linked
+returns-clause-linked c made =
+    let to = c.beside.ensures.told c.in-Some-beside.to c.in-Some-beside.is in own_linked c.args.side c.in-Some-beside.to to.0 to.1
+
+pub returns-clause-other : goal.returns-clause-other
+returns-clause-other c made =
+    let from = c.around.ensures.told c.in-Some.from c.in-Some.is in
+    let to = c.beside.ensures.told c.in-Some-beside.to c.in-Some-beside.is in
+    splices_elsewhere c.args.side c.in-Some-beside.to to.0 to.1 from.0 (tested_other _ _ (sym c.eq.ensures ∙ c.if-eq.false)) (tested_other _ _ (sym c.eq-2.ensures ∙ c.if-eq-2.false))
+
+pub returns-then-eq-3-clause-before : goal.returns-then-eq-3-clause-before
+returns-then-eq-3-clause-before c made = (c.in-Some.from.0, (c.around.ensures.told c.in-Some.from c.in-Some.is).0)
+
+pub returns-then-eq-3-clause-behind : goal.returns-then-eq-3-clause-behind
+returns-then-eq-3-clause-behind c made = (c.in-Some.from.1, (c.around.ensures.told c.in-Some.from c.in-Some.is).1)

@@ -1,0 +1,167 @@
+//! What is made of several edits of rings: pops, replacements, moves and splices over a view of the table. Each tests all that it needs before
+//! it writes, so a refusal leaves the words as they are.
+//!
+//! ```text
+//! let popped = pop(&mut links, Side::After, head);
+//! let made = move_beside(&mut links, Side::Before, head, place);
+//! ```
+
+ghost use Rattle.std.specs.Prelude.{◌≡◌, ◌≢◌, ◌∷◌, ◌++◌, List, [], Option, Some, None, true, false};
+ghost use Rattle.ic_unsafe_ref.specs.declared.place.Place.{Place};
+ghost use Rattle.ic_link_ops.specs.Sequences.{IsDisjoint};
+ghost use Rattle.ic_link_ops.specs.Tables.{IsLinked, IsUnlinked};
+ghost use Rattle.ic_raw.specs.Doubly.{lent_table};
+ghost use Rattle.ic_raw.specs.Ring.{IsCircle, IsTold, Makes, MakesTwo, neighbor_on, put_in, all_put_in};
+ghost use Rattle.ic_raw.specs.Tables.{IsFree};
+ghost use Rattle.ic_raw.specs.Words.{is_linked_two};
+
+use crate::gap::Side;
+use crate::ring::{Pair, around, beside, close_gap, cross, link_between, remove};
+use crate::table::RawTable;
+use crate::words::RawTwo;
+use ic_link_ops::LinkOps;
+use ic_link_ops::linked_list::LinkedListOps;
+use ic_unsafe_ref::Place;
+
+// Of two neighbors the one that stands on this side of the other.
+#[inline]
+fn neighbor_on(side: Side, pair: Pair) -> Place
+    ensures { result ≡ neighbor_on side pair }
+{
+    match side {
+        Side::After => pair.1,
+        Side::Before => pair.0,
+    }
+}
+
+// Takes out the place that stands on this side of a head, and gives it: none where the head stands alone, or in no ring.
+#[inline]
+pub(crate) fn pop(links: &mut RawTable<'_, RawTwo>, side: Side, head: Place) -> Option<Place>
+    ensures popped { (p : Place) (r : List Place) → IsCircle (lent_table links.old) (put_in side head p r)
+        → (result ≡ Some p) × Makes (lent_table links.old) (lent_table links.new) (put_in side head p r) (head ∷ r) }
+    ensures empty { IsCircle (lent_table links.old) (head ∷ []) → result ≡ None }
+    ensures linked { (p : Place) → result ≡ Some p → IsLinked is_linked_two (lent_table links.old) p }
+    ensures unlinked { (p : Place) → result ≡ Some p → IsUnlinked is_linked_two (lent_table links.new) p }
+    ensures refused { result ≡ None → links.new ≡ links.old }
+{
+    let Some(pair) = beside(&*links, side, head) else {
+        return None;
+    };
+    let member = neighbor_on(side, pair);
+    if member == head {
+        return None;
+    }
+    if !remove(links, member) {
+        return None;
+    }
+    Some(member)
+}
+
+// What stands behind `own`, which is to stand where `at` does, behind which `next` stands: `own` itself where `at` stands alone.
+#[inline]
+fn next_without(at: Place, next: Place, own: Place) -> Place
+    ensures alone { next ≡ at → result ≡ own }
+    ensures other { next ≢ at → result ≡ next }
+{
+    if next == at { own } else { next }
+}
+
+// Puts a place where another one stands in a ring, which leaves it, and says whether it could.
+#[inline]
+pub(crate) fn replace(links: &mut RawTable<'_, RawTwo>, at: Place, place: Option<Place>) -> bool
+    ensures replaced { (p : Place) (r : List Place) → place ≡ Some p → IsFree is_linked_two (lent_table links.old) p
+        → IsCircle (lent_table links.old) (at ∷ r)
+        → (result ≡ true) × Makes (lent_table links.old) (lent_table links.new) (p ∷ at ∷ r) (p ∷ r) }
+    ensures free { result ≡ true → (p : Place) × (place ≡ Some p) × IsFree is_linked_two (lent_table links.old) p }
+    ensures unlinked { result ≡ true → IsUnlinked is_linked_two (lent_table links.new) at }
+    ensures before { result ≡ true → (q : Place) × IsTold (lent_table links.old) q at }
+    ensures behind { result ≡ true → (q : Place) × IsTold (lent_table links.old) at q }
+    ensures refused { result ≡ false → links.new ≡ links.old }
+{
+    let Some(pair) = around(&*links, at) else {
+        return false;
+    };
+    let Some(own) = links.acquire(place) else {
+        return false;
+    };
+    link_between(links, (pair.0, at), own);
+    close_gap(links, own, next_without(at, pair.1, own));
+    links.release_link(at);
+    true
+}
+
+// Moves a place, from whichever ring it stands in, to this side of another one, and says whether it could.
+#[inline]
+pub(crate) fn move_beside(
+    links: &mut RawTable<'_, RawTwo>,
+    side: Side,
+    at: Place,
+    place: Place,
+) -> bool
+    ensures apart { (r s : List Place) → IsCircle (lent_table links.old) (place ∷ r) → IsCircle (lent_table links.old) (at ∷ s)
+        → IsDisjoint (place ∷ r) (at ∷ s)
+        → (result ≡ true) × MakesTwo (lent_table links.old) (lent_table links.new) (place ∷ r ++ at ∷ s) r (put_in side at place s) }
+    ensures within { (r s : List Place) → IsCircle (lent_table links.old) (place ∷ r ++ at ∷ s)
+        → (result ≡ true) × Makes (lent_table links.old) (lent_table links.new) (place ∷ r ++ at ∷ s) (put_in side at place (s ++ r)) }
+    ensures itself { (r : List Place) → at ≡ place → IsCircle (lent_table links.old) (place ∷ r) → (result ≡ true) × (links.new ≡ links.old) }
+    ensures before { result ≡ true → (q : Place) × IsTold (lent_table links.old) q place }
+    ensures behind { result ≡ true → (q : Place) × IsTold (lent_table links.old) place q }
+    ensures linked { result ≡ true → IsLinked is_linked_two (lent_table links.old) at }
+    ensures refused { result ≡ false → links.new ≡ links.old }
+{
+    let Some(from) = around(&*links, place) else {
+        return false;
+    };
+    if at == place {
+        return true;
+    }
+    let Some(to) = beside(&*links, side, at) else {
+        return false;
+    };
+    if neighbor_on(side, to) == place {
+        return true;
+    }
+    close_gap(links, from.0, from.1);
+    link_between(links, to, place);
+    true
+}
+
+// Moves all members of a head to this side of a place of another ring, and says whether it could: not beside that head itself, nor behind its
+// last member.
+#[inline]
+pub(crate) fn splice(
+    links: &mut RawTable<'_, RawTwo>,
+    side: Side,
+    at: Place,
+    given: Place,
+) -> bool
+    ensures spliced { (r s : List Place) → IsCircle (lent_table links.old) (at ∷ r) → IsCircle (lent_table links.old) (given ∷ s)
+        → IsDisjoint (at ∷ r) (given ∷ s)
+        → (result ≡ true) × MakesTwo (lent_table links.old) (lent_table links.new) (at ∷ r ++ given ∷ s) (all_put_in side at r s) (given ∷ []) }
+    ensures before { result ≡ true → (q : Place) × IsTold (lent_table links.old) q given }
+    ensures behind { result ≡ true → (q : Place) × IsTold (lent_table links.old) given q }
+    ensures linked { result ≡ true → IsLinked is_linked_two (lent_table links.old) at }
+    ensures other { result ≡ true → at ≢ given }
+    ensures refused { result ≡ false → links.new ≡ links.old }
+{
+    let Some(from) = around(&*links, given) else {
+        return false;
+    };
+    let Some(to) = beside(&*links, side, at) else {
+        return false;
+    };
+    if to.0 == given {
+        return false;
+    }
+    if to.0 == from.0 {
+        return false;
+    }
+    if from.0 == given {
+        return true;
+    }
+    close_gap(links, from.0, from.1);
+    cross(links, to, from);
+    links.set_prev(given, Some(given));
+    links.set_next(given, Some(given));
+    true
+}
