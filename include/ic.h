@@ -489,9 +489,55 @@ uint32_t ic_ring_remove(struct ic_link2 *table, ic_length places, uint32_t place
 IC_NODISCARD
 uint32_t ic_ring_exchange(struct ic_link2 *table, ic_length places, uint32_t one, uint32_t other);
 
+/* Removes the first member of the head `head`, and sets *popped to it. O(1).
+ * IC_NULL: `head` is IC_NONE, or `head` has no members. IC_OUT_OF_RANGE: `head` is not below `places`. IC_NOT_LINKED: `head` is not linked.
+ * IC_BROKEN: `head` or its first member is in no ring. */
+IC_NODISCARD
+uint32_t ic_ring_pop_front(struct ic_link2 *table, ic_length places, uint32_t head, uint32_t *popped);
+
+/* Removes the last member of the head `head`, and sets *popped to it. O(1).
+ * IC_NULL: `head` is IC_NONE, or `head` has no members. IC_OUT_OF_RANGE: `head` is not below `places`. IC_NOT_LINKED: `head` is not linked.
+ * IC_BROKEN: `head` or its last member is in no ring. */
+IC_NODISCARD
+uint32_t ic_ring_pop_back(struct ic_link2 *table, ic_length places, uint32_t head, uint32_t *popped);
+
+/* Removes the place `at` from its ring, and inserts `place` where it was. O(1). Linux calls this list_replace.
+ * IC_NULL: `at` is IC_NONE. IC_OUT_OF_RANGE: `at` or `place` is not below `places`. IC_LINKED: `place` is linked already, as it is if `at`
+ * and `place` are the same. IC_NOT_LINKED: `at` is not linked. IC_BROKEN: `at` is in no ring. */
+IC_NODISCARD
+uint32_t ic_ring_replace(struct ic_link2 *table, ic_length places, uint32_t at, uint32_t place);
+
+/* Moves `place`, from whichever ring it is in, after the place `at` of a ring. O(1). If `at` is a head, `place` becomes the first member.
+ * The place stays linked. If `at` and `place` are the same, nothing changes. Linux calls this list_move.
+ * IC_NULL: `at` or `place` is IC_NONE. IC_OUT_OF_RANGE: `at` or `place` is not below `places`. IC_NOT_LINKED: `at` or `place` is not
+ * linked. IC_BROKEN: `at` or `place` is in no ring. */
+IC_NODISCARD
+uint32_t ic_ring_move_after(struct ic_link2 *table, ic_length places, uint32_t at, uint32_t place);
+
+/* Moves `place`, from whichever ring it is in, before the place `at` of a ring. O(1). If `at` is a head, `place` becomes the last member.
+ * The place stays linked. If `at` and `place` are the same, nothing changes. Linux calls this list_move_tail.
+ * IC_NULL: `at` or `place` is IC_NONE. IC_OUT_OF_RANGE: `at` or `place` is not below `places`. IC_NOT_LINKED: `at` or `place` is not
+ * linked. IC_BROKEN: `at` or `place` is in no ring. */
+IC_NODISCARD
+uint32_t ic_ring_move_before(struct ic_link2 *table, ic_length places, uint32_t at, uint32_t place);
+
+/* Moves all members of the head `head`, in their order, after the place `at` of another ring. O(1). Then `head` has no members. Linux calls
+ * this list_splice_init.
+ * IC_NULL: `at` or `head` is IC_NONE. IC_OUT_OF_RANGE: `at` or `head` is not below `places`. IC_NOT_LINKED: `at` or `head` is not linked.
+ * IC_BROKEN: `at` or `head` is in no ring, or `at` is that head itself or its last member. */
+IC_NODISCARD
+uint32_t ic_ring_splice_after(struct ic_link2 *table, ic_length places, uint32_t at, uint32_t head);
+
+/* Moves all members of the head `head`, in their order, before the place `at` of another ring. O(1). Then `head` has no members. Linux
+ * calls this list_splice_tail_init.
+ * IC_NULL: `at` or `head` is IC_NONE. IC_OUT_OF_RANGE: `at` or `head` is not below `places`. IC_NOT_LINKED: `at` or `head` is not linked.
+ * IC_BROKEN: `at` or `head` is in no ring, or `at` is that head itself or its first member. */
+IC_NODISCARD
+uint32_t ic_ring_splice_before(struct ic_link2 *table, ic_length places, uint32_t at, uint32_t head);
+
 /* to here */
 
-/* ---- Functions of these calls, which are tested and not proved ---- */
+/* Two names more for calls of a head, as lists have them. */
 
 /* Inserts `place` as the first member of a head. It returns what ic_ring_insert_after returns. */
 IC_NODISCARD
@@ -503,112 +549,6 @@ static inline uint32_t ic_ring_push_front(struct ic_link2 *table, ic_length plac
 IC_NODISCARD
 static inline uint32_t ic_ring_push_back(struct ic_link2 *table, ic_length places, uint32_t head, uint32_t place) {
     return ic_ring_insert_before(table, places, head, place);
-}
-
-/* The status of a call that needs a linked place and is handed this one, behind or in front of which there is no place of the table. */
-static inline uint32_t ic_ring_refusal(const struct ic_link2 *table, ic_length places, uint32_t at) {
-    if (at == IC_NONE)
-        return IC_NULL;
-    if (at >= ic_bound(places))
-        return IC_OUT_OF_RANGE;
-    return ic_ring_is_linked(table, places, at) ? IC_BROKEN : IC_NOT_LINKED;
-}
-
-/* Takes `first` off, which stands beside a head, and sets *popped to it. */
-IC_NODISCARD
-static inline uint32_t ic_ring_pop(struct ic_link2 *table, ic_length places, uint32_t head, uint32_t first, uint32_t *popped) {
-    uint32_t status;
-    if (first == IC_NONE)
-        return ic_ring_refusal(table, places, head);
-    if (first == head)
-        return IC_NULL;
-    status = ic_ring_remove(table, places, first);
-    if (status == IC_OK)
-        *popped = first;
-    return status;
-}
-
-/* Removes the first member of a head, and sets *popped to it. IC_NULL: there is none. Otherwise it returns what ic_ring_remove returns. */
-IC_NODISCARD
-static inline uint32_t ic_ring_pop_front(struct ic_link2 *table, ic_length places, uint32_t head, uint32_t *popped) {
-    return ic_ring_pop(table, places, head, ic_ring_next(table, places, head), popped);
-}
-
-/* Removes the last member of a head, and sets *popped to it. IC_NULL: there is none. Otherwise it returns what ic_ring_remove returns. */
-IC_NODISCARD
-static inline uint32_t ic_ring_pop_back(struct ic_link2 *table, ic_length places, uint32_t head, uint32_t *popped) {
-    return ic_ring_pop(table, places, head, ic_ring_prev(table, places, head), popped);
-}
-
-/* Removes the place `at` from its ring, and inserts `place` where it was. Linux calls this list_replace. It returns what
- * ic_ring_insert_before and ic_ring_remove return. */
-IC_NODISCARD
-static inline uint32_t ic_ring_replace(struct ic_link2 *table, ic_length places, uint32_t at, uint32_t place) {
-    uint32_t status = ic_ring_insert_before(table, places, at, place);
-    if (status != IC_OK)
-        return status;
-    status = ic_ring_remove(table, places, at);
-    if (status != IC_OK && ic_ring_remove(table, places, place) != IC_OK)
-        return IC_BROKEN;
-    return status;
-}
-
-/* Moves `place`, from whichever ring it is in, after the place `at` of a ring, or before it. It is unlinked for a moment. If the call is
- * refused, `place` is where it was.
- * IC_LINKED: `at` and `place` are the same. Otherwise it returns what ic_ring_remove and ic_ring_insert_after return. */
-IC_NODISCARD
-static inline uint32_t ic_ring_move(struct ic_link2 *table, ic_length places, uint32_t at, uint32_t place, int is_after) {
-    uint32_t prev = ic_ring_prev(table, places, place), status;
-    if (at == place)
-        return ic_ring_exchange(table, places, at, at); /* changes nothing, and says whether it stands in a ring */
-    status = ic_ring_remove(table, places, place);
-    if (status != IC_OK)
-        return status;
-    status = is_after ? ic_ring_insert_after(table, places, at, place) : ic_ring_insert_before(table, places, at, place);
-    if (status != IC_OK
-        && (prev == place ? ic_ring_init(table, places, place) : ic_ring_insert_after(table, places, prev, place)) != IC_OK)
-        return IC_BROKEN;
-    return status;
-}
-
-/* Moves `place` after the place `at`, as ic_ring_move does. Linux calls this list_move. */
-IC_NODISCARD
-static inline uint32_t ic_ring_move_after(struct ic_link2 *table, ic_length places, uint32_t at, uint32_t place) {
-    return ic_ring_move(table, places, at, place, 1);
-}
-
-/* Moves `place` before the place `at`, as ic_ring_move does. Linux calls this list_move_tail. */
-IC_NODISCARD
-static inline uint32_t ic_ring_move_before(struct ic_link2 *table, ic_length places, uint32_t at, uint32_t place) {
-    return ic_ring_move(table, places, at, place, 0);
-}
-
-/* Moves all members of the head `given` after the place `at` of another ring. Then `given` has no members. Linux calls this
- * list_splice_init. It returns what ic_ring_exchange returns. */
-IC_NODISCARD
-static inline uint32_t ic_ring_splice_after(struct ic_link2 *table, ic_length places, uint32_t at, uint32_t given) {
-    uint32_t last = ic_ring_prev(table, places, given), status;
-    if (last == IC_NONE)
-        return ic_ring_is_linked(table, places, given) ? (uint32_t)IC_BROKEN : ic_ring_exchange(table, places, given, at);
-    if (at == given || at == last)
-        return IC_BROKEN; /* of the ring itself, which would lose its members */
-    status = ic_ring_exchange(table, places, last, at);
-    if (status != IC_OK)
-        return status;
-    status = ic_ring_exchange(table, places, at, given);
-    if (status != IC_OK && ic_ring_exchange(table, places, last, at) != IC_OK)
-        return IC_BROKEN;
-    return status;
-}
-
-/* Moves all members of the head `given` before the place `at` of another ring. Then `given` has no members. Linux calls this
- * list_splice_tail_init. It returns what ic_ring_exchange returns. */
-IC_NODISCARD
-static inline uint32_t ic_ring_splice_before(struct ic_link2 *table, ic_length places, uint32_t at, uint32_t given) {
-    uint32_t before = ic_ring_prev(table, places, at);
-    if (before == IC_NONE)
-        return ic_ring_is_linked(table, places, at) ? (uint32_t)IC_BROKEN : ic_ring_exchange(table, places, at, given);
-    return ic_ring_splice_after(table, places, before, given);
 }
 
 /* ---- Singly linked lists: 8 bytes a place, calls O(1) except ic_stack_splice_after, and to fill, clear and check ------------------------

@@ -208,14 +208,17 @@ def script_words(call):
              "buckets": "this.bucketsAt, this.bucketCount", "given": "this.given(given)", "rest": "rest"}
     if call.family == "list":
         fixed["keys"] = "...keyParts(keys, this.links)"
+    if call.family == "ring":
+        fixed["head"] = "this.head" if has(call, "popped") else "this.given(head)"
     for arg in call.args:
         check = "u64" if arg.type == "u64" else "placeNumber" if arg.name in call.roles and call.roles[arg.name] != "run" else "u32"
         yield "this.out" if arg.name in OUT else fixed.get(arg.name) or f'{check}({arg.name}, "{arg.name}")'
 
 
 def script_parameters(call):
-    """The parameters of a method. A tree and a hash table keep their keys and buckets."""
-    return [arg for arg in free(call) if arg.name != "buckets" and not (arg.name == "keys" and call.family != "list")]
+    """The parameters of a method. A tree and a hash table keep their keys and buckets, and a ring the head out of which it pops."""
+    kept = {"buckets", *(["keys"] if call.family != "list" else []), *(["head"] if has(call, "popped") else [])}
+    return [arg for arg in free(call) if arg.name not in kept]
 
 
 def script(call):
@@ -239,7 +242,7 @@ def types(call):
     if call.name == "ic_ring_init":
         return ""
     out, own = outcome(call), CLASSES[call.family]
-    kinds = {"given": own, "hash": "bigint | number", "key": "bigint | number", "keys": "Words", "count": "number"}
+    kinds = {"given": own, "head": own, "hash": "bigint | number", "key": "bigint | number", "keys": "Words", "count": "number"}
     kind = lambda arg: kinds.get(arg.name) or ("Gap" if call.roles.get(arg.name) == "gap" else "Place")
     parameters = [f"{arg.name}: {kind(arg)}" for arg in script_parameters(call)]
     result = {"rest": own, "members": "number", None: "void"}.get(out, "Gap")

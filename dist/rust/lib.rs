@@ -170,6 +170,13 @@ extern "C" {
     pub fn ic_ring_insert_before(table: *mut ic_link2, places: usize, at: u32, place: u32) -> u32;
     pub fn ic_ring_remove(table: *mut ic_link2, places: usize, place: u32) -> u32;
     pub fn ic_ring_exchange(table: *mut ic_link2, places: usize, one: u32, other: u32) -> u32;
+    pub fn ic_ring_pop_front(table: *mut ic_link2, places: usize, head: u32, popped: *mut u32) -> u32;
+    pub fn ic_ring_pop_back(table: *mut ic_link2, places: usize, head: u32, popped: *mut u32) -> u32;
+    pub fn ic_ring_replace(table: *mut ic_link2, places: usize, at: u32, place: u32) -> u32;
+    pub fn ic_ring_move_after(table: *mut ic_link2, places: usize, at: u32, place: u32) -> u32;
+    pub fn ic_ring_move_before(table: *mut ic_link2, places: usize, at: u32, place: u32) -> u32;
+    pub fn ic_ring_splice_after(table: *mut ic_link2, places: usize, at: u32, head: u32) -> u32;
+    pub fn ic_ring_splice_before(table: *mut ic_link2, places: usize, at: u32, head: u32) -> u32;
     pub fn ic_stack_push_front(table: *mut ic_link1, places: usize, list: *mut ic_stack, place: u32) -> u32;
     pub fn ic_stack_pop_front(table: *mut ic_link1, places: usize, list: *mut ic_stack, popped: *mut u32) -> u32;
     pub fn ic_stack_insert_after(table: *mut ic_link1, places: usize, list: *mut ic_stack, at: u32, place: u32) -> u32;

@@ -282,7 +282,7 @@ export class List extends Collection {
   // to here
 }
 
-/** A ring over links2, whose head is a place of the table. What ic.h makes of several calls is made of the same calls here. */
+/** A ring over links2, whose head is a place of the table. */
 export class Ring extends Calls {
   constructor(links, head) {
     super(links, 2);
@@ -306,58 +306,25 @@ export class Ring extends Calls {
   exchange(one, other) {
     this.done(this.calls.ic_ring_exchange(this.table, this.places, placeNumber(one, "one"), placeNumber(other, "other")));
   }
+  popFront() { return this.member(this.calls.ic_ring_pop_front(this.table, this.places, this.head, this.out)); }
+  popBack() { return this.member(this.calls.ic_ring_pop_back(this.table, this.places, this.head, this.out)); }
+  replace(at, place) { this.done(this.calls.ic_ring_replace(this.table, this.places, placeNumber(at, "at"), placeNumber(place, "place"))); }
+  moveAfter(at, place) {
+    this.done(this.calls.ic_ring_move_after(this.table, this.places, placeNumber(at, "at"), placeNumber(place, "place")));
+  }
+  moveBefore(at, place) {
+    this.done(this.calls.ic_ring_move_before(this.table, this.places, placeNumber(at, "at"), placeNumber(place, "place")));
+  }
+  spliceAfter(at, head) { this.done(this.calls.ic_ring_splice_after(this.table, this.places, placeNumber(at, "at"), this.given(head))); }
+  spliceBefore(at, head) { this.done(this.calls.ic_ring_splice_before(this.table, this.places, placeNumber(at, "at"), this.given(head))); }
   // to here
   pushFront(place) { this.insertAfter(this.head, place); }
   pushBack(place) { this.insertBefore(this.head, place); }
-  popFront() { return this.pop(this.next(this.head)); }
-  popBack() { return this.pop(this.prev(this.head)); }
-  replace(at, place) {
-    this.insertBefore(at, place);
-    this.doneOr(this.status(this.calls.ic_ring_remove, at), () => this.status(this.calls.ic_ring_remove, place));
-  }
-  moveAfter(at, place) { this.move(this.calls.ic_ring_insert_after, at, place); }
-  moveBefore(at, place) { this.move(this.calls.ic_ring_insert_before, at, place); }
-  spliceAfter(at, given) { this.splice(at, this.given(given)); }
-  spliceBefore(at, given) {
-    const head = this.given(given), before = this.prev(at);
-    if (before === null) this.refuse(at);
-    this.splice(before, head);
-  }
-  status(call, at, place) { return call(this.table, this.places, placeNumber(at, "at"), place); }
-  // Of two edits the second has this status. If it is refused, `back` undoes the first one.
-  doneOr(status, back) {
-    if (status !== OK) throw new Refused(back() === OK ? status : BROKEN);
-  }
   unlessHead(place) { return place === this.head ? null : place; }
   /** The head of another ring of this table. */
   given(other) {
     if (other === this || other.links !== this.links) throw new TypeError("what is given is another ring of the same table");
     return other.head;
-  }
-  // Says why there is nothing beside a place.
-  refuse(at) {
-    if (this.links.isLinked(at)) throw new Refused(BROKEN);
-    this.remove(at);
-  }
-  pop(first) {
-    if (first === null) this.refuse(this.head);
-    if (first === this.head) return null;
-    this.remove(first);
-    return first;
-  }
-  move(insert, at, place) {
-    const to = placeNumber(at, "at"), from = placeNumber(place, "place"), prev = this.prev(place);
-    if (to === from) throw new Refused(LINKED);
-    this.remove(place);
-    this.doneOr(this.status(insert, at, from), () =>
-      prev === place ? this.status(this.calls.ic_ring_init, place) : this.status(this.calls.ic_ring_insert_after, prev, from),
-    );
-  }
-  splice(at, head) {
-    const last = this.prev(head);
-    if (last === null) this.refuse(head);
-    this.exchange(last, at);
-    this.doneOr(this.status(this.calls.ic_ring_exchange, at, head), () => this.status(this.calls.ic_ring_exchange, last, placeNumber(at, "at")));
   }
 }
 

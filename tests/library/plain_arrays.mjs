@@ -135,7 +135,8 @@ function rings(ic, turns) {
   }
   function move(place, at, isAfter) {
     const from = stands(place);
-    if (!from || !stands(at) || at === place) return REFUSED;
+    if (!from || !stands(at)) return REFUSED;
+    if (at === place) return null;
     from.plain.splice(from.index, 1);
     return put(place, at, isAfter);
   }

@@ -24,8 +24,7 @@
 //! # Ok::<(), Error>(())
 //! ```
 //!
-//! No call can tell whether two places are in one ring or in two. [`init`], [`insert_after`], [`insert_before`], [`remove`] and [`exchange`] are proved
-//! calls. The functions that are made of them are tested.
+//! No call can tell whether two places are in one ring or in two.
 
 use crate::error::done;
 use crate::link::{member, read, Link};
@@ -102,6 +101,104 @@ pub fn exchange(table: &mut [Link2], one: u32, other: u32) -> Result<(), Error> 
     // SAFETY: each pointer comes from a reference, with the length of its slice, and no mutable reference overlaps another one.
     done(unsafe { ic_ring_exchange(links, places, one, other) })
 }
+
+/// Removes the first member of the head `head`, and returns it. O(1). It returns `None` if `head` is `u32::MAX`, or `head` has no members.
+///
+/// # Errors
+///
+/// [`Error::OutOfRange`] if `head` is not below the table's length. [`Error::NotLinked`] if `head` is not linked. [`Error::Broken`] if
+/// `head` or its first member is in no ring.
+#[inline]
+pub fn pop_front(table: &mut [Link2], head: u32) -> Result<Option<u32>, Error> {
+    let (links, places) = Link2::parts(table);
+    // SAFETY: each pointer comes from a reference, with the length of its slice, and no mutable reference overlaps another one.
+    handed_out(|it| unsafe { ic_ring_pop_front(links, places, head, it) })
+}
+
+/// Removes the last member of the head `head`, and returns it. O(1). It returns `None` if `head` is `u32::MAX`, or `head` has no members.
+///
+/// # Errors
+///
+/// [`Error::OutOfRange`] if `head` is not below the table's length. [`Error::NotLinked`] if `head` is not linked. [`Error::Broken`] if
+/// `head` or its last member is in no ring.
+#[inline]
+pub fn pop_back(table: &mut [Link2], head: u32) -> Result<Option<u32>, Error> {
+    let (links, places) = Link2::parts(table);
+    // SAFETY: each pointer comes from a reference, with the length of its slice, and no mutable reference overlaps another one.
+    handed_out(|it| unsafe { ic_ring_pop_back(links, places, head, it) })
+}
+
+/// Removes the place `at` from its ring, and inserts `place` where it was. O(1). Linux calls this list_replace.
+///
+/// # Errors
+///
+/// [`Error::Null`] if `at` is `u32::MAX`. [`Error::OutOfRange`] if `at` or `place` is not below the table's length. [`Error::Linked`] if
+/// `place` is linked already, as it is if `at` and `place` are the same. [`Error::NotLinked`] if `at` is not linked. [`Error::Broken`] if
+/// `at` is in no ring.
+#[inline]
+pub fn replace(table: &mut [Link2], at: u32, place: u32) -> Result<(), Error> {
+    let (links, places) = Link2::parts(table);
+    // SAFETY: each pointer comes from a reference, with the length of its slice, and no mutable reference overlaps another one.
+    done(unsafe { ic_ring_replace(links, places, at, place) })
+}
+
+/// Moves `place`, from whichever ring it is in, after the place `at` of a ring. O(1). If `at` is a head, `place` becomes the first member.
+/// The place stays linked. If `at` and `place` are the same, nothing changes. Linux calls this list_move.
+///
+/// # Errors
+///
+/// [`Error::Null`] if `at` or `place` is `u32::MAX`. [`Error::OutOfRange`] if `at` or `place` is not below the table's length.
+/// [`Error::NotLinked`] if `at` or `place` is not linked. [`Error::Broken`] if `at` or `place` is in no ring.
+#[inline]
+pub fn move_after(table: &mut [Link2], at: u32, place: u32) -> Result<(), Error> {
+    let (links, places) = Link2::parts(table);
+    // SAFETY: each pointer comes from a reference, with the length of its slice, and no mutable reference overlaps another one.
+    done(unsafe { ic_ring_move_after(links, places, at, place) })
+}
+
+/// Moves `place`, from whichever ring it is in, before the place `at` of a ring. O(1). If `at` is a head, `place` becomes the last member.
+/// The place stays linked. If `at` and `place` are the same, nothing changes. Linux calls this list_move_tail.
+///
+/// # Errors
+///
+/// [`Error::Null`] if `at` or `place` is `u32::MAX`. [`Error::OutOfRange`] if `at` or `place` is not below the table's length.
+/// [`Error::NotLinked`] if `at` or `place` is not linked. [`Error::Broken`] if `at` or `place` is in no ring.
+#[inline]
+pub fn move_before(table: &mut [Link2], at: u32, place: u32) -> Result<(), Error> {
+    let (links, places) = Link2::parts(table);
+    // SAFETY: each pointer comes from a reference, with the length of its slice, and no mutable reference overlaps another one.
+    done(unsafe { ic_ring_move_before(links, places, at, place) })
+}
+
+/// Moves all members of the head `head`, in their order, after the place `at` of another ring. O(1). Then `head` has no members. Linux
+/// calls this list_splice_init.
+///
+/// # Errors
+///
+/// [`Error::Null`] if `at` or `head` is `u32::MAX`. [`Error::OutOfRange`] if `at` or `head` is not below the table's length.
+/// [`Error::NotLinked`] if `at` or `head` is not linked. [`Error::Broken`] if `at` or `head` is in no ring, or `at` is that head itself or
+/// its last member.
+#[inline]
+pub fn splice_after(table: &mut [Link2], at: u32, head: u32) -> Result<(), Error> {
+    let (links, places) = Link2::parts(table);
+    // SAFETY: each pointer comes from a reference, with the length of its slice, and no mutable reference overlaps another one.
+    done(unsafe { ic_ring_splice_after(links, places, at, head) })
+}
+
+/// Moves all members of the head `head`, in their order, before the place `at` of another ring. O(1). Then `head` has no members. Linux
+/// calls this list_splice_tail_init.
+///
+/// # Errors
+///
+/// [`Error::Null`] if `at` or `head` is `u32::MAX`. [`Error::OutOfRange`] if `at` or `head` is not below the table's length.
+/// [`Error::NotLinked`] if `at` or `head` is not linked. [`Error::Broken`] if `at` or `head` is in no ring, or `at` is that head itself or
+/// its first member.
+#[inline]
+pub fn splice_before(table: &mut [Link2], at: u32, head: u32) -> Result<(), Error> {
+    let (links, places) = Link2::parts(table);
+    // SAFETY: each pointer comes from a reference, with the length of its slice, and no mutable reference overlaps another one.
+    done(unsafe { ic_ring_splice_before(links, places, at, head) })
+}
 // to here
 
 /// Inserts `place` as the first member of a head. O(1).
@@ -122,83 +219,6 @@ pub fn push_front(table: &mut [Link2], head: u32, place: u32) -> Result<(), Erro
 #[inline]
 pub fn push_back(table: &mut [Link2], head: u32, place: u32) -> Result<(), Error> {
     insert_before(table, head, place)
-}
-
-/// Removes the first member of a head, and returns it. O(1). It returns `None` if there is none.
-///
-/// # Errors
-///
-/// It returns the errors of [`remove`], which it calls for the first member. If the head is in no ring, it returns the error for the head.
-#[inline]
-pub fn pop_front(table: &mut [Link2], head: u32) -> Result<Option<u32>, Error> {
-    pop(table, head, next(table, head))
-}
-
-/// Removes the last member of a head, and returns it. O(1). It returns `None` if there is none.
-///
-/// # Errors
-///
-/// It returns the errors of [`remove`], which it calls for the last member. If the head is in no ring, it returns the error for the head.
-#[inline]
-pub fn pop_back(table: &mut [Link2], head: u32) -> Result<Option<u32>, Error> {
-    pop(table, head, prev(table, head))
-}
-
-/// Removes the place `at` from its ring, and inserts `place` where it was. O(1). Linux calls this list_replace.
-///
-/// # Errors
-///
-/// It returns the errors of [`insert_before`] and [`remove`].
-pub fn replace(table: &mut [Link2], at: u32, place: u32) -> Result<(), Error> {
-    insert_before(table, at, place)?;
-    undone_if(remove(table, at), || remove(table, place))
-}
-
-/// Moves `place`, from whichever ring it is in, after the place `at` of a ring. O(1). Linux calls this list_move.
-///
-/// The place is unlinked for a moment. If the call is refused, the place is where it was.
-///
-/// # Errors
-///
-/// [`Error::Linked`] if `at` and `place` are the same. Otherwise it returns the errors of [`remove`] and [`insert_after`].
-#[inline]
-pub fn move_after(table: &mut [Link2], at: u32, place: u32) -> Result<(), Error> {
-    move_by(table, at, place, insert_after)
-}
-
-/// Moves `place`, from whichever ring it is in, before the place `at` of a ring. O(1). Linux calls this list_move_tail.
-///
-/// The place is unlinked for a moment. If the call is refused, the place is where it was.
-///
-/// # Errors
-///
-/// [`Error::Linked`] if `at` and `place` are the same. Otherwise it returns the errors of [`remove`] and [`insert_before`].
-#[inline]
-pub fn move_before(table: &mut [Link2], at: u32, place: u32) -> Result<(), Error> {
-    move_by(table, at, place, insert_before)
-}
-
-/// Moves all members of the head `given` after the place `at` of another ring. O(1). Then `given` has none. Linux calls this list_splice_init.
-///
-/// # Errors
-///
-/// It returns the errors of [`exchange`].
-pub fn splice_after(table: &mut [Link2], at: u32, given: u32) -> Result<(), Error> {
-    let Some(last) = prev(table, given) else { return beside_none(table, given, at) };
-    exchange(table, last, at)?;
-    undone_if(exchange(table, at, given), || exchange(table, last, at))
-}
-
-/// Moves all members of the head `given` before the place `at` of another ring. O(1). Then `given` has none. Linux calls this list_splice_tail_init.
-///
-/// # Errors
-///
-/// It returns the errors of [`exchange`].
-pub fn splice_before(table: &mut [Link2], at: u32, given: u32) -> Result<(), Error> {
-    match prev(table, at) {
-        Some(before) => splice_after(table, before, given),
-        None => beside_none(table, at, given),
-    }
 }
 
 /// Whether a head has no members. O(1).
@@ -228,41 +248,4 @@ pub fn prev(table: &[Link2], at: u32) -> Option<u32> {
 pub fn iter(table: &[Link2], head: u32) -> impl Iterator<Item = u32> + '_ {
     let after = move |at| member(table, next(table, at)).filter(|&at| at != head);
     core::iter::successors(after(head), move |&at| after(at)).take(table.len())
-}
-
-// Removes the place `first`, which is beside a head.
-fn pop(table: &mut [Link2], head: u32, first: Option<u32>) -> Result<Option<u32>, Error> {
-    match first {
-        Some(first) if first == head => Ok(None),
-        Some(first) => remove(table, first).map(|()| Some(first)),
-        None => beside_none(table, head, head).map(|()| None),
-    }
-}
-
-// What a call returns that finds no place beside `at`. If `at` is linked, its link leads out of the table. Otherwise a call that names it is refused.
-fn beside_none(table: &mut [Link2], at: u32, other: u32) -> Result<(), Error> {
-    match table.get(at as usize) {
-        Some(link) if link.is_linked() => Err(Error::Broken),
-        _ => exchange(table, at, other),
-    }
-}
-
-// Of two edits the second has this result. If it is refused, `back` undoes the first one.
-fn undone_if(result: Result<(), Error>, back: impl FnOnce() -> Result<(), Error>) -> Result<(), Error> {
-    result.map_err(|error| back().map_or(Error::Broken, |()| error))
-}
-
-type Insert = fn(&mut [Link2], u32, u32) -> Result<(), Error>;
-
-fn move_by(table: &mut [Link2], at: u32, place: u32, insert: Insert) -> Result<(), Error> {
-    let before = prev(table, place);
-    if at == place {
-        return Err(Error::Linked);
-    }
-    remove(table, place)?;
-    let result = insert(table, at, place);
-    undone_if(result, || match before {
-        Some(before) if before != place => insert_after(table, before, place),
-        _ => init(table, place),
-    })
 }
