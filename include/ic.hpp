@@ -255,23 +255,31 @@ public:
     iterator() = default;
 
     /// The iterator at a position, or at the end if no member is there.
-    iterator(typename Kind::source in, position it) noexcept : in_(in), left_(ic_bound(in.places)), behind_(left_) { go(it); }
+    iterator(typename Kind::source in, position it) noexcept : in_(in), left_(ic_bound(in.places)) { go(it); }
 
     [[nodiscard]] std::uint32_t operator*() const noexcept { return it_.at; }
 
+#ifdef __GNUC__
+    [[gnu::always_inline]] // or else Clang calls it in a loop over an XOR list
+#endif
     iterator &operator++() noexcept {
-        const position it = where();
-        const std::uint32_t beyond = Kind::beyond(in_, it, Back);
-        count(left_, behind_);
-        go(left_ > 0 ? position{it.at, beyond} : position{it.at, none});
+        if constexpr (Kind::is_bidirectional)
+            settle();
+        const std::uint32_t beyond = Kind::beyond(in_, {it_.from, it_.at}, Back);
+        if (ahead_ > 0)
+            --ahead_;
+        else
+            left_ -= left_ > 0;
+        go({it_.at, beyond});
         return *this;
     }
 
     iterator operator++(int) noexcept {
+        settle();
         const iterator was = *this;
-        const position it = where();
         ++*this;
         if constexpr (Kind::needs_from) {
+            const position it = was.it_;
             this->before = {it.from == none ? none : Kind::beyond(in_, {it.at, it.from}, !Back), it.from};
             this->is_kept = true;
         }
@@ -280,12 +288,15 @@ public:
 
     iterator &operator--() noexcept {
         static_assert(Kind::is_bidirectional, "a singly linked list is walked forwards only");
-        const position from = where();
-        position it{none, from.at == none ? Kind::outermost(in_, !Back) : Kind::needs_from ? from.from : Kind::beyond(in_, from, !Back)};
+        settle();
+        position it{none, it_.at == none ? Kind::outermost(in_, !Back) : Kind::needs_from ? it_.from : Kind::beyond(in_, it_, !Back)};
         if constexpr (Kind::needs_from)
-            it.from = Kind::beyond(in_, {from.at, it.at}, !Back);
-        count(behind_, left_);
-        go(behind_ > 0 ? it : position{none, Kind::outermost(in_, Back)});
+            it.from = Kind::beyond(in_, {it_.at, it.at}, !Back);
+        if (left_ < ic_bound(in_.places))
+            ++left_;
+        else if (++ahead_ >= left_)
+            it = {none, Kind::outermost(in_, Back)};
+        go(it);
         return *this;
     }
 
@@ -300,10 +311,9 @@ public:
 
     /// The member, and the one in front of it, from which the iterator came unless that has been taken off.
     [[nodiscard]] position where() const noexcept {
-        if constexpr (Kind::needs_from)
-            if (this->is_kept && it_.at == (this->before.at == none ? Kind::outermost(in_, Back) : Kind::beyond(in_, this->before, Back)))
-                return {this->before.at, it_.at};
-        return it_;
+        iterator settled = *this;
+        settled.settle();
+        return settled.it_;
     }
 
     /// The iterator behind this one, as it is after this one's member has been taken off.
@@ -315,15 +325,27 @@ public:
     }
 
 private:
-    /// Counts a step, of which fewer are left then, and more the other way.
-    void count(std::uint32_t &fewer, std::uint32_t &more) noexcept {
-        fewer -= fewer > 0;
-        more += more < ic_bound(in_.places);
+    /// Finds out whether the member that the iterator came from has been taken off, as `erase(it++)` does.
+    void settle() noexcept {
+        if constexpr (Kind::needs_from) {
+            if (this->is_kept)
+                it_.from = front_of(in_, this->before, it_.from, it_.at);
+            this->is_kept = false;
+        }
+    }
+
+    /// The member in front of a position: where it came from, unless the one before that leads to it now. It takes values and is no part of a
+    /// loop, so that compilers keep iterators in registers.
+#ifdef __GNUC__
+    [[gnu::noinline]]
+#endif
+    static std::uint32_t front_of(typename Kind::source in, position before, std::uint32_t from, std::uint32_t at) noexcept {
+        return at == (before.at == none ? Kind::outermost(in, Back) : Kind::beyond(in, before, Back)) ? before.at : from;
     }
 
     void go(position it) noexcept {
         it_ = it;
-        if (!Kind::is_linked(in_, it.at))
+        if (left_ == 0 || !Kind::is_linked(in_, it.at))
             it_.at = none;
         if constexpr (Kind::needs_from)
             this->is_kept = false;
@@ -331,7 +353,8 @@ private:
 
     typename Kind::source in_;
     position it_;
-    std::uint32_t left_ = 0, behind_ = 0;
+    /// How many steps forwards are left, and how many members it is in front of where it began.
+    std::uint32_t left_ = 0, ahead_ = 0;
 };
 
 /// What `erase` returns: the iterator behind the member that it took off, and its status. If the status is not ok, nothing is changed, and the
