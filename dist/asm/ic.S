@@ -14,7 +14,7 @@
 #include "ic-thumbv7em.s"
 #elif defined(__thumb__) && defined(__ELF__) && !defined(__ARM_BIG_ENDIAN)
 #include "ic-thumbv6m.s"
-#elif defined(__riscv) && __riscv_xlen == 32 && defined(__ELF__) && !defined(__riscv_32e)
+#elif defined(__riscv) && __riscv_xlen == 32 && defined(__riscv_div) && defined(__ELF__) && !defined(__riscv_32e)
 #include "ic-riscv32imac.s"
 #else
 #error "ic has no code for this processor and system"
