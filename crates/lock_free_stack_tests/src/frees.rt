@@ -1,0 +1,129 @@
+//! A thread that gives places out, and threads that free them.
+
+ghost use Rattle.std.specs.Prelude.{◌≡◌, ◌<◌, ◌≤◌, ◌+◌, All, List, vec_len};
+ghost use Rattle.ic_lock_free_stack.specs.Holders.{stacks_of, spent_by, IsOf, IsNew};
+
+use crate::places::take;
+use ic_lock_free_stack::{Holder, Stacks};
+use ic_unsafe_ref::Place;
+use stack_uses::remote_frees::{Owner, free_all};
+use std::alloc::{AllocError, Global};
+use std::process::Abort;
+use std::thread;
+use std::thread::Threads;
+
+// As often as a place is lent, or a worker looks for places.
+const TURNS: usize = 20_000;
+
+// A holder in a thread: the owner, number 0, or a worker, to whom places are lent by the stack of its number.
+#[derive(Drop)]
+struct Party<'c> {
+    stacks: &'c Stacks,
+    holder: Holder,
+    number: usize,
+    ghost made: { IsOf stacks.now holder },
+    ghost two: { 1 < stacks_of stacks.now },
+    ghost inside: { number < stacks_of stacks.now },
+    ghost fresh: { spent_by holder ≡ 0 },
+}
+
+// Owns all places, lends them in turn, and at the end says how many it still has.
+fn give_out(stacks: &Stacks, holder: Holder) -> usize
+    requires made { IsOf stacks.now holder }
+    requires two { 1 < stacks_of stacks.now }
+    requires fresh { spent_by holder ≡ 0 }
+{
+    let mut owner = Owner::new(stacks, holder, 0);
+    for index in 0..stacks.places() {
+        if let Some(place) = Place::new(index) {
+            let _owned = owner.own(stacks, place);
+        }
+    }
+    let workers = stacks.stacks() - 1;
+    for turn in 0..TURNS {
+        if let Some(place) = owner.take(stacks) {
+            owner.lend(stacks, 1 + turn % workers, place);
+        }
+    }
+    let mut left: usize = 0;
+    for _ in 0..TURNS {
+        if owner.take(stacks).is_some() {
+            left = left.wrapping_add(1);
+        }
+    }
+    left
+}
+
+// Frees what is lent to it, all of it at once.
+fn free_lent(stacks: &Stacks, mut holder: Holder, number: usize)
+    requires made { IsOf stacks.now holder }
+    requires two { 1 < stacks_of stacks.now }
+    requires inside { number < stacks_of stacks.now }
+    requires fresh { spent_by holder ≡ 0 }
+{
+    for _ in 0..TURNS {
+        let lent = stacks.take_all(&mut holder, number);
+        free_all(stacks, &mut holder, 0, lent);
+    }
+}
+
+// How many places this one still has at the end: a worker none.
+fn work(party: Party) -> usize {
+    let Party {
+        stacks,
+        holder,
+        number,
+    } = party;
+    if number == 0 {
+        return give_out(stacks, holder);
+    }
+    free_lent(stacks, holder, number);
+    0
+}
+
+// A party for each holder, as many as there are stacks.
+fn parties<'c>(
+    alloc: Global,
+    stacks: &'c Stacks,
+    mut holders: Vec<Holder>,
+) -> Result<Vec<Party<'c>>, AllocError>
+    requires two { 1 < stacks_of stacks.now }
+    requires many { vec_len holders ≤ stacks_of stacks.now }
+    requires made { All (λ h. IsOf stacks.now h × IsNew h) holders.items }
+{
+    let mut parties = Vec::new(alloc);
+    while let Some(holder) = holders.pop() {
+        parties.push(Party {
+            stacks,
+            holder,
+            number: holders.len(),
+        })?;
+    }
+    Ok(parties)
+}
+
+/// Whether each place that an owner lends to so many workers is then in some stack, or still its owner's.
+pub(crate) fn come_back<R: Abort + Threads + Sync>(
+    rt: &R,
+    alloc: Global,
+    places: usize,
+    workers: usize,
+) -> bool
+    requires { (0 < workers) × (workers < 1000) }
+{
+    let (stacks, mut holders) = Stacks::new(alloc, places, workers + 1, workers + 2).expect(
+        rt, "stacks",
+    );
+    let mut last = holders.pop().expect(rt, "a holder");
+    let parties = parties(alloc, &stacks, holders).expect(rt, "room");
+    let done = thread::map_vec(rt, parties, &work).expect(rt, "room");
+    let mut found = 0usize;
+    for left in &done {
+        found = found.wrapping_add(*left);
+    }
+    let mut rest = Vec::new(alloc);
+    for stack in 0..workers + 1 {
+        take(&stacks, &mut last, stack, &mut rest).expect(rt, "room");
+    }
+    found.wrapping_add(rest.len()) == places
+}

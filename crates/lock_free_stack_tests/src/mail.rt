@@ -1,0 +1,148 @@
+//! Threads that send places to a mailbox, and one that receives them.
+
+ghost use Rattle.std.specs.Prelude.{◌≡◌, ◌<◌, ◌≤◌, All, List, vec_len};
+ghost use Rattle.ic_unsafe_ref.specs.declared.place.Place.{Place};
+ghost use Rattle.ic_lock_free_stack.specs.Holders.{stacks_of, spent_by, IsOf, IsNew};
+ghost use Rattle.stack_uses.specs.Mail.{holder_of, HasReceived};
+
+use ic_lock_free_stack::{Holder, Stacks};
+use ic_unsafe_ref::Place;
+use stack_uses::mailbox::{Receiver, send};
+use std::alloc::{AllocError, Global};
+use std::process::Abort;
+use std::thread;
+use std::thread::Threads;
+
+// So many places each sender sends, in the order of their indexes.
+const SENT: usize = 2000;
+
+// As often as the receiver looks.
+const TURNS: usize = 100_000;
+
+// A holder in a thread: the receiver, or the sender of that number.
+#[derive(Drop)]
+struct Party<'c> {
+    stacks: &'c Stacks,
+    holder: Holder,
+    number: usize,
+    receives: bool,
+    alloc: Global,
+    ghost made: { IsOf stacks.now holder },
+    ghost some: { 0 < stacks_of stacks.now },
+    ghost new: { IsNew holder },
+}
+
+// Sends the places of one sender.
+fn send_all(stacks: &Stacks, mut holder: Holder, number: usize)
+    requires made { IsOf stacks.now holder }
+    requires some { 0 < stacks_of stacks.now }
+    requires fresh { spent_by holder ≡ 0 }
+{
+    for i in 0..SENT {
+        if let Some(place) = Place::new(number.wrapping_mul(SENT).wrapping_add(i)) {
+            if place.index() < stacks.places() {
+                let _sent = send(stacks, &mut holder, 0, place);
+            }
+        }
+    }
+}
+
+// The indexes of what was received in so many turns, in order.
+fn receive_some(
+    alloc: Global,
+    stacks: &Stacks,
+    holder: Holder,
+    turns: usize,
+) -> Result<Vec<usize>, AllocError>
+    requires made { IsOf stacks.now holder × IsNew holder }
+    requires some { 0 < stacks_of stacks.now }
+    requires turns { turns ≤ 1000000 }
+{
+    let mut receiver = Receiver::new(stacks, holder, 0);
+    let mut indexes = Vec::new(alloc);
+    for _ in 0..turns {
+        if let Some(place) = receiver.receive(stacks) {
+            indexes.push(place.index())?;
+        }
+    }
+    Ok(indexes)
+}
+
+// What this one received: a sender nothing.
+fn work(party: Party) -> Vec<usize> {
+    let Party {
+        stacks,
+        holder,
+        number,
+        receives,
+        alloc,
+    } = party;
+    if receives {
+        return receive_some(alloc, stacks, holder, TURNS).unwrap_or(Vec::new(alloc));
+    }
+    send_all(stacks, holder, number);
+    Vec::new(alloc)
+}
+
+// A party for each holder: the first one receives.
+fn parties<'c>(
+    alloc: Global,
+    stacks: &'c Stacks,
+    mut holders: Vec<Holder>,
+) -> Result<Vec<Party<'c>>, AllocError>
+    requires some { 0 < stacks_of stacks.now }
+    requires made { All (λ h. IsOf stacks.now h × IsNew h) holders.items }
+{
+    let mut parties = Vec::new(alloc);
+    while let Some(holder) = holders.pop() {
+        let number = holders.len();
+        parties.push(Party {
+            stacks,
+            holder,
+            number: number.wrapping_sub(1),
+            receives: number == 0,
+            alloc,
+        })?;
+    }
+    Ok(parties)
+}
+
+// Whether of each sender all came, in the order in which it sent them.
+fn are_in_order(rt: &impl Abort, alloc: Global, indexes: &[usize], senders: usize) -> bool {
+    let mut wanted = Vec::new(alloc);
+    for number in 0..senders {
+        wanted.push(number.wrapping_mul(SENT)).expect(rt, "room");
+    }
+    for index in indexes {
+        let Some(next) = wanted.get_mut(*index / SENT) else {
+            return false;
+        };
+        if *next != *index {
+            return false;
+        }
+        *next = next.wrapping_add(1);
+    }
+    indexes.len() == senders.wrapping_mul(SENT)
+}
+
+/// Whether one thread receives from so many senders, and a second one then receives the rest, all that was sent, and each sender's in order.
+pub(crate) fn deliver<R: Abort + Threads + Sync>(rt: &R, alloc: Global, senders: usize) -> bool
+    requires { senders < 1000 }
+{
+    let places = senders.wrapping_mul(SENT);
+    let (stacks, mut holders) = Stacks::new(alloc, places, 1, senders + 2).expect(rt, "stacks");
+    let last = holders.pop().expect(rt, "a holder");
+    let parties = parties(alloc, &stacks, holders).expect(rt, "room");
+    let done = thread::map_vec(rt, parties, &work).expect(rt, "room");
+    let mut all = Vec::new(alloc);
+    for got in &done {
+        for index in got {
+            all.push(*index).expect(rt, "room");
+        }
+    }
+    let rest = receive_some(alloc, &stacks, last, 1000000).expect(rt, "room");
+    for index in &rest {
+        all.push(*index).expect(rt, "room");
+    }
+    are_in_order(rt, alloc, all.as_slice(), senders)
+}

@@ -1,0 +1,117 @@
+//! Places that are claimed and pushed, and those that are taken and given up.
+
+ghost use Rattle.std.specs.Prelude.{◌≡◌, ◌<◌, ◌≤◌, ◌+◌, List};
+ghost use Rattle.ic_unsafe_ref.specs.declared.place.Place.{Place};
+ghost use Rattle.ic_unsafe_ref.specs.Places.{index_of};
+ghost use Rattle.ic_lock_free_stack.specs.Holders.{places_of, stacks_of, spent_by, IsOf, HasChain};
+
+use ic_lock_free_stack::{Chain, Holder, Stacks};
+use ic_unsafe_ref::Place;
+use std::alloc::AllocError;
+
+/// Claims the place with that index and pushes it, and says whether it did.
+pub fn put(stacks: &Stacks, holder: &mut Holder, stack: usize, index: usize) -> bool
+    requires stack { stack < stacks_of stacks.now }
+    requires made { IsOf stacks.now holder.old }
+    requires room { spent_by holder.old < 1000000000 }
+    ensures made { IsOf stacks.now holder.new }
+    ensures spent { spent_by holder.new ≤ spent_by holder.old + 1 }
+{
+    match Place::new(index) {
+        Some(place) if index < stacks.places() => {
+            if stacks.claim(holder, place) {
+                stacks.push(holder, stack, place);
+                true
+            } else {
+                false
+            }
+        }
+        _ => false,
+    }
+}
+
+/// Claims two places and pushes both at once, one in front of the other, and says whether it did.
+pub fn put_pair(
+    stacks: &Stacks,
+    holder: &mut Holder,
+    stack: usize,
+    front: Place,
+    back: Place,
+) -> bool
+    requires stack { stack < stacks_of stacks.now }
+    requires front { index_of front < places_of stacks.now }
+    requires back { index_of back < places_of stacks.now }
+    requires made { IsOf stacks.now holder.old }
+    requires room { spent_by holder.old < 1000000000 }
+    ensures made { IsOf stacks.now holder.new }
+    ensures spent { spent_by holder.new ≤ spent_by holder.old + 1 }
+{
+    if !stacks.claim(holder, back) {
+        return false;
+    }
+    let mut chain = Chain::new();
+    stacks.link(holder, &mut chain, back);
+    let both = stacks.claim(holder, front);
+    if both {
+        stacks.link(holder, &mut chain, front);
+        stacks.push_all(holder, stack, chain, back);
+    } else {
+        stacks.release(holder, back);
+    }
+    both
+}
+
+/// Takes all members of a stack, gives each up, and appends their indexes, the first pushed first.
+pub fn take_in_order(
+    stacks: &Stacks,
+    holder: &mut Holder,
+    stack: usize,
+    indexes: &mut Vec<usize>,
+) -> Result<(), AllocError>
+    requires stack { stack < stacks_of stacks.now }
+    requires made { IsOf stacks.now holder.old }
+    requires room { spent_by holder.old < 1000000000 }
+    ensures made { IsOf stacks.now holder.new }
+    ensures spent { spent_by holder.new ≤ spent_by holder.old + 1 }
+{
+    let taken = stacks.take_all(holder, stack);
+    let turned = stacks.reversed(holder, taken);
+    give_up(stacks, holder, turned, indexes)
+}
+
+/// Takes all members of a stack, gives each up, and appends their indexes, the last pushed first.
+pub fn take(
+    stacks: &Stacks,
+    holder: &mut Holder,
+    stack: usize,
+    indexes: &mut Vec<usize>,
+) -> Result<(), AllocError>
+    requires stack { stack < stacks_of stacks.now }
+    requires made { IsOf stacks.now holder.old }
+    requires room { spent_by holder.old < 1000000000 }
+    ensures made { IsOf stacks.now holder.new }
+    ensures spent { spent_by holder.new ≤ spent_by holder.old + 1 }
+{
+    let taken = stacks.take_all(holder, stack);
+    give_up(stacks, holder, taken, indexes)
+}
+
+// Gives up the places of a chain, and appends their indexes in order.
+fn give_up(
+    stacks: &Stacks,
+    holder: &mut Holder,
+    chain: Chain,
+    indexes: &mut Vec<usize>,
+) -> Result<(), AllocError>
+    requires made { IsOf stacks.now holder.old }
+    requires shown { (s : List Place) × HasChain stacks.now holder.old chain s }
+    ensures made { IsOf stacks.now holder.new }
+    ensures spent { spent_by holder.new ≡ spent_by holder.old }
+{
+    let mut chain = chain;
+    while let Some(place) = stacks.next(holder, &mut chain) {
+        indexes.push(place.index())?;
+        stacks.release(holder, place);
+    }
+    Ok(())
+}
