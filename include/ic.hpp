@@ -357,8 +357,8 @@ private:
     std::uint32_t left_ = 0, ahead_ = 0;
 };
 
-/// What `erase` returns: the iterator behind the member that it took off, and its status. If the status is not ok, nothing is changed, and the
-/// iterator is end(), so that a loop of `it = erase(it)` ends.
+/// What `erase` returns: the iterator behind the member that it took off, and its status. If the status is not ok, the member is where it was,
+/// and the iterator is end(), so that a loop of `it = erase(it)` ends.
 template <class Iterator>
 class erased : public Iterator {
 public:
