@@ -266,10 +266,7 @@ public:
         if constexpr (Kind::is_bidirectional)
             settle();
         const std::uint32_t beyond = Kind::beyond(in_, {it_.from, it_.at}, Back);
-        if (ahead_ > 0)
-            --ahead_;
-        else
-            left_ -= left_ > 0;
+        left_ -= left_ > 0;
         go({it_.at, beyond});
         return *this;
     }
@@ -347,13 +344,11 @@ private:
         it_ = it;
         if (left_ == 0 || !Kind::is_linked(in_, it.at))
             it_.at = none;
-        if constexpr (Kind::needs_from)
-            this->is_kept = false;
     }
 
     typename Kind::source in_;
     position it_;
-    /// How many steps forwards are left, and how many members it is in front of where it began.
+    /// How many steps forwards are left, and how many members in front of its first position it has been.
     std::uint32_t left_ = 0, ahead_ = 0;
 };
 
