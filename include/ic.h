@@ -61,11 +61,11 @@ extern "C" {
 #endif
 
 /* Marks a call that may be refused: the compiler warns if its status is overlooked. -DIC_NODISCARD= switches the warning off. GCC's older
- * attribute warns of (void)call, too, and the standard one does not. GCC has that from version 10 on, in each standard. */
+ * attribute warns of (void)call, too, and the standard one does not. GCC has that from version 11 on, in each standard. */
 #ifndef IC_NODISCARD
 #if (defined(__cplusplus) && __cplusplus >= 201703L) || (defined(__STDC_VERSION__) && __STDC_VERSION__ >= 202311L)
 #define IC_NODISCARD [[nodiscard]]
-#elif defined(__GNUC__) && __GNUC__ >= 10 && !defined(__clang__) && !defined(__EDG__)
+#elif defined(__GNUC__) && __GNUC__ >= 11 && !defined(__clang__) && !defined(__EDG__)
 #define IC_NODISCARD __extension__ [[nodiscard]]
 #elif defined(__GNUC__)
 #define IC_NODISCARD __attribute__((warn_unused_result))
