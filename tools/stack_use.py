@@ -8,7 +8,7 @@ FUNCTION = re.compile(r"^(?!\.)([\w.$]+):\n(.*?)^\.Lfunc_end\d+:", re.M | re.S)
 Processor = collections.namedtuple("Processor", "entry call jump")
 # The functions that call themselves, and how often one stands within itself at most: by a run of each level, and by each level of a tree.
 LEVELS = {"sort_front": 34, "check_below": 67}
-THUMB = Processor(0, re.compile(r"bl\s+([\w.$]+)"), re.compile(r"b(?:[a-z]{2})?(?:\.[nw])?\s+([a-z_][\w.$]*)$"))
+THUMB = Processor(0, re.compile(r"bl\s+([a-z_][\w.$]*)"), re.compile(r"b(?:[a-z]{2})?(?:\.[nw])?\s+([a-z_][\w.$]*)$"))
 PROCESSORS = {
     "x86_64": Processor(8, re.compile(r"callq\s+([\w.$]+)"), re.compile(r"j\w+\s+([a-z_][\w.$]*)$")),
     "thumbv7em": THUMB,

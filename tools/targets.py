@@ -49,6 +49,8 @@ LEFT_OUT = re.compile(r"\s*\.(addrsig|addrsig_sym|ident|file|aeabi_subsection|ae
 # Functions that a text has where its processor lacks an instruction. To fill or to copy a few words takes as many stores in place of a call.
 HELPERS = ROOT / "tools/helpers.ll"
 FEW_STORES = 8
+# The processors that divide numbers of 32 bits, and those that write such a number to any address.
+DIVIDES, UNALIGNED = {"thumbv7em", "riscv32imac"}, {"thumbv7em"}
 # A line of the assembly text that has a string, in which no comment begins and no name stands.
 STRING = re.compile(r"\s*\.(ascii|asciz)\s")
 # A name in quotes.
@@ -204,22 +206,22 @@ def compile_other(name, room):
     if is_bare(name):
         whole = room / f"{name}.whole.ll"
         run([*words, module, "-S", "-emit-llvm", "-o", whole])
-        whole.write_text(with_helpers(whole.read_text(), name != "thumbv6m"))
+        whole.write_text(with_helpers(whole.read_text(), name))
         words[1:1], module = ["-Xclang", "-disable-llvm-passes"], whole
     run([*words, module, *(["-c", "-o", room / f"{name}.o"] if name == "wasm32" else ["-S", "-o", room / f"{name}.s"])])
 
 
-def with_helpers(text, has_division):
+def with_helpers(text, name):
     """The optimized module with the functions of tools/helpers.ll that it calls, in place of those that its processor has in a library."""
     def called(it):
-        count, words = re.search(r", i64 (\d+), i1 false\)$", it[0]), min([4, *map(int, re.findall(r"\balign (\d+)", it[0]))])
-        if count and "align" in it[0] and int(count[1]) <= FEW_STORES * words:
+        count, aligned = re.search(r", i64 (\d+), i1 false\)$", it[0]), min(map(int, re.findall(r"\balign (\d+)", it[0])), default=1)
+        if count and int(count[1]) <= FEW_STORES * (4 if name in UNALIGNED else min(4, aligned)):
             return it[0]
         if "memset" in it[0] and ", i8 0, " not in it[0]:
             raise ValueError(f"no helper writes what {it[0]} does")
         return it[0].replace(it[1], "@ic.clear" if "memset" in it[1] else "@ic.copy")
 
-    remainder = "@ic.remainder.divided" if has_division else "@ic.remainder"
+    remainder = "@ic.remainder.divided" if name in DIVIDES else "@ic.remainder"
     text = re.sub(r"= urem i64 ([^,\n]+), ([^,\n]+)", rf"= call i64 {remainder}(i64 \1, i64 \2)", text)
     text = re.sub(r"call void (@llvm\.mem(?:set\.p0|cpy\.p0\.p0)\.i64)\(.*?, i1 false\)", called, text)
     for function in re.findall(r"^define .*?^}$", HELPERS.read_text(), re.M | re.S):
