@@ -28,6 +28,8 @@ ROLES = ("new", "run", "member", "ring", "gap")
 # The arguments by which a call hands a number out.
 OUT = ("popped", "removed", "replaced", "found", "members")
 STATUSES = ("NULL", "OUT_OF_RANGE", "LINKED", "NOT_LINKED", "BROKEN")
+# What the header calls otherwise than crates/ic_ffi: the member after a gap of an XOR list.
+RENAMED = {"behind": "after"}
 # What a fault of a contract's clause `why` may make of the status.
 FAULTS = {"fault_at": {"OUT_OF_RANGE", "NOT_LINKED"}, "fault_of": {"OUT_OF_RANGE", "LINKED"}, "run_faults": {"OUT_OF_RANGE", "LINKED"},
           "keys_fault": {"OUT_OF_RANGE"}, "buckets_fault": {"OUT_OF_RANGE"}}
@@ -72,7 +74,8 @@ def signatures():
     """The arguments of each call, and the clauses of its contract by their names."""
     found, of = {}, records()
     for file in sorted((CRATE / "src").glob("*_calls.rt")):
-        for name, words, contract in SIGNATURE.findall(file.read_text()):
+        text = re.sub(rf"\b(?:{'|'.join(RENAMED)})\b", lambda word: RENAMED[word[0]], file.read_text())
+        for name, words, contract in SIGNATURE.findall(text):
             found[name] = [argument(it) for it in words.split(",") if it.strip()], clauses_of(contract, of)
     return found
 

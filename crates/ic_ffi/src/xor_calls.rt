@@ -98,7 +98,7 @@ pub extern "C" fn ic_xor_pop_back(table: &mut [RawOne], list: &mut RawEnds, popp
     xor_calls::pop_back(table, list, popped)
 }
 
-/// Puts a place between the neighbors `before` and `after`, which are [`NONE`](crate::NONE) beyond an end. O(1).
+/// Puts a place between the neighbors `before` and `behind`, which are [`NONE`](crate::NONE) beyond an end. O(1).
 ///
 /// The place has to be one of the table, and not linked. Where the words tell of no gap between the two, it returns [`BROKEN`](crate::BROKEN).
 #[unsafe(no_mangle)]
@@ -107,22 +107,22 @@ pub extern "C" fn ic_xor_insert_between(
     list: &mut RawEnds,
     before: u32,
     place: u32,
-    after: u32,
+    behind: u32,
 ) -> u32
-    ensures inserted { (cut : Cut) (p : Place) → IsAfter cut (place_of before) → IsBefore cut (place_of after) → place_of place ≡ Some p
+    ensures inserted { (cut : Cut) (p : Place) → IsAfter cut (place_of before) → IsBefore cut (place_of behind) → place_of place ≡ Some p
         → Inserted table.old table.new list.old list.new result cut p }
     ensures free { (p : Place) → place_of place ≡ Some p → result ≡ 0 → FreeIn table.old p }
     ensures none { place_of place ≡ None → result ≢ 0 }
     ensures before { result ≡ 0 → StandsIn table.old (place_of before) }
-    ensures after { result ≡ 0 → StandsIn table.old (place_of after) }
-    ensures told { result ≡ 0 → TellsGap (table_of table.old) (ends_of list.old) (place_of before) (place_of after) }
+    ensures behind { result ≡ 0 → StandsIn table.old (place_of behind) }
+    ensures told { result ≡ 0 → TellsGap (table_of table.old) (ends_of list.old) (place_of before) (place_of behind) }
     ensures words { result ≡ 0 → list.new ≡ words_of (ends_of list.new) }
     ensures refused { result ≢ 0 → (table.new ≡ table.old) × (list.new ≡ list.old) }
-    ensures why { result ≢ 0 → result ≡ refusal (fault_at table.old (place_of before) ∷ fault_at table.old (place_of after)
+    ensures why { result ≢ 0 → result ≡ refusal (fault_at table.old (place_of before) ∷ fault_at table.old (place_of behind)
         ∷ fault_of table.old (place_of place) ∷ []) }
     ensures status { IsStatus result }
 {
-    xor_calls::insert_between(table, list, before, place, after)
+    xor_calls::insert_between(table, list, before, place, behind)
 }
 
 /// Takes the member `at` off, in front of which `before` stands, or returns [`NULL`](crate::NULL) at [`NONE`](crate::NONE). O(1).
@@ -179,7 +179,7 @@ pub extern "C" fn ic_xor_replace(
     xor_calls::replace(table, list, before, at, place)
 }
 
-/// Puts all of the given list between the neighbors `before` and `after`, and leaves the given one empty. O(1).
+/// Puts all of the given list between the neighbors `before` and `behind`, and leaves the given one empty. O(1).
 ///
 /// Where the words tell of no gap between the two or of no list that is given, and where both lists begin with the same member, it
 /// returns [`BROKEN`](crate::BROKEN).
@@ -189,22 +189,22 @@ pub extern "C" fn ic_xor_splice_between(
     list: &mut RawEnds,
     before: u32,
     given: &mut RawEnds,
-    after: u32,
+    behind: u32,
 ) -> u32
-    ensures spliced { (cut : Cut) (t : List Place) → IsAfter cut (place_of before) → IsBefore cut (place_of after)
+    ensures spliced { (cut : Cut) (t : List Place) → IsAfter cut (place_of before) → IsBefore cut (place_of behind)
         → Spliced table.old table.new list.old list.new result given.old cut t }
     ensures emptied { result ≡ 0 → given.new ≡ words_of no_members }
     ensures before { result ≡ 0 → StandsIn table.old (place_of before) }
-    ensures after { result ≡ 0 → StandsIn table.old (place_of after) }
-    ensures told { result ≡ 0 → TellsGap (table_of table.old) (ends_of list.old) (place_of before) (place_of after) }
+    ensures behind { result ≡ 0 → StandsIn table.old (place_of behind) }
+    ensures told { result ≡ 0 → TellsGap (table_of table.old) (ends_of list.old) (place_of before) (place_of behind) }
     ensures ends { result ≡ 0 → TellsEnds (table_of table.old) (ends_of given.old) }
     ensures apart { result ≡ 0 → (p : Place) → (ends_of given.old).head ≡ Some p → (ends_of list.old).head ≢ Some p }
     ensures words { result ≡ 0 → list.new ≡ words_of (ends_of list.new) }
     ensures refused { result ≢ 0 → (table.new ≡ table.old) × (list.new ≡ list.old) × (given.new ≡ given.old) }
-    ensures why { result ≢ 0 → result ≡ refusal (fault_at table.old (place_of before) ∷ fault_at table.old (place_of after) ∷ []) }
+    ensures why { result ≢ 0 → result ≡ refusal (fault_at table.old (place_of before) ∷ fault_at table.old (place_of behind) ∷ []) }
     ensures status { IsStatus result }
 {
-    xor_calls::splice_between(table, list, before, given, after)
+    xor_calls::splice_between(table, list, before, given, behind)
 }
 
 /// Puts all of the given list behind all members, and leaves the given one empty. O(1).
@@ -230,7 +230,7 @@ pub extern "C" fn ic_xor_append(
     xor_calls::append(table, list, given)
 }
 
-/// Cuts the list between the neighbors `before` and `after`, and hands out what stands behind the cut. O(1).
+/// Cuts the list between the neighbors `before` and `behind`, and hands out what stands behind the cut. O(1).
 ///
 /// Where the words tell of no gap between the two, and where `rest` is not empty, it returns [`BROKEN`](crate::BROKEN).
 #[unsafe(no_mangle)]
@@ -238,22 +238,22 @@ pub extern "C" fn ic_xor_split_between(
     table: &mut [RawOne],
     list: &mut RawEnds,
     before: u32,
-    after: u32,
+    behind: u32,
     rest: &mut RawEnds,
 ) -> u32
-    ensures split { (cut : Cut) → IsAfter cut (place_of before) → IsBefore cut (place_of after) → ends_of rest.old ≡ no_members
+    ensures split { (cut : Cut) → IsAfter cut (place_of before) → IsBefore cut (place_of behind) → ends_of rest.old ≡ no_members
         → Split table.old table.new list.old list.new result rest.new cut }
     ensures empty { result ≡ 0 → ends_of rest.old ≡ no_members }
     ensures before { result ≡ 0 → StandsIn table.old (place_of before) }
-    ensures after { result ≡ 0 → StandsIn table.old (place_of after) }
-    ensures told { result ≡ 0 → TellsGap (table_of table.old) (ends_of list.old) (place_of before) (place_of after) }
+    ensures behind { result ≡ 0 → StandsIn table.old (place_of behind) }
+    ensures told { result ≡ 0 → TellsGap (table_of table.old) (ends_of list.old) (place_of before) (place_of behind) }
     ensures words { result ≡ 0 → list.new ≡ words_of (ends_of list.new) }
     ensures rest { result ≡ 0 → rest.new ≡ words_of (ends_of rest.new) }
     ensures refused { result ≢ 0 → (table.new ≡ table.old) × (list.new ≡ list.old) × (rest.new ≡ rest.old) }
-    ensures why { result ≢ 0 → result ≡ refusal (fault_at table.old (place_of before) ∷ fault_at table.old (place_of after) ∷ []) }
+    ensures why { result ≢ 0 → result ≡ refusal (fault_at table.old (place_of before) ∷ fault_at table.old (place_of behind) ∷ []) }
     ensures status { IsStatus result }
 {
-    xor_calls::split_between(table, list, before, after, rest)
+    xor_calls::split_between(table, list, before, behind, rest)
 }
 
 /// Takes all members off, which are unlinked then. O(n).
