@@ -24,9 +24,10 @@ module _ (old new : List RawTwo) (status : ℕ) where
   -- THE PLACE BESIDE A HEAD LEAVES ITS RING, and its number is handed out, in words that said `was`
   pub record PopCall (was popped : ℕ) (side : Side) (head : Option Place) : Type 0 where
     pub taken : (h p : Place) (r : List Place) → head ≡ Some h → IsCircle (table_of old) (put_in side h p r)
-        → IsAccepted status (Makes (table_of old) (table_of new) (put_in side h p r) (h ∷ r) × HasNumber p popped)
+        → IsAccepted status
+        (Makes (table_of old) (table_of new) (put_in side h p r) (h ∷ r) × IsUnlinked is_linked_two (table_of new) p × HasNumber p popped)
     pub empty : (h : Place) → head ≡ Some h → IsCircle (table_of old) (h ∷ []) → status ≡ NULL
-    pub out : status ≡ OK → (p : Place) × HasNumber p popped × IsLinked is_linked_two (table_of old) p × IsUnlinked is_linked_two (table_of new) p
+    pub linked : status ≡ OK → (p : Place) × HasNumber p popped × IsLinked is_linked_two (table_of old) p
     pub none : head ≡ None → status ≡ NULL
     pub null : (h : Place) → head ≡ Some h → status ≡ NULL → IsTold (table_of old) h h
     pub refused : status ≢ OK → (new ≡ old) × (popped ≡ was)
@@ -36,10 +37,9 @@ module _ (old new : List RawTwo) (status : ℕ) where
   -- A PLACE STANDS WHERE ANOTHER ONE DID, which leaves its ring
   pub record ReplaceCall (at place : Option Place) : Type 0 where
     pub replaced : (h p : Place) (r : List Place) → at ≡ Some h → place ≡ Some p → FreeIn old p → IsCircle (table_of old) (h ∷ r)
-        → IsAccepted status (Makes (table_of old) (table_of new) (p ∷ h ∷ r) (p ∷ r))
+        → IsAccepted status (Makes (table_of old) (table_of new) (p ∷ h ∷ r) (p ∷ r) × IsUnlinked is_linked_two (table_of new) h)
     pub free : (p : Place) → place ≡ Some p → status ≡ OK → FreeIn old p
     pub no_place : place ≡ None → status ≢ OK
-    pub out : (h : Place) → at ≡ Some h → status ≡ OK → IsUnlinked is_linked_two (table_of new) h
     pub told : (h : Place) → at ≡ Some h → status ≡ OK → IsAmid old h
     pub null : (status ≡ NULL) ↔ (at ≡ None)
     pub refused : status ≢ OK → new ≡ old

@@ -1,11 +1,10 @@
-use Rattle.std.proofs.Common.{◌≡◌, Some, [], ◌∷◌, ◌++◌, refl, sym, ap, ◌∙◌, rules, arith, common_steps}
+use Rattle.std.proofs.Common.{◌≡◌, Some, [], ◌∷◌, ◌++◌, refl, sym, ap, ◌∙◌, rules}
 use Rattle.ic_link_ops.proofs.SequenceLemmas.{none_not, some_same}
 use Rattle.ic_raw.specs.Doubly.{lent_table}
-use Rattle.ic_raw.specs.Ring.{IsCircle, Makes, MakesTwo, put_in, all_put_in}
+use Rattle.ic_raw.specs.Ring.{IsCircle, Makes, put_in}
 use Rattle.ic_raw.specs.Words.{no_words, is_linked_two}
-use Rattle.ic_raw.proofs.Gaps.{never}
-use Rattle.ic_raw.proofs.Rings.{circle_viewed, makes_back, makes_two_back, linked_back, amid_back, same_back}
-use Rattle.ic_raw.proofs.Views.{free_viewed, unlinked_back}
+use Rattle.ic_raw.proofs.Rings.{circle_viewed, makes_back, linked_back}
+use Rattle.ic_raw.proofs.Views.{unlinked_back}
 use Rattle.ic_raw.proofs.ring_calls.pop.Goals as goal
 
 pub returns : goal.returns
@@ -20,17 +19,16 @@ returns c =
           let got = c.pop.ensures.popped p r here in
           let out : member ≡ p = some_same (sym c.in-Some-pop.is ∙ got.0) in
           let named : Makes (lent_table links) (lent_table c.pop.new.links) (put_in c.args.side h p r) (h ∷ r) = rw same at got.1 in
-          record { accepted = refl; done = (makes_back links c.pop.new.links view (search rules) named, rw out at c.number_of.ensures) };
+          let off = c.pop.ensures.unlinked p (c.in-Some-pop.is ∙ ap Some out) in
+          record {
+            accepted = refl;
+            done = (makes_back links c.pop.new.links view (search rules) named, unlinked_back no_words is_linked_two c.pop.new.links p (search rules) off, rw out at c.number_of.ensures);
+          };
       empty = λ h is circle.
           let same : c.in-Some.place ≡ h = some_same (sym c.in-Some.is ∙ c.place_of.ensures ∙ is) in
           let here : IsCircle (lent_table links) (c.in-Some.place ∷ []) = rw same (circle_viewed links view circle) in
           absurd (none_not member (sym (c.pop.ensures.empty here) ∙ c.in-Some-pop.is));
-      out = λ ok. (
-          member,
-          c.number_of.ensures,
-          linked_back links member view (c.pop.ensures.linked member c.in-Some-pop.is),
-          unlinked_back no_words is_linked_two c.pop.new.links member (grind (arith, common_steps)) (c.pop.ensures.unlinked member c.in-Some-pop.is),
-      );
+      linked = λ ok. (member, c.number_of.ensures, linked_back links member view (c.pop.ensures.linked member c.in-Some-pop.is));
       none = search rules;
       null = search rules;
       refused = search rules;

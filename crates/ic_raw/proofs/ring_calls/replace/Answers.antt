@@ -1,10 +1,10 @@
-use Rattle.std.proofs.Common.{◌≡◌, Some, [], ◌∷◌, ◌++◌, refl, sym, ap, ◌∙◌, rules, arith, common_steps}
+use Rattle.std.proofs.Common.{◌≡◌, Some, [], ◌∷◌, ◌++◌, refl, sym, ap, ◌∙◌, rules}
 use Rattle.ic_link_ops.proofs.SequenceLemmas.{none_not, some_same}
 use Rattle.ic_raw.specs.Doubly.{lent_table}
-use Rattle.ic_raw.specs.Ring.{IsCircle, Makes, MakesTwo, put_in, all_put_in}
+use Rattle.ic_raw.specs.Ring.{IsCircle, Makes}
 use Rattle.ic_raw.specs.Words.{no_words, is_linked_two}
 use Rattle.ic_raw.proofs.Gaps.{never}
-use Rattle.ic_raw.proofs.Rings.{circle_viewed, makes_back, makes_two_back, linked_back, amid_back, same_back}
+use Rattle.ic_raw.proofs.Rings.{circle_viewed, makes_back, amid_back}
 use Rattle.ic_raw.proofs.Views.{free_viewed, unlinked_back}
 use Rattle.ic_raw.proofs.ring_calls.replace.Goals as goal
 
@@ -19,7 +19,6 @@ returns-then-not-replace c =
           absurd (never c.if-not-replace.true (c.replace.ensures.replaced p r (c.place_of-2.ensures ∙ is_place) (free_viewed no_words links view free) here).0);
       free = search rules;
       no_place = search rules;
-      out = search rules;
       told = search rules;
       null = search rules;
       refused = search rules;
@@ -37,12 +36,13 @@ returns c =
           let here : IsCircle (lent_table links) (c.in-Some.member ∷ r) = rw same (circle_viewed links view circle) in
           let got = (c.replace.ensures.replaced p r (c.place_of-2.ensures ∙ is_place) (free_viewed no_words links view free) here).1 in
           let named : Makes (lent_table links) (lent_table c.replace.new.links) (p ∷ h ∷ r) (p ∷ r) = rw same at got in
-          record { accepted = refl; done = makes_back links c.replace.new.links view (search rules) named };
+          let off = rw same at (c.replace.ensures.unlinked c.if-not-replace.false) in
+          record {
+            accepted = refl;
+            done = (makes_back links c.replace.new.links view (search rules) named, unlinked_back no_words is_linked_two c.replace.new.links h (search rules) off);
+          };
       free = search rules;
       no_place = search rules;
-      out = λ h is ok.
-          let same : c.in-Some.member ≡ h = some_same (sym c.in-Some.is ∙ c.place_of.ensures ∙ is) in
-          unlinked_back no_words is_linked_two c.replace.new.links h (grind (arith, common_steps)) (rw same at (c.replace.ensures.unlinked c.if-not-replace.false));
       told = λ h is ok.
           let same : c.in-Some.member ≡ h = some_same (sym c.in-Some.is ∙ c.place_of.ensures ∙ is) in
           rw same at (amid_back links view (c.replace.ensures.before c.if-not-replace.false) (c.replace.ensures.behind c.if-not-replace.false));
