@@ -2,6 +2,7 @@
 use Rattle.std.specs.declared.cmp.Ordering.{Ordering}
 use Rattle.std.proofs.Common.{◌≡◌, ◌≢◌, ◌≤◌, ◌+◌, true, false, Option, None, List, [], ◌∷◌, refl, sym, ap, ◌∙◌, subst, arith, inl, inr}
 use Rattle.ic_unsafe_ref.specs.declared.place.Place.{Place}
+use Rattle.ic_unsafe_ref.specs.Objects.{Objects}
 use Rattle.ic_unsafe_ref.proofs.PlaceLemmas.{same_or_not}
 use Rattle.ic_link_ops.specs.declared.side.Side.{Side}
 use Rattle.ic_link_ops.specs.Sequences.{Cut, join, insert, IsAbsent, IsDisjoint}
@@ -13,6 +14,7 @@ use Rattle.ic_link_ops.proofs.Times.{one_at_self, one_at_other, times_append, ti
 use Rattle.ic_link_ops.proofs.SequenceLemmas.{disjoint_cons}
 use Rattle.ic_link_ops.proofs.ShownTrees.{holds_once, shows_beside, shows_frame, free_absent, one_sequence}
 use Rattle.ic_rbtree.specs.Closed.{IsNode}
+use Rattle.ic_rbtree.specs.Comparing.{compared, own_order}
 use Rattle.ic_rbtree.specs.Height.{height}
 use Rattle.ic_rbtree.specs.Insertion.{IsHole, Attaches}
 use Rattle.ic_rbtree.specs.Ordered.{InsertsInOrder}
@@ -68,6 +70,15 @@ module _ {E : Type 0} (n : E → Node) where
       let only : ChangesOnly v v p = record { extent = refl; others = λ q other. refl } in
       let put = inserts n v v w root new_root p gap only (done v gap [] (loose_shown v root (join gap) p h out linked) hole) in
       shows_frame k (disjoint_cons p t (join gap) absent apart) put.frame
+
+-- an insert in order, by the object's own key among the values that stood before
+pub own_searched : {E H V K : Type 0} {Shows : Table E → H → List Place → Type 0} {old w : Table E} {head : H} {s : List Place} (cmp : K → K → Ordering) (key_of : V → K)
+    {order : V → Ordering} {before after : Objects V} {place object : Place} → place ≡ object → after ≡ before → order ≡ own_order cmp key_of after place
+    → InsertsInOrder Shows (compared order after) old w head s place → InsertsInOrder Shows (compared (own_order cmp key_of before object) before) old w head s object
+own_searched {V = V} {Shows = Shows} {old} {w} {head} {s} cmp key_of {before = before} {after} {place} same stay own i =
+    subst (λ (p : Place). InsertsInOrder Shows (compared (own_order cmp key_of before p) before) old w head s p) same
+    (subst (λ (o : Objects V). InsertsInOrder Shows (compared (own_order cmp key_of o place) o) old w head s place) stay
+    (subst (λ (o : V → Ordering). InsertsInOrder Shows (compared o after) old w head s place) own i))
 
 module _ {E S : Type 0} (n : E → Node) where
   fewer_consistent : (v : Table E) (z : Sums S) (s t : List Place) → ((q : Place) → times_in q t ≤ times_in q s) → IsConsistent n v z s → IsConsistent n v z t

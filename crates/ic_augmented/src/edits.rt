@@ -9,12 +9,13 @@
 
 ghost use Rattle.std.specs.Prelude.{◌≡◌, Option, Some, List, [], ◌∷◌, ◌++◌};
 ghost use Rattle.ic_unsafe_ref.specs.declared.place.Place.{Place};
-ghost use Rattle.ic_link_ops.specs.Sequences.{Cut, join, insert, IsAbsent, IsDisjoint};
+ghost use Rattle.ic_link_ops.specs.Sequences.{Cut, join, insert, IsAbsent, IsDisjoint, IsDistinct};
 ghost use Rattle.ic_link_ops.specs.Positions.{HasMember};
 ghost use Rattle.ic_link_ops.specs.RedBlackTree.{Shows};
 ghost use Rattle.ic_rbtree.specs.Closed.{IsNode, IsSafeBut, KeepsNodes};
 ghost use Rattle.ic_rbtree.specs.Insertion.{IsHole, Attaches};
-ghost use Rattle.ic_rbtree.specs.Tree.{root_of, adapter_of};
+ghost use Rattle.ic_rbtree.specs.Kept.{TellsEnds, IsBelow};
+ghost use Rattle.ic_rbtree.specs.Tree.{head_of, root_in, adapter_of};
 ghost use Rattle.ic_augmented.specs.Summed.{links_of, sums_of};
 ghost use Rattle.ic_augmented.specs.Consistent.{IsSameAt, ShowsConsistent, ShowsSummed};
 
@@ -24,7 +25,7 @@ use crate::stale::{invalidate_up, refresh_below, refresh_path};
 use crate::summed::Summed;
 use crate::sums::RenewSums;
 use ic_link_ops::Side;
-use ic_rbtree::{Nodes, RBTree};
+use ic_rbtree::{Nodes, RBTree, TreeHead};
 use ic_unsafe_ref::Place;
 
 /// Puts `place` in, as [`RBTree::attach`] does, and renews the stale summaries of the tree: then it is summed.
@@ -32,29 +33,31 @@ use ic_unsafe_ref::Place;
 /// It does what `RBTree::attach` and [`refresh`] do, and is faster: the summaries above the place are renewed as far as they change, each by what has
 /// changed below. Each fresh summary of another tree in the table stays right. It requires what `RBTree::attach` requires, that the links show a
 /// tree with this hole, and that there is room for a summary at each linked place. O(log n + v) for v summaries that were stale before.
-pub fn attach_fresh<A, N: Nodes, M: RenewSums>(
-    tree: &mut RBTree<A>,
+pub fn attach_fresh<A, E: TreeHead, N: Nodes, M: RenewSums>(
+    tree: &mut RBTree<A, E>,
     summed: &mut Summed<N, M>,
     parent: Option<Place>,
     side: Side,
     place: Place,
 )
-    requires safe { IsSafeBut N.node (N.table (links_of summed.old)) (root_of tree.old) place (Some place ∷ parent ∷ []) }
+    requires safe { IsSafeBut N.node (N.table (links_of summed.old)) (root_in E.kept tree.old) place (Some place ∷ parent ∷ []) }
     requires hole { (gap : Cut) × IsNode N.node (N.table (links_of summed.old)) place × IsAbsent place (join gap)
-        × Shows N.node (N.table (links_of summed.old)) (root_of tree.old) (join gap) × IsHole N.node (N.table (links_of summed.old)) parent side gap }
+        × Shows N.node (N.table (links_of summed.old)) (root_in E.kept tree.old) (join gap) × IsHole N.node (N.table (links_of summed.old)) parent side gap }
     requires covered { (q : Place) → IsNode N.node (N.table (links_of summed.old)) q → M.Covers (sums_of summed.old) q }
     ensures summed { (gap : Cut) → IsNode N.node (N.table (links_of summed.old)) place → IsAbsent place (join gap)
-        → ShowsConsistent N.node (M.sums (sums_of summed.old)) (N.table (links_of summed.old)) (root_of tree.old) (join gap)
+        → ShowsConsistent N.node (M.sums (sums_of summed.old)) (N.table (links_of summed.old)) (root_in E.kept tree.old) (join gap)
         → IsHole N.node (N.table (links_of summed.old)) parent side gap
-        → ShowsSummed N.node (M.sums (sums_of summed.new)) (N.table (links_of summed.new)) (root_of tree.new) (insert gap place) }
+        → ShowsSummed N.node (M.sums (sums_of summed.new)) (N.table (links_of summed.new)) (root_in E.kept tree.new) (insert gap place) }
     ensures consistent { (gap : Cut) → IsNode N.node (N.table (links_of summed.old)) place → IsAbsent place (join gap)
-        → ShowsConsistent N.node (M.sums (sums_of summed.old)) (N.table (links_of summed.old)) (root_of tree.old) (join gap)
+        → ShowsConsistent N.node (M.sums (sums_of summed.old)) (N.table (links_of summed.old)) (root_in E.kept tree.old) (join gap)
         → IsHole N.node (N.table (links_of summed.old)) parent side gap
-        → ShowsConsistent N.node (M.sums (sums_of summed.new)) (N.table (links_of summed.new)) (root_of tree.new) (insert gap place) }
-    ensures others { (s t : List Place) (other : Option Place) → Shows N.node (N.table (links_of summed.old)) (root_of tree.old) s → IsDisjoint t s → IsAbsent place t
+        → ShowsConsistent N.node (M.sums (sums_of summed.new)) (N.table (links_of summed.new)) (root_in E.kept tree.new) (insert gap place) }
+    ensures others { (s t : List Place) (other : Option Place) → Shows N.node (N.table (links_of summed.old)) (root_in E.kept tree.old) s → IsDisjoint t s → IsAbsent place t
         → ShowsConsistent N.node (M.sums (sums_of summed.old)) (N.table (links_of summed.old)) other t
         → ShowsConsistent N.node (M.sums (sums_of summed.new)) (N.table (links_of summed.new)) other t }
-    ensures attached { Attaches N.node (N.table (links_of summed.old)) (N.table (links_of summed.new)) (root_of tree.old) (root_of tree.new) parent side place }
+    ensures attached { Attaches N.node (N.table (links_of summed.old)) (N.table (links_of summed.new)) (root_in E.kept tree.old) (root_in E.kept tree.new) parent side place }
+    ensures ends { (gap : Cut) → IsBelow parent side gap → IsDistinct (join gap) → TellsEnds (E.kept (head_of tree.old)) (join gap)
+        → TellsEnds (E.kept (head_of tree.new)) (insert gap place) }
     ensures linked { KeepsNodes N.node (N.table (links_of summed.old)) (N.table (links_of summed.new)) }
     ensures quiet { N.Quiet (links_of summed.old) (links_of summed.new) }
     ensures join { (M.sums (sums_of summed.new)).join ≡ (M.sums (sums_of summed.old)).join }
@@ -71,16 +74,19 @@ pub fn attach_fresh<A, N: Nodes, M: RenewSums>(
 /// Renews the stale summaries of the tree: then it is summed. The links stay, and so does all that is kept at places outside the tree.
 ///
 /// It requires that the links show a tree, and that there is room for a summary at each linked place. O(v) for v stale summaries.
-pub fn refresh<A, N: Nodes, M: RenewSums>(tree: &RBTree<A>, summed: &mut Summed<N, M>)
-    requires shown { (s : List Place) × Shows N.node (N.table (links_of summed.old)) (root_of tree.now) s }
+pub fn refresh<A, E: TreeHead, N: Nodes, M: RenewSums>(
+    tree: &RBTree<A, E>,
+    summed: &mut Summed<N, M>,
+)
+    requires shown { (s : List Place) × Shows N.node (N.table (links_of summed.old)) (root_in E.kept tree.now) s }
     requires covered { (q : Place) → IsNode N.node (N.table (links_of summed.old)) q → M.Covers (sums_of summed.old) q }
     ensures summed { (s : List Place)
-        → ShowsConsistent N.node (M.sums (sums_of summed.old)) (N.table (links_of summed.old)) (root_of tree.now) s
-        → ShowsSummed N.node (M.sums (sums_of summed.new)) (N.table (links_of summed.new)) (root_of tree.now) s }
+        → ShowsConsistent N.node (M.sums (sums_of summed.old)) (N.table (links_of summed.old)) (root_in E.kept tree.now) s
+        → ShowsSummed N.node (M.sums (sums_of summed.new)) (N.table (links_of summed.new)) (root_in E.kept tree.now) s }
     ensures consistent { (s : List Place)
-        → ShowsConsistent N.node (M.sums (sums_of summed.old)) (N.table (links_of summed.old)) (root_of tree.now) s
-        → ShowsConsistent N.node (M.sums (sums_of summed.new)) (N.table (links_of summed.new)) (root_of tree.now) s }
-    ensures others { (s : List Place) → Shows N.node (N.table (links_of summed.old)) (root_of tree.now) s → (q : Place) → IsAbsent q s
+        → ShowsConsistent N.node (M.sums (sums_of summed.old)) (N.table (links_of summed.old)) (root_in E.kept tree.now) s
+        → ShowsConsistent N.node (M.sums (sums_of summed.new)) (N.table (links_of summed.new)) (root_in E.kept tree.now) s }
+    ensures others { (s : List Place) → Shows N.node (N.table (links_of summed.old)) (root_in E.kept tree.now) s → (q : Place) → IsAbsent q s
         → IsSameAt (M.sums (sums_of summed.old)) (M.sums (sums_of summed.new)) q }
     ensures join { (M.sums (sums_of summed.new)).join ≡ (M.sums (sums_of summed.old)).join }
     ensures covers { (q : Place) → M.Covers (sums_of summed.old) q → M.Covers (sums_of summed.new) q }

@@ -12,8 +12,9 @@ ghost use Rattle.ic_link_ops.specs.RedBlackTree.{Shows};
 ghost use Rattle.ic_link_ops.specs.Sequences.{IsDisjoint};
 ghost use Rattle.ic_link_ops.specs.Tables.{IsCovered};
 ghost use Rattle.ic_rbtree.specs.Comparing.{compared, own_order};
+ghost use Rattle.ic_rbtree.specs.Kept.{ShowsKept};
 ghost use Rattle.ic_rbtree.specs.Ordered.{InsertsInOrder};
-ghost use Rattle.ic_rbtree.specs.Tree.{root_of, adapter_of};
+ghost use Rattle.ic_rbtree.specs.Tree.{head_of, root_in, adapter_of};
 ghost use Rattle.ic_augmented.specs.Summed.{links_of, sums_of};
 ghost use Rattle.ic_augmented.specs.Consistent.{ShowsConsistent, ShowsSummed};
 
@@ -22,33 +23,38 @@ use crate::summed::Summed;
 use crate::sums::RenewSums;
 use ic_link_ops::rbtree::RBTreeOps;
 use ic_link_ops::{AlreadyLinked, LinkOps, LinkValues, Side};
-use ic_rbtree::{KeyAdapter, KeyProbe, RBTree};
+use ic_rbtree::{KeyAdapter, KeyProbe, RBTree, TreeHead};
 use ic_unsafe_ref::{UnsafeRef, Values};
 
 /// Inserts the object as [`RBTree::insert_keyed`] does, and renews the stale summaries of the tree: then it is summed.
 ///
-/// It does what `insert_keyed` and [`refresh`](crate::refresh) do, and is faster. Each fresh summary of another tree in the table stays right. It
-/// requires that the object's place is covered, that the links show a tree, and that there is room for a summary at each covered place. A refused
-/// object comes back, and the tree, its links and its summaries are as they were. O(log n + v) for v summaries that were stale before.
-pub fn insert_fresh<A: KeyAdapter, L: RBTreeOps + LinkValues<A::Value>, M: RenewSums>(
-    tree: &mut RBTree<A>,
+/// It does what `insert_keyed` and [`refresh`](crate::refresh) do, and is faster, but it descends also where the last member is kept. Each fresh
+/// summary of another tree in the table stays right. It requires that the object's place is covered, that the links show a tree, and that there is
+/// room for a summary at each covered place. A refused object comes back, and the tree, its links and its summaries are as they were.
+/// O(log n + v) for v summaries that were stale before.
+pub fn insert_fresh<A: KeyAdapter, E: TreeHead, L: RBTreeOps + LinkValues<A::Value>, M: RenewSums>(
+    tree: &mut RBTree<A, E>,
     summed: &mut Summed<L, M>,
     object: UnsafeRef<A::Value>,
 ) -> Result<(), AlreadyLinked<A::Value>>
     requires covered { IsCovered (L.table (links_of summed.old)) object }
-    requires shown { (s : List Place) × Shows L.node (L.table (links_of summed.old)) (root_of tree.old) s }
+    requires shown { (s : List Place) × Shows L.node (L.table (links_of summed.old)) (root_in E.kept tree.old) s }
     requires room { (q : Place) → IsCovered (L.table (links_of summed.old)) q → M.Covers (sums_of summed.old) q }
     ensures inserted { (s : List Place)
-        → ShowsConsistent L.node (M.sums (sums_of summed.old)) (L.table (links_of summed.old)) (root_of tree.old) s
+        → ShowsConsistent L.node (M.sums (sums_of summed.old)) (L.table (links_of summed.old)) (root_in E.kept tree.old) s
         → OnOk result (InsertsInOrder (ShowsSummed L.node (M.sums (sums_of summed.new)))
         (compared (own_order A.Key.cmp (A.key_of (adapter_of tree.old)) (L.values (links_of summed.old)) object) (L.values (links_of summed.old)))
-        (L.table (links_of summed.old)) (L.table (links_of summed.new)) (root_of tree.new) s object) }
+        (L.table (links_of summed.old)) (L.table (links_of summed.new)) (root_in E.kept tree.new) s object) }
     ensures consistent { (s : List Place)
-        → ShowsConsistent L.node (M.sums (sums_of summed.old)) (L.table (links_of summed.old)) (root_of tree.old) s
+        → ShowsConsistent L.node (M.sums (sums_of summed.old)) (L.table (links_of summed.old)) (root_in E.kept tree.old) s
         → OnOk result (InsertsInOrder (ShowsConsistent L.node (M.sums (sums_of summed.new)))
         (compared (own_order A.Key.cmp (A.key_of (adapter_of tree.old)) (L.values (links_of summed.old)) object) (L.values (links_of summed.old)))
-        (L.table (links_of summed.old)) (L.table (links_of summed.new)) (root_of tree.new) s object) }
-    ensures others { (s t : List Place) (other : Option Place) → Shows L.node (L.table (links_of summed.old)) (root_of tree.old) s → IsDisjoint t s
+        (L.table (links_of summed.old)) (L.table (links_of summed.new)) (root_in E.kept tree.new) s object) }
+    ensures kept { (s : List Place) → ShowsKept E.kept L.node (L.table (links_of summed.old)) (head_of tree.old) s
+        → OnOk result (InsertsInOrder (ShowsKept E.kept L.node)
+        (compared (own_order A.Key.cmp (A.key_of (adapter_of tree.old)) (L.values (links_of summed.old)) object) (L.values (links_of summed.old)))
+        (L.table (links_of summed.old)) (L.table (links_of summed.new)) (head_of tree.new) s object) }
+    ensures others { (s t : List Place) (other : Option Place) → Shows L.node (L.table (links_of summed.old)) (root_in E.kept tree.old) s → IsDisjoint t s
         → ShowsConsistent L.node (M.sums (sums_of summed.old)) (L.table (links_of summed.old)) other t
         → ShowsConsistent L.node (M.sums (sums_of summed.new)) (L.table (links_of summed.new)) other t }
     ensures acquired { OnOk result (L.Does (links_of summed.old) (links_of summed.new) (acquires object ∷ [])) }

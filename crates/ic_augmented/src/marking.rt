@@ -6,9 +6,11 @@
 
 ghost use Rattle.std.specs.Prelude.{◌≡◌, ◌⊎◌, Some, None, List, [], ◌∷◌};
 ghost use Rattle.ic_unsafe_ref.specs.declared.place.Place.{Place};
+ghost use Rattle.ic_link_ops.specs.Sequences.{Cut, join, insert, IsDistinct};
 ghost use Rattle.ic_rbtree.specs.Closed.{IsSafeBut, KeepsNodes};
 ghost use Rattle.ic_rbtree.specs.Insertion.{Attaches};
-ghost use Rattle.ic_rbtree.specs.Tree.{root_of, adapter_of};
+ghost use Rattle.ic_rbtree.specs.Kept.{TellsEnds, IsBelow};
+ghost use Rattle.ic_rbtree.specs.Tree.{head_of, root_in, adapter_of};
 ghost use Rattle.ic_augmented.specs.Consistent.{IsConsistent, IsConsistentBut, KeepsEdge};
 ghost use Rattle.ic_augmented.specs.Summed.{links_of, sums_of};
 
@@ -16,7 +18,7 @@ use crate::stale::invalidate_from;
 use crate::summed::Summed;
 use crate::sums::Sums;
 use ic_link_ops::Side;
-use ic_rbtree::{Color, Nodes, RBTree};
+use ic_rbtree::{Color, Nodes, RBTree, TreeHead};
 use ic_unsafe_ref::Place;
 
 /// Links and summaries, and the place whose child was written and whose summary was left as it was, if there is one.
@@ -122,15 +124,17 @@ impl<N: Nodes, M: Sums> Nodes for Marking<'_, N, M> {
 }
 
 // Puts the place in, as `RBTree::attach` does, and tells the edge: above the stale summaries, with one that is as it was and may be wrong.
-pub(crate) fn attach_marking<A, N: Nodes, M: Sums>(
-    tree: &mut RBTree<A>,
+pub(crate) fn attach_marking<A, E: TreeHead, N: Nodes, M: Sums>(
+    tree: &mut RBTree<A, E>,
     summed: &mut Summed<N, M>,
     parent: Option<Place>,
     side: Side,
     place: Place,
 ) -> Option<Place>
-    requires { IsSafeBut N.node (N.table (links_of summed.old)) (root_of tree.old) place (Some place ∷ parent ∷ []) }
-    ensures attached { Attaches N.node (N.table (links_of summed.old)) (N.table (links_of summed.new)) (root_of tree.old) (root_of tree.new) parent side place }
+    requires { IsSafeBut N.node (N.table (links_of summed.old)) (root_in E.kept tree.old) place (Some place ∷ parent ∷ []) }
+    ensures attached { Attaches N.node (N.table (links_of summed.old)) (N.table (links_of summed.new)) (root_in E.kept tree.old) (root_in E.kept tree.new) parent side place }
+    ensures ends { (gap : Cut) → IsBelow parent side gap → IsDistinct (join gap) → TellsEnds (E.kept (head_of tree.old)) (join gap)
+        → TellsEnds (E.kept (head_of tree.new)) (insert gap place) }
     ensures linked { KeepsNodes N.node (N.table (links_of summed.old)) (N.table (links_of summed.new)) }
     ensures quiet { N.Quiet (links_of summed.old) (links_of summed.new) }
     ensures consistent { (s : List Place) → IsConsistent N.node (N.table (links_of summed.old)) (M.sums (sums_of summed.old)) s

@@ -16,7 +16,7 @@ ghost use Rattle.ic_link_ops.specs.Tables.{Table};
 ghost use Rattle.ic_link_ops.specs.Trees.{Tree, top, in_order};
 ghost use Rattle.ic_rbtree.specs.Borders.{IsSorted};
 ghost use Rattle.ic_rbtree.specs.Height.{height};
-ghost use Rattle.ic_rbtree.specs.Tree.{root_of};
+ghost use Rattle.ic_rbtree.specs.Tree.{root_in};
 ghost use Rattle.ic_augmented.specs.Consistent.{ShowsSummed};
 ghost use Rattle.ic_augmented.specs.Greatest.{greatest, number_at};
 ghost use Rattle.ic_augmented.specs.Intervals.{start_in, overlaps};
@@ -27,7 +27,7 @@ ghost use Rattle.ic_augmented.specs.Sums.{IsSummed};
 use crate::greatest::Greatest;
 use crate::ranks::is_at;
 use crate::summed::Summed;
-use ic_rbtree::{Nodes, RBTree};
+use ic_rbtree::{Nodes, RBTree, TreeHead};
 use ic_unsafe_ref::{Place, Values};
 use std::alloc::Allocator;
 
@@ -69,16 +69,16 @@ fn first_overlap_below<N: Nodes, O: Values<u64>, A: Allocator>(
 /// The end of each interval is the number at its place in the summaries, and its start the number that `starts` has for it, by which the tree is
 /// in order. It requires that the links show a
 /// tree with a start at each member. It finds none where no member overlaps. O(log n).
-pub fn first_overlap<T, N: Nodes, O: Values<u64>, A: Allocator>(
-    tree: &RBTree<T>,
+pub fn first_overlap<T, E: TreeHead, N: Nodes, O: Values<u64>, A: Allocator>(
+    tree: &RBTree<T, E>,
     summed: &Summed<N, Greatest<A>>,
     starts: &O,
     from: u64,
     to: u64,
 ) -> Option<Place>
-    requires { (s : List Place) × Shows N.node (N.table (links_of summed.now)) (root_of tree.now) s × ArePlaced (O.values starts.now) s }
+    requires { (s : List Place) × Shows N.node (N.table (links_of summed.now)) (root_in E.kept tree.now) s × ArePlaced (O.values starts.now) s }
     ensures { (s : List Place)
-        → ShowsSummed N.node (greatest (sums_of summed.now)) (N.table (links_of summed.now)) (root_of tree.now) s
+        → ShowsSummed N.node (greatest (sums_of summed.now)) (N.table (links_of summed.now)) (root_in E.kept tree.now) s
         → IsSorted nat_cmp (map (start_in (O.values starts.now)) s)
         → result ≡ first (filter (overlaps (start_in (O.values starts.now)) (number_at (sums_of summed.now)) from to) s) }
 {

@@ -15,7 +15,7 @@ ghost use Rattle.ic_link_ops.specs.Trees.{Tree, top, in_order};
 ghost use Rattle.ic_link_ops.specs.Tables.{Table};
 ghost use Rattle.ic_link_ops.specs.Walk.{is_end};
 ghost use Rattle.ic_rbtree.specs.Height.{height};
-ghost use Rattle.ic_rbtree.specs.Tree.{root_of};
+ghost use Rattle.ic_rbtree.specs.Tree.{root_in};
 ghost use Rattle.ic_augmented.specs.Counts.{counts};
 ghost use Rattle.ic_augmented.specs.Sums.{IsSummed};
 ghost use Rattle.ic_augmented.specs.Subtrees.{IsSubtree};
@@ -24,15 +24,18 @@ ghost use Rattle.ic_augmented.specs.Consistent.{ShowsSummed};
 
 use crate::counts::Counts;
 use crate::summed::Summed;
-use ic_rbtree::{Nodes, RBTree};
+use ic_rbtree::{Nodes, RBTree, TreeHead};
 use ic_unsafe_ref::Place;
 use std::alloc::Allocator;
 
 /// How many members the tree has. O(1).
 #[inline]
-pub fn len<T, N: Nodes, A: Allocator>(tree: &RBTree<T>, summed: &Summed<N, Counts<A>>) -> u64
+pub fn len<T, E: TreeHead, N: Nodes, A: Allocator>(
+    tree: &RBTree<T, E>,
+    summed: &Summed<N, Counts<A>>,
+) -> u64
     ensures { (s : List Place)
-        → ShowsSummed N.node (counts (sums_of summed.now)) (N.table (links_of summed.now)) (root_of tree.now) s
+        → ShowsSummed N.node (counts (sums_of summed.now)) (N.table (links_of summed.now)) (root_in E.kept tree.now) s
         → result ≡ length s }
 {
     summed.sums.total(tree.root())
@@ -68,14 +71,14 @@ fn nth_below<N: Nodes, A: Allocator>(
 }
 
 /// The member at a position, counted from 0, `None` from the tree's length on. O(log n).
-pub fn nth<T, N: Nodes, A: Allocator>(
-    tree: &RBTree<T>,
+pub fn nth<T, E: TreeHead, N: Nodes, A: Allocator>(
+    tree: &RBTree<T, E>,
     summed: &Summed<N, Counts<A>>,
     position: u64,
 ) -> Option<Place>
-    requires { (s : List Place) × ShowsSummed N.node (counts (sums_of summed.now)) (N.table (links_of summed.now)) (root_of tree.now) s }
+    requires { (s : List Place) × ShowsSummed N.node (counts (sums_of summed.now)) (N.table (links_of summed.now)) (root_in E.kept tree.now) s }
     ensures { (s : List Place)
-        → ShowsSummed N.node (counts (sums_of summed.now)) (N.table (links_of summed.now)) (root_of tree.now) s
+        → ShowsSummed N.node (counts (sums_of summed.now)) (N.table (links_of summed.now)) (root_in E.kept tree.now) s
         → result ≡ slice_get s position }
 {
     nth_below(&summed.links, &summed.sums, tree.root(), position, 67)

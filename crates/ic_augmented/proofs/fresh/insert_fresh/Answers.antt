@@ -1,18 +1,16 @@
 use Rattle.std.proofs.Common.{◌<◌, ◌∙◌, ap, refl, sym, subst, List}
 use Rattle.ic_unsafe_ref.specs.declared.place.Place.{Place}
 use Rattle.ic_unsafe_ref.specs.Places.{index_of}
-use Rattle.ic_unsafe_ref.specs.Objects.{Objects}
 use Rattle.ic_link_ops.specs.Sequences.{join}
 use Rattle.ic_link_ops.specs.RedBlackTree.{Shows}
 use Rattle.ic_link_ops.specs.Tables.{Table, Extent}
 use Rattle.ic_link_ops.proofs.ShownTrees.{free_absent}
-use Rattle.ic_rbtree.specs.Comparing.{compared, own_order}
-use Rattle.ic_rbtree.specs.Ordered.{InsertsInOrder}
-use Rattle.ic_rbtree.specs.Kept.{alone}
-use Rattle.ic_rbtree.proofs.PlacedMembers.{members_placed}
+use Rattle.ic_rbtree.specs.Kept.{alone, root_kept}
 use Rattle.ic_rbtree.proofs.InOrder.{ended_in_order, still_shown, fits_safe, fitted, own_is}
-use Rattle.ic_augmented.specs.Consistent.{ShowsConsistent, ShowsSummed}
-use Rattle.ic_augmented.proofs.EditLemmas.{free_member, acquired_consistent, beside_shows, inserts_summed, inserts_still}
+use Rattle.ic_rbtree.proofs.KeptHeads.{shown}
+use Rattle.ic_rbtree.proofs.PlacedMembers.{members_placed}
+use Rattle.ic_augmented.specs.Consistent.{ShowsConsistent}
+use Rattle.ic_augmented.proofs.EditLemmas.{free_member, acquired_consistent, beside_shows, own_searched, inserts_summed, inserts_still}
 use Rattle.ic_augmented.proofs.fresh.insert_fresh.Goals as goal
 
 pub descend-hole-requires-clause-placed : goal.descend-hole-requires-clause-placed
@@ -41,7 +39,7 @@ attach_fresh-requires-clause-hole g c =
     let l = g.met.L.LinkOps.does_replay _ _ _ c.if-not-acquire_link.ensures.acquired in
     let there = still_shown n g.L.LinkOps.linked alike l.was l.is c.acquire_link.ensures.frame r.1 in
     let x = ended_in_order n there (c.descend-hole.ensures.ends r.0 there) c.get.ensures in
-    (x.gap, alike _ ∙ l.is, free_member n _ _ r.0 (join x.gap) c.place-place.result x.same r.1 (alike _ ∙ l.was), subst (λ (s : List Place). Shows n (g.L.LinkOps.table c.acquire_link.new.self) c.args.tree.now.head s) (sym x.same) there, x.hole)
+    (x.gap, alike _ ∙ l.is, free_member n _ _ r.0 (join x.gap) c.place-place.result x.same r.1 (alike _ ∙ l.was), subst (λ (s : List Place). Shows n (g.L.LinkOps.table c.acquire_link.new.self) (root_kept (g.E.TreeHead.kept c.args.tree.now.head)) s) (sym x.same) there, x.hole)
 
 pub attach_fresh-requires-clause-covered : goal.attach_fresh-requires-clause-covered
 attach_fresh-requires-clause-covered g c q is =
@@ -49,52 +47,63 @@ attach_fresh-requires-clause-covered g c q is =
     (g.met.L.LinkOps.linked_is_covered _ q (sym (g.met.L.RBTreeOps.linked_alike _) ∙ is)))
 
 pub returns-clause-inserted : goal.returns-clause-inserted
-returns-clause-inserted g c s shown =
+returns-clause-inserted g c s was =
     let n = g.L.RBTreeOps.node in
+    let kept = g.E.TreeHead.kept in
     let alike = g.met.L.RBTreeOps.linked_alike in
     let l = g.met.L.LinkOps.does_replay _ _ _ c.if-not-acquire_link.ensures.acquired in
-    let own = own_order g.A.Key.Ord.cmp (g.A.KeyAdapter.key_of c.args.tree.now.adapter) in
-    let before = g.L.LinkOps.table c.args.summed.now.links in
-    let after = g.L.LinkOps.table c.attach_fresh.new.summed.links in
-    let new_sums = g.M.Sums.sums c.attach_fresh.new.summed.sums in
     let values = g.L.Values.values c.acquire_link.new.self in
-    let there = still_shown n g.L.LinkOps.linked alike l.was l.is c.acquire_link.ensures.frame shown.0 in
+    let there = still_shown n g.L.LinkOps.linked alike l.was l.is c.acquire_link.ensures.frame was.0 in
     let x = ended_in_order n there (c.descend-hole.ensures.ends s there) c.get.ensures in
     let free = alike _ ∙ l.was in
-    let kept = c.attach_fresh.ensures.summed x.gap (alike _ ∙ l.is) (free_member n _ _ s (join x.gap) c.place-place.result x.same shown.0 free)
-    (acquired_consistent n _ _ _ _ s (join x.gap) c.place-place.result x.same free c.acquire_link.ensures.frame shown) x.hole in
-    subst (λ (p : Place). InsertsInOrder (ShowsSummed n new_sums) (compared (own (g.L.Values.values c.args.summed.now.links) p) (g.L.Values.values c.args.summed.now.links)) before after c.attach_fresh.new.tree.head s p) c.place-place.ensures
-    (subst (λ (o : Objects g.row.A-Value.Denot). InsertsInOrder (ShowsSummed n new_sums) (compared (own o c.place-place.result) o) before after c.attach_fresh.new.tree.head s c.place-place.result)
-    (g.met.L.LinkValues.values_stay _ _ c.acquire_link.ensures.frame.extent)
-    (subst (λ order. InsertsInOrder (ShowsSummed n new_sums) (compared order values) before after c.attach_fresh.new.tree.head s c.place-place.result)
+    let summed = c.attach_fresh.ensures.summed x.gap (alike _ ∙ l.is) (free_member n _ _ s (join x.gap) c.place-place.result x.same was.0 free)
+    (acquired_consistent n _ _ _ _ s (join x.gap) c.place-place.result x.same free c.acquire_link.ensures.frame was) x.hole in
+    own_searched g.A.Key.Ord.cmp (g.A.KeyAdapter.key_of c.args.tree.now.adapter) c.place-place.ensures (g.met.L.LinkValues.values_stay _ _ c.acquire_link.ensures.frame.extent)
     (own_is g.A.Key.Ord.cmp g.A.KeyAdapter.key_of values (c.new-probe.ensures.adapter ∙ c.adapter-adapter.ensures)
     (c.new-probe.ensures.key ∙ (c.get_key.ensures ∙ ap (λ z. g.A.KeyAdapter.key_of z c.value.result.now) c.adapter-adapter.ensures)) refl c.value.ensures)
-    (inserts_summed n before after new_sums c.attach_fresh.new.tree.head s c.place-place.result x.gap kept
-    (fitted n g.L.LinkOps.linked alike l.was l.is c.acquire_link.ensures.frame alone c.args.tree.now.head c.attach_fresh.new.tree.head shown.0 x c.attach_fresh.ensures.attached (λ gap below distinct told. tt)))))
+    (inserts_summed n _ _ _ _ s c.place-place.result x.gap summed
+    (fitted n g.L.LinkOps.linked alike l.was l.is c.acquire_link.ensures.frame alone (root_kept (kept c.args.tree.now.head)) (root_kept (kept c.attach_fresh.new.tree.head)) was.0 x
+    c.attach_fresh.ensures.attached (λ gap below distinct told. tt)))
 
 pub returns-clause-consistent : goal.returns-clause-consistent
-returns-clause-consistent g c s shown = inserts_still g.L.RBTreeOps.node _ _ _ _ s _ (returns-clause-inserted g c s shown)
+returns-clause-consistent g c s was = inserts_still g.L.RBTreeOps.node _ _ _ _ s _ (returns-clause-inserted g c s was)
+
+pub returns-clause-kept : goal.returns-clause-kept
+returns-clause-kept g c s h =
+    let n = g.L.RBTreeOps.node in
+    let kept = g.E.TreeHead.kept in
+    let alike = g.met.L.RBTreeOps.linked_alike in
+    let l = g.met.L.LinkOps.does_replay _ _ _ c.if-not-acquire_link.ensures.acquired in
+    let values = g.L.Values.values c.acquire_link.new.self in
+    let there = still_shown n g.L.LinkOps.linked alike l.was l.is c.acquire_link.ensures.frame (shown (kept c.args.tree.now.head) h) in
+    let x = ended_in_order n there (c.descend-hole.ensures.ends s there) c.get.ensures in
+    own_searched g.A.Key.Ord.cmp (g.A.KeyAdapter.key_of c.args.tree.now.adapter) c.place-place.ensures (g.met.L.LinkValues.values_stay _ _ c.acquire_link.ensures.frame.extent)
+    (own_is g.A.Key.Ord.cmp g.A.KeyAdapter.key_of values (c.new-probe.ensures.adapter ∙ c.adapter-adapter.ensures)
+    (c.new-probe.ensures.key ∙ (c.get_key.ensures ∙ ap (λ z. g.A.KeyAdapter.key_of z c.value.result.now) c.adapter-adapter.ensures)) refl c.value.ensures)
+    (fitted n g.L.LinkOps.linked alike l.was l.is c.acquire_link.ensures.frame kept c.args.tree.now.head c.attach_fresh.new.tree.head h x c.attach_fresh.ensures.attached c.attach_fresh.ensures.ends)
 
 pub returns-clause-extent : goal.returns-clause-extent
 returns-clause-extent g c =
     let n = g.L.RBTreeOps.node in
+    let kept = g.E.TreeHead.kept in
     let alike = g.met.L.RBTreeOps.linked_alike in
     let r = c.requires.shown in
     let l = g.met.L.LinkOps.does_replay _ _ _ c.if-not-acquire_link.ensures.acquired in
     let there = still_shown n g.L.LinkOps.linked alike l.was l.is c.acquire_link.ensures.frame r.1 in
     let x = ended_in_order n there (c.descend-hole.ensures.ends r.0 there) c.get.ensures in
-    (fitted n g.L.LinkOps.linked alike l.was l.is c.acquire_link.ensures.frame alone c.args.tree.now.head c.attach_fresh.new.tree.head r.1 x c.attach_fresh.ensures.attached (λ gap below distinct told. tt)).inserted.frame.extent
+    (fitted n g.L.LinkOps.linked alike l.was l.is c.acquire_link.ensures.frame alone (root_kept (kept c.args.tree.now.head)) (root_kept (kept c.attach_fresh.new.tree.head)) r.1 x
+    c.attach_fresh.ensures.attached (λ gap below distinct told. tt)).inserted.frame.extent
 
 pub returns-clause-others : goal.returns-clause-others
-returns-clause-others g c s t other shown apart h =
+returns-clause-others g c s t other was apart h =
     let n = g.L.RBTreeOps.node in
     let alike = g.met.L.RBTreeOps.linked_alike in
     let l = g.met.L.LinkOps.does_replay _ _ _ c.if-not-acquire_link.ensures.acquired in
     let only = c.acquire_link.ensures.frame in
     let absent = free_absent h.0 (alike _ ∙ l.was) in
-    c.attach_fresh.ensures.others s t other (still_shown n g.L.LinkOps.linked alike l.was l.is only shown) apart absent (beside_shows n _ _ _ other t c.place-place.result absent only h)
+    c.attach_fresh.ensures.others s t other (still_shown n g.L.LinkOps.linked alike l.was l.is only was) apart absent (beside_shows n _ _ _ other t c.place-place.result absent only h)
 
 pub returns-then-not-acquire_link-clause-others : goal.returns-then-not-acquire_link-clause-others
-returns-then-not-acquire_link-clause-others g c s t other shown apart h =
+returns-then-not-acquire_link-clause-others g c s t other was apart h =
     subst (λ (v : Table g.row.L-Entry.Denot). ShowsConsistent g.L.RBTreeOps.node (g.M.Sums.sums c.args.summed.now.sums) v other t)
     (sym (g.met.L.LinkOps.refused_keeps _ _ _ c.if-not-acquire_link.ensures.refused)) h
