@@ -4,4 +4,6 @@ pub mod HoldsLemmas
 pub mod ValueLemmas
 pub mod TreeLemmas
 pub mod LaneLemmas
+pub mod CountLemmas
 pub mod ListedLemmas
+pub mod ListedEnds

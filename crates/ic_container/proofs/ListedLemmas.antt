@@ -1,8 +1,12 @@
 -- For callers: objects that are all in one list, after each kind of step, and what the step says of their order and of their values.
-use Rattle.std.proofs.Common.{◌≡◌, ◌≢◌, true, Option, None, Some, IfSome, is_some, List, [], ◌∷◌, ◌∙◌, ap, sym, refl, subst}
+use Rattle.std.proofs.Common.{◌≡◌, ◌≢◌, ◌+◌, ◌-◌, true, Option, None, Some, IfSome, is_some, List, [], ◌∷◌, ◌++◌, ◌∙◌, ap, sym, refl, subst, length, length-append, arith}
+use Rattle.std.specs.FinMap as map
+use Rattle.std.specs.FinMap.{len-empty}
+use Rattle.std.specs.Ordering.{nat_cmp}
 use Rattle.ic_unsafe_ref.specs.declared.place.Place.{Place}
 use Rattle.ic_unsafe_ref.specs.Objects.{Objects, Places, Frees, object_at, is_placed}
 use Rattle.ic_unsafe_ref.proofs.Placing.{Puts, others_left, others_placed, placed_there}
+use Rattle.ic_container.proofs.CountLemmas.{count_freed, count_placed, count_put, length_moved}
 use Rattle.ic_link_ops.specs.Chains.{Ends, no_members}
 use Rattle.ic_link_ops.specs.DoublyEntries.{DoublyLinkOps, PlainShows, is_linked, plain_table, members_of}
 use Rattle.ic_link_ops.specs.PlacedObjects.{ArePlaced, values_at}
@@ -26,11 +30,14 @@ whole_value {o = o} w p there =
 
 -- AT FIRST
 module _ {A : Type 0} (links : DoublyLinkOps A) {list : Ends} (none : list ≡ no_members) where
-  pub listed_none : {T : Type 0} {objects : Objects T} → ((p : Place) → object_at objects p ≡ None) → (plain_table links).extent.places ≡ 0 → IsListed objects links list
-  listed_none vacant empty = record { holds = holds_none list_reading links (alone_none no_members list none) (λ p. ap (home_or to_one) (vacant p)) (list_off links empty) }
-
   pub order_none : members_of links list ≡ []
   order_none = none_stand list_reading links (alone_none no_members list none) 0
+
+  pub listed_none : {T : Type 0} {objects : Objects T} → objects.values ≡ map.empty → ((p : Place) → object_at objects p ≡ None) → (plain_table links).extent.places ≡ 0 → IsListed objects links list
+  listed_none empty vacant off = record {
+    holds = holds_none list_reading links (alone_none no_members list none) (λ p. ap (home_or to_one) (vacant p)) (list_off links off);
+    count = ap map.len empty ∙ len-empty nat_cmp _ ∙ sym (ap length order_none);
+  }
 
 module _ {T A : Type 0} {objects : Objects T} {links : DoublyLinkOps A} {list : Ends} (k : IsListed objects links list) where
   -- an object is a member,
@@ -66,7 +73,7 @@ module _ {T A : Type 0} {objects : Objects T} {links : DoublyLinkOps A} {list : 
   -- AFTER `place`, whatever it answered
   module _ (grown : DoublyLinkOps A) (grows : Grows (plain_table links) (plain_table grown)) where
     pub listed_grown : IsListed objects grown list
-    listed_grown = record { holds = holds_grown list_reading k.holds grown grows }
+    listed_grown = record { holds = holds_grown list_reading k.holds grown grows; count = k.count ∙ sym (ap length (rows_grown list_reading k.holds grown grows 0)) }
 
     pub order_grown : order_of objects grown list ≡ order_of objects links list
     order_grown = ap (λ (s : List Place). record { order = s; values = objects }) (rows_grown list_reading k.holds grown grows 0)
@@ -78,11 +85,14 @@ module _ {T A : Type 0} {objects : Objects T} {links : DoublyLinkOps A} {list : 
 
       -- and goes in front of all others
       module _ (after : DoublyLinkOps A) (ends : Ends) {s : List Place} (e : ListJoins grown after list ends [] p s) where
-        pub listed_new : IsListed new after ends
-        listed_new = record { holds = holds_new list_reading to_one objects k.holds places grown grows 0 after (alone_others no_members list ends) refl e }
-
         pub order_new : members_of after ends ≡ p ∷ members_of links list
         order_new = (puts_front (new_joined list_reading to_one objects k.holds places grown grows 0 after (alone_others no_members list ends) refl e)).is
+
+        pub listed_new : IsListed new after ends
+        listed_new = record {
+          holds = holds_new list_reading to_one objects k.holds places grown grows 0 after (alone_others no_members list ends) refl e;
+          count = omega (arith, k.count, count_placed places, ap length order_new);
+        }
 
         pub listed_values_new : values_at new (members_of after ends) ≡ value ∷ values_at objects (members_of links list)
         listed_values_new =
@@ -93,7 +103,10 @@ module _ {T A : Type 0} {objects : Objects T} {links : DoublyLinkOps A} {list : 
   -- MOVED in front of all others
   module _ {p : Place} (after : DoublyLinkOps A) (ends : Ends) (e : (front : List Place) × (back : List Place) × (behind : List Place) × ListMoves links after list ends front p back [] behind) where
     pub listed_moved : IsListed objects after ends
-    listed_moved = record { holds = holds_moved list_reading k.holds 0 after (alone_others no_members list ends) e.3 }
+    listed_moved = record {
+      holds = holds_moved list_reading k.holds 0 after (alone_others no_members list ends) e.3;
+      count = k.count ∙ sym (length_moved (moved list_reading k.holds 0 after (alone_others no_members list ends) e.3));
+    }
 
     pub order_moved : (others : List Place) × Without p (members_of links list) others × (members_of after ends ≡ p ∷ others)
     order_moved = let t = moved list_reading k.holds 0 after (alone_others no_members list ends) e.3 in (e.2, record { front = e.0; back = e.1; was = t.was; is = sym t.rest }, t.is)
@@ -106,15 +119,18 @@ module _ {T A : Type 0} {objects : Objects T} {links : DoublyLinkOps A} {list : 
 
   -- ANOTHER VALUE in the place of one
   pub listed_changed : {new : Objects T} {p : Place} {value : T} → is_placed objects p ≡ true → Puts objects new p value → IsListed new links list
-  listed_changed {p = p} is puts = record { holds = holds_changed list_reading to_one objects k.holds puts (sym (home_one objects p is)) }
+  listed_changed {p = p} is puts = record { holds = holds_changed list_reading to_one objects k.holds puts (sym (home_one objects p is)); count = count_put is puts ∙ k.count }
 
   -- TAKEN OFF, and out
   module _ {p : Place} {less : Objects T} (frees : Frees objects less p) (after : DoublyLinkOps A) (ends : Ends) {front back : List Place} (e : ListLeaves links after list ends front p back) where
-    pub listed_freed : IsListed less after ends
-    listed_freed = record { holds = holds_freed list_reading to_one objects k.holds frees 0 after (alone_others no_members list ends) e }
-
     pub order_freed : Without p (members_of links list) (members_of after ends)
     order_freed = let l = left list_reading k.holds 0 after (alone_others no_members list ends) e in record { front = front; back = back; was = l.was; is = l.is }
+
+    pub listed_freed : IsListed less after ends
+    listed_freed = record {
+      holds = holds_freed list_reading to_one objects k.holds frees 0 after (alone_others no_members list ends) e;
+      count = count_freed listed_placed frees order_freed k.count;
+    }
 
     pub listed_values_freed : {out : T} → object_at objects p ≡ Some out → Without out (values_at objects (members_of links list)) (values_at less (members_of after ends))
     listed_values_freed there =

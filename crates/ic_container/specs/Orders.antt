@@ -1,5 +1,6 @@
 -- Objects in an order.
-use Rattle.std.specs.Prelude.{◌≡◌, true, List, refl}
+use Rattle.std.specs.Prelude.{◌≡◌, true, List, length, refl}
+use Rattle.std.specs.FinMap as map
 use Rattle.std.specs.Coded.{Coded, code_by, coded×, coded_list}
 use Rattle.ic_unsafe_ref.specs.declared.place.Place.{Place}
 use Rattle.ic_unsafe_ref.specs.Objects.{Objects, is_placed, objects_code}
@@ -34,6 +35,7 @@ module _ {T A : Type 0} (objects : Objects T) (links : DoublyLinkOps A) (list : 
   abbrev pub order_of : Order T
   order_of = record { order = members_of links list; values = objects }
 
-  -- each object is in the list, and nothing else is linked
+  -- each object is in the list, nothing else is linked, and there are as many objects as members
   pub record IsListed : Type 0 where
     pub holds : HoldsLists links (alone no_members list) (home_of to_one objects)
+    pub count : map.len objects.values ≡ length (members_of links list)

@@ -8,7 +8,11 @@ pub record Without {T : Type 0} (value : T) (old new : List T) : Type 0 where
   pub was : old ≡ front ++ value ∷ back
   pub is : new ≡ front ++ back
 
--- the last value, if there is one
+-- the first value, if there is one, and the last
+abbrev pub first_value : {T : Type 0} → List T → Option T
+first_value [] = None
+first_value (x ∷ s) = Some x
+
 abbrev pub last_value : {T : Type 0} → List T → Option T
 last_value [] = None
 last_value (x ∷ []) = Some x

@@ -10,9 +10,11 @@
 //! edit (proofs/HoldsLemmas.antt), and `lists`, whose calls return an edit as one value and are never refused.
 #![tactic(auto)]
 
+mod iter;
 pub mod lanes;
 mod listed;
 pub mod lists;
 pub mod trees;
 
+pub use iter::Iter;
 pub use listed::Listed;

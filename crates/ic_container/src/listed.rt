@@ -6,15 +6,16 @@
 //! listed.remove(object.place()) // 10
 //! ```
 
-ghost use Rattle.std.specs.Prelude.{◌≡◌, ◌++◌, ◌∷◌, [], true, None, Some, List, IfOk, IfErr, IfSome};
+ghost use Rattle.std.specs.Prelude.{◌≡◌, ◌↔◌, ◌++◌, ◌∷◌, [], true, None, Some, List, length, IfOk, IfErr, IfSome, IsTrue, MatchOption};
 ghost use Rattle.std.specs.Option.{option_copied};
 ghost use Rattle.ic_unsafe_ref.specs.declared.place.Place.{Place};
 ghost use Rattle.ic_unsafe_ref.specs.Objects.{Frees, Places, is_placed, object_at, with_object};
 ghost use Rattle.ic_link_ops.specs.Sequences.{first, last};
 ghost use Rattle.ic_pool.specs.Refusals.{value_of};
+ghost use Rattle.ic_container.specs.Orders.{values_of};
 ghost use Rattle.ic_container.specs.Values.{Without};
 
-use crate::lists;
+use crate::{Iter, lists};
 use ic_link_ops::linked_list::LinkOps;
 use ic_linked_list::LinkedList;
 use ic_pool::{PlaceError, Pool};
@@ -73,6 +74,20 @@ impl<T, A: Allocator> Listed<T, A> {
         Ok(object)
     }
 
+    /// Adds an object behind all others. Else as `place_front`.
+    pub fn place_back(&mut self, value: T) -> Result<UnsafeRef<T>, PlaceError<T>>
+        ensures placed { IfOk result (λ object. Places self.old.values self.new.values object value) }
+        ensures back { IfOk result (λ object. self.new.order ≡ self.old.order ++ object ∷ []) }
+        ensures refused { IfErr result (λ refused. (value_of refused ≡ value) × (self.new ≡ self.old)) }
+    {
+        let object = match self.pool.place(value) {
+            Ok(object) => object,
+            Err(refused) => return Err(refused),
+        };
+        lists::push_back(&mut self.list, &mut self.pool.links, object.place());
+        Ok(object)
+    }
+
     /// Puts the object in front of all others, which keep their order. It requires that an object stands at the place. O(1), and it takes
     /// no memory.
     pub fn move_to_front(&mut self, place: Place)
@@ -81,6 +96,15 @@ impl<T, A: Allocator> Listed<T, A> {
         ensures values { self.new.values ≡ self.old.values }
     {
         lists::move_to_front(&mut self.list, &mut self.pool.links, place);
+    }
+
+    /// Puts the object behind all others. Else as `move_to_front`.
+    pub fn move_to_back(&mut self, place: Place)
+        requires placed { is_placed self.old.values place ≡ true }
+        ensures moved { (others : List Place) × Without place self.old.order others × (self.new.order ≡ others ++ place ∷ []) }
+        ensures values { self.new.values ≡ self.old.values }
+    {
+        lists::move_to_back(&mut self.list, &mut self.pool.links, place);
     }
 
     /// Puts another value in the place of the object, which comes back. It requires that an object stands there. The order stays. O(1),
@@ -103,6 +127,45 @@ impl<T, A: Allocator> Listed<T, A> {
     {
         lists::remove(&mut self.list, &mut self.pool.links, place);
         self.pool.remove(UnsafeRef::new(place))
+    }
+
+    /// Takes the first object out, `None` if there is no object. The others keep their order. O(1), and it takes no memory.
+    pub fn pop_first(&mut self) -> Option<T>
+        ensures { MatchOption result ((values_of self.old ≡ []) × (self.new ≡ self.old)) (λ first. values_of self.old ≡ first ∷ values_of self.new) }
+    {
+        let place = self.list.first()?;
+        Some(self.remove(place))
+    }
+
+    /// Takes the last object out, `None` if there is no object. The others keep their order. O(1), and it takes no memory.
+    pub fn pop_last(&mut self) -> Option<T>
+        ensures { MatchOption result ((values_of self.old ≡ []) × (self.new ≡ self.old)) (λ last. values_of self.old ≡ values_of self.new ++ last ∷ []) }
+    {
+        let place = self.list.last()?;
+        Some(self.remove(place))
+    }
+
+    /// How many objects there are. O(1).
+    #[inline]
+    pub fn len(&self) -> usize
+        ensures { result ≡ length (values_of self.now) }
+    {
+        self.pool.len()
+    }
+
+    /// Whether there is no object. O(1).
+    #[inline]
+    pub fn is_empty(&self) -> bool
+        ensures { IsTrue result ↔ (values_of self.now ≡ []) }
+    {
+        self.len() == 0
+    }
+
+    /// A walk over the objects in their order, from both ends. O(1), and it takes no memory.
+    pub fn iter(&self) -> Iter<'_, T, A>
+        ensures { result ≡ values_of self.now }
+    {
+        Iter::new(self.list.iter(&self.pool.links, &self.pool.objects))
     }
 
     /// The object of a reference, `None` if none stands at its place. O(1).

@@ -62,3 +62,14 @@ pub fn move_to_front<T, A: Allocator>(
     remove(list, links, place);
     push_front(list, links, place);
 }
+
+/// Puts a member behind all others, which keep their order. It requires that the object is a member. O(1), and it takes no memory.
+#[inline]
+pub fn move_to_back<T, A: Allocator>(list: &mut LinkedList<T>, links: &mut LinkOps<A>, place: Place)
+    requires member { HasMember (PlainShows links.old list.old) place }
+    ensures { (front : List Place) × (back : List Place) × (before : List Place)
+        × ListMoves links.old links.new list.old list.new front place back before [] }
+{
+    remove(list, links, place);
+    push_back(list, links, place);
+}

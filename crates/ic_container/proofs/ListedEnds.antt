@@ -1,0 +1,150 @@
+-- For callers: objects that are all in one list, at both ends: how many there are, the first and the last one, and what goes behind all others.
+use Rattle.std.proofs.Common.{◌≡◌, true, Option, None, Some, IfSome, IsSome, List, [], ◌∷◌, ◌++◌, ◌∙◌, ap, sym, refl, subst, length, append-nil, length-append, arith, true≢false}
+use Rattle.std.proofs.lemmas.List.Elements.{filter_map-append}
+use Rattle.std.specs.FinMap as map
+use Rattle.std.specs.List.{cons_option}
+use Rattle.ic_unsafe_ref.specs.declared.place.Place.{Place}
+use Rattle.ic_unsafe_ref.specs.Objects.{Objects, Places, Frees, is_placed, object_at}
+use Rattle.ic_unsafe_ref.proofs.Placing.{others_left, others_placed, placed_there}
+use Rattle.ic_link_ops.specs.Chains.{Ends, no_members}
+use Rattle.ic_link_ops.specs.DoublyEntries.{DoublyLinkOps, PlainShows, plain_table, members_of}
+use Rattle.ic_link_ops.specs.PlacedObjects.{ArePlaced, ShowsPlaced, values_at}
+use Rattle.ic_link_ops.specs.Positions.{object_there}
+use Rattle.ic_link_ops.specs.Sequences.{first, last, IsAbsent, IsDistinct}
+use Rattle.ic_link_ops.proofs.PlacedValues.{values_beside}
+use Rattle.ic_link_ops.proofs.SequenceLemmas.{distinct_middle, none_not}
+use Rattle.ic_pool.specs.Pooled.{Grows}
+use Rattle.ic_container.specs.Holds.{ListJoins, ListMoves}
+use Rattle.ic_container.specs.Orders.{Order, values_of, IsListed, IsWhole}
+use Rattle.ic_container.specs.Rows.{to_one}
+use Rattle.ic_container.specs.Values.{first_value, last_value, Without}
+use Rattle.ic_container.proofs.CountLemmas.{count_placed, length_moved}
+use Rattle.ic_container.proofs.HoldsLemmas.{list_reading, holds_moved, holds_new, moved, new_absent, new_joined}
+use Rattle.ic_container.proofs.ListedLemmas.{listed_first, listed_last, listed_placed}
+use Rattle.ic_container.proofs.RowLemmas.{alone_others, no_front, puts_back, without_last}
+use Rattle.ic_container.proofs.ValueLemmas.{as_many, last_is}
+
+-- AT THE ENDS of a list of values
+pub no_first : {T : Type 0} (values : List T) → first_value values ≡ None → values ≡ []
+no_first [] e = refl
+no_first (x ∷ values) e = absurd (none_not x (sym e))
+
+pub no_last : {T : Type 0} (values : List T) → last_value values ≡ None → values ≡ []
+no_last [] e = refl
+no_last (x ∷ []) e = absurd (none_not x (sym e))
+no_last (x ∷ y ∷ values) e = let r = ap length (no_last (y ∷ values) e) in absurd (omega (arith, r))
+
+-- the object at the first member is the first value
+pub first_is_there : {T : Type 0} (objects : Objects T) (s : List Place) → ArePlaced objects s → object_there objects (first s) ≡ first_value (values_at objects s)
+first_is_there objects [] placed = refl
+first_is_there {T} objects (x ∷ s) placed = by (object_at objects x) placed.0 where
+  by : (o : Option T) → IsSome o → o ≡ first_value (cons_option o (values_at objects s))
+  by None h = absurd (true≢false (sym h))
+  by (Some value) h = refl
+
+-- no member, no value
+pub none_at : {T : Type 0} (objects : Objects T) (s : List Place) → ArePlaced objects s → object_there objects (last s) ≡ None → values_at objects s ≡ []
+none_at objects s placed none = no_last (values_at objects s) (sym (last_is objects s placed) ∙ none)
+
+module _ {T : Type 0} {o : Order T} (w : IsWhole o) where
+  -- there are as many values as places
+  pub whole_count : length (values_of o) ≡ length o.order
+  whole_count = as_many o.values o.order w.placed
+
+  -- ONE TAKEN OUT: where it was the first the others stand behind it, and where it was the last in front of it
+  module _ {less : Order T} {p : Place} {out : T} (there : object_at o.values p ≡ Some out) (frees : Frees o.values less.values p) (is : Without p o.order less.order) where
+    apart : IsAbsent p (is.front ++ is.back)
+    apart = distinct_middle is.front is.back p (subst IsDistinct is.was w.once)
+
+    same : values_of less ≡ values_at o.values (is.front ++ is.back)
+    same = ap (values_at less.values) is.is ∙ values_beside o.values less.values p (others_left frees) (is.front ++ is.back) apart
+
+    cut : values_of o ≡ values_at o.values is.front ++ out ∷ values_at o.values is.back
+    cut =
+        ap (values_at o.values) is.was ∙ filter_map-append (object_at o.values) is.front (p ∷ is.back)
+        ∙ ap (λ (v : Option T). values_at o.values is.front ++ cons_option v (values_at o.values is.back)) there
+
+    pub first_out : first o.order ≡ Some p → values_of o ≡ out ∷ values_of less
+    first_out e =
+        let none = no_front p o.order w.once (sym e) is.front is.back is.was in
+        cut ∙ ap (λ (s : List Place). values_at o.values s ++ out ∷ values_at o.values is.back) none
+        ∙ ap (λ (l : List T). out ∷ l) (sym (same ∙ ap (λ (s : List Place). values_at o.values (s ++ is.back)) none))
+
+    pub last_out : last o.order ≡ Some p → values_of o ≡ values_of less ++ out ∷ []
+    last_out e =
+        let none = without_last o.order w.once e is.front is.back is.was in
+        cut ∙ ap (λ (s : List Place). values_at o.values is.front ++ out ∷ values_at o.values s) none
+        ∙ ap (λ (l : List T). l ++ out ∷ []) (sym (same ∙ ap (λ (s : List Place). values_at o.values (is.front ++ s)) none ∙ ap (values_at o.values) (append-nil is.front)))
+
+module _ {T A : Type 0} {objects : Objects T} {links : DoublyLinkOps A} {list : Ends} (k : IsListed objects links list) where
+  -- there are as many values as objects
+  pub listed_count : map.len objects.values ≡ length (values_at objects (members_of links list))
+  listed_count = k.count ∙ sym (as_many objects (members_of links list) (listed_placed k))
+
+  -- the first object is the first value
+  pub first_there : object_there objects list.head ≡ first_value (values_at objects (members_of links list))
+  first_there = ap (object_there objects) (k.holds.shown 0).head ∙ first_is_there objects (members_of links list) (listed_placed k)
+
+  -- where there is none, there is no value
+  pub none_first : list.head ≡ None → values_at objects (members_of links list) ≡ []
+  none_first e = no_first (values_at objects (members_of links list)) (sym first_there ∙ ap (object_there objects) e)
+
+  pub none_last : list.tail ≡ None → values_at objects (members_of links list) ≡ []
+  none_last e = none_at objects (members_of links list) (listed_placed k) (ap (object_there objects) (sym (k.holds.shown 0).tail ∙ e))
+
+  -- and where there is one, it is placed
+  pub first_placed : {p : Place} → list.head ≡ Some p → is_placed objects p ≡ true
+  first_placed e = subst (λ (o : Option Place). IfSome o (λ p. is_placed objects p ≡ true)) e (listed_first k)
+
+  pub last_is_placed : {p : Place} → list.tail ≡ Some p → is_placed objects p ≡ true
+  last_is_placed e = subst (λ (o : Option Place). IfSome o (λ p. is_placed objects p ≡ true)) e (listed_last k)
+
+  -- a walk is over all of them
+  pub all_walked : ShowsPlaced (PlainShows links list) objects
+  all_walked = record { members = members_of links list; shown = k.holds.shown 0; placed = listed_placed k }
+
+  -- A NEW OBJECT behind all others
+  module _ (grown : DoublyLinkOps A) (grows : Grows (plain_table links) (plain_table grown)) {p : Place} {value : T} {new : Objects T} (places : Places objects new p value) (after : DoublyLinkOps A) (ends : Ends) {s : List Place} (e : ListJoins grown after list ends s p []) where
+    pub order_behind : members_of after ends ≡ members_of links list ++ p ∷ []
+    order_behind = (puts_back (new_joined list_reading to_one objects k.holds places grown grows 0 after (alone_others no_members list ends) refl e)).is
+
+    pub listed_behind : IsListed new after ends
+    listed_behind = record {
+      holds = holds_new list_reading to_one objects k.holds places grown grows 0 after (alone_others no_members list ends) refl e;
+      count = omega (arith, k.count, count_placed places, ap length order_behind, length-append (members_of links list) (p ∷ []));
+    }
+
+    pub listed_values_behind : values_at new (members_of after ends) ≡ values_at objects (members_of links list) ++ value ∷ []
+    listed_values_behind =
+        ap (values_at new) order_behind ∙ filter_map-append (object_at new) (members_of links list) (p ∷ [])
+        ∙ ap (λ (v : Option T). values_at new (members_of links list) ++ cons_option v []) (placed_there places)
+        ∙ ap (λ (l : List T). l ++ value ∷ []) (values_beside objects new p (others_placed places) (members_of links list) (new_absent list_reading to_one objects k.holds places grown grows 0))
+
+  -- MOVED behind all others
+  module _ {p : Place} (after : DoublyLinkOps A) (ends : Ends) (e : (front : List Place) × (back : List Place) × (before : List Place) × ListMoves links after list ends front p back before []) where
+    pub listed_moved_behind : IsListed objects after ends
+    listed_moved_behind = record {
+      holds = holds_moved list_reading k.holds 0 after (alone_others no_members list ends) e.3;
+      count = k.count ∙ sym (length_moved (moved list_reading k.holds 0 after (alone_others no_members list ends) e.3));
+    }
+
+    pub order_moved_behind : (others : List Place) × Without p (members_of links list) others × (members_of after ends ≡ others ++ p ∷ [])
+    order_moved_behind =
+        let t = moved list_reading k.holds 0 after (alone_others no_members list ends) e.3 in
+        (e.2, record { front = e.0; back = e.1; was = t.was; is = sym (t.rest ∙ append-nil e.2) }, t.is)
+
+    pub listed_values_moved_behind : {value : T} → object_at objects p ≡ Some value
+        → (rest : List T) × Without value (values_at objects (members_of links list)) rest × (values_at objects (members_of after ends) ≡ rest ++ value ∷ [])
+    listed_values_moved_behind {value} there =
+        let t = moved list_reading k.holds 0 after (alone_others no_members list ends) e.3 in (
+          values_at objects e.0 ++ values_at objects e.1,
+          record {
+            front = values_at objects e.0;
+            back = values_at objects e.1;
+            was = ap (values_at objects) t.was ∙ filter_map-append (object_at objects) e.0 (p ∷ e.1) ∙ ap (λ (v : Option T). values_at objects e.0 ++ cons_option v (values_at objects e.1)) there;
+            is = refl;
+          },
+          ap (values_at objects) (t.is ∙ ap (λ (l : List Place). l ++ p ∷ []) (sym (t.rest ∙ append-nil e.2))) ∙ filter_map-append (object_at objects) (e.0 ++ e.1) (p ∷ [])
+              ∙ ap (λ (v : Option T). values_at objects (e.0 ++ e.1) ++ cons_option v []) there
+              ∙ ap (λ (l : List T). l ++ value ∷ []) (filter_map-append (object_at objects) e.0 e.1),
+        )

@@ -1,0 +1,79 @@
+//! A walk over the objects of a container, in their order.
+//!
+//! ```text
+//! for job in listed.iter() {
+//!     job.report();
+//! }
+//! let last = listed.iter().next_back();
+//! ```
+
+ghost use Rattle.std.specs.Prelude.{⊤};
+ghost use Rattle.ic_link_ops.specs.Walk.{GivesFirst, GivesLast};
+
+use ic_link_ops::linked_list::LinkOps;
+use ic_unsafe_ref::Objects;
+use std::alloc::Allocator;
+use std::marker::Model;
+
+/// The objects that are not given out yet, in their order: from the first by `next`, and from the last by `next_back`.
+///
+/// A clause sees the list of those objects.
+#[derive(Drop)]
+pub struct Iter<'a, T, A: Allocator> {
+    walk: ic_linked_list::Iter<'a, T, LinkOps<A>, Objects<T, A>>,
+}
+
+impl<'a, T, A: Allocator> Model for Iter<'a, T, A> {
+    ghost use Rattle.std.specs.Prelude.{List};
+    ghost use Rattle.ic_container.specs.Walks.{left_of, CanWalkOn};
+
+    ghost Value = { List T };
+
+    ghost view = { λ i. left_of i.walk };
+
+    ghost invariant = { λ i. CanWalkOn i.walk };
+}
+
+impl<'a, T, A: Allocator> Iter<'a, T, A> {
+    ghost use Rattle.std.specs.Prelude.{◌≡◌};
+    ghost use Rattle.ic_container.specs.Walks.{left_of, CanWalkOn};
+
+    /// The walk of a list over its objects. It requires that the list was whole when the walk began. O(1), and it takes no memory.
+    pub fn new(walk: ic_linked_list::Iter<'a, T, LinkOps<A>, Objects<T, A>>) -> Iter<'a, T, A>
+        requires { CanWalkOn walk }
+        ensures { result ≡ left_of walk.entry }
+    {
+        Iter { walk }
+    }
+}
+
+impl<'a, T, A: Allocator> Iterator for Iter<'a, T, A> {
+    type Item = &'a T;
+
+    ghost use Rattle.std.specs.Prelude.{List};
+    ghost use Rattle.std.specs.Iterator.{item_count};
+
+    ghost can_next = { λ _. ⊤ };
+
+    ghost next_gives = { GivesFirst (λ (left : List T). left) };
+
+    ghost remaining = { item_count (λ (left : List T). left) };
+
+    /// The next object. O(1).
+    fn next(&mut self) -> Option<&'a T> {
+        self.walk.next()
+    }
+}
+
+impl<'a, T, A: Allocator> DoubleEndedIterator for Iter<'a, T, A> {
+    ghost use Rattle.std.specs.Prelude.{List};
+
+    ghost can_next_back = { λ _. ⊤ };
+
+    ghost next_back_gives = { GivesLast (λ (left : List T). left) };
+
+    /// The next object from the back. O(1).
+    fn next_back(&mut self) -> Option<&'a T> {
+        self.walk.next_back()
+    }
+}
