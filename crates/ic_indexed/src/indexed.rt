@@ -6,24 +6,24 @@
 //! indexed.move_to_front(place?); // in front of all others
 //! ```
 
-ghost use Rattle.std.specs.Prelude.{◌≡◌, ◌≤◌, ◌∷◌, [], true, None, Some, List, length, OnOk, IfOk, IfErr, IfSome};
+ghost use Rattle.std.specs.Prelude.{◌≡◌, ◌≤◌, ◌↔◌, ◌∷◌, ◌++◌, [], true, None, Some, List, length, OnOk, IfOk, IfErr, IfSome, IsTrue, MatchOption};
 ghost use Rattle.std.specs.List.{AllByRecursion};
 ghost use Rattle.ic_unsafe_ref.specs.declared.place.Place.{Place};
-ghost use Rattle.ic_unsafe_ref.specs.Objects.{Frees, Places, is_placed, object_at, with_object};
+ghost use Rattle.ic_unsafe_ref.specs.Objects.{Objects as Placed, Frees, Places, is_placed, object_at, with_object};
 ghost use Rattle.ic_link_ops.specs.Positions.{object_there};
 ghost use Rattle.ic_pool.specs.Refusals.{value_of};
 ghost use Rattle.ic_container.specs.Orders.{IsWhole};
 ghost use Rattle.ic_container.specs.Trees.{IsFound};
-ghost use Rattle.ic_container.specs.Values.{last_value, Without};
+ghost use Rattle.ic_container.specs.Values.{first_value, last_value, Without};
 ghost use Rattle.ic_indexed.specs.Indexed.{order_in, values_of};
 
 use crate::renew::renew;
 use crate::{ByHash, ByKey, HasKey, Index};
-use ic_container::lists;
+use ic_container::{Iter, lists};
 use ic_hash_table::{Buckets, HashTable};
-use ic_link_ops::{linked_list, rbtree, singly_linked_list};
+use ic_link_ops::{CoverError, linked_list, rbtree, singly_linked_list};
 use ic_linked_list::LinkedList;
-use ic_pool::{PlaceError, Pool};
+use ic_pool::{PlaceError, Pool, Tables};
 use ic_rbtree::RBTree;
 use ic_unsafe_ref::{Place, UnsafeRef};
 use std::alloc::{Allocator, Global};
@@ -107,6 +107,64 @@ impl<T: HasKey, B: Buckets + Drop, A: Allocator> Indexed<T, HashTable<ByHash<T>,
 }
 
 impl<T: HasKey, I: Index<T, A>, A: Allocator> Indexed<T, I, A> {
+    /// No objects, with this index, whose links are in this table. It takes no memory.
+    ///
+    /// It requires that the index has all objects where there is none.
+    pub fn with_index(alloc: A, index: I, links: I::Links) -> Indexed<T, I, A>
+    where
+        A: Copy,
+        requires none { (objects : Placed T) → ((place : Place) → object_at objects place ≡ None) → I.Has index links objects }
+        ensures empty { values_of result ≡ [] }
+        ensures vacant { (place : Place) → object_at result.values place ≡ None }
+        ensures parts { result.parts ≡ I.parts index }
+    {
+        Indexed {
+            pool: Pool::new(alloc, (links, linked_list::LinkOps::new(alloc))),
+            index,
+            in_order: LinkedList::new(),
+        }
+    }
+
+    /// How many objects there are. O(1).
+    #[inline]
+    pub fn len(&self) -> usize
+        ensures { result ≡ length (values_of self.now) }
+    {
+        self.pool.len()
+    }
+
+    /// Whether there is no object. O(1).
+    #[inline]
+    pub fn is_empty(&self) -> bool
+        ensures { IsTrue result ↔ (values_of self.now ≡ []) }
+    {
+        self.len() == 0
+    }
+
+    /// Makes room for the links of so many more objects, so that to add them takes memory for the objects alone. No object and no order
+    /// changes, also where it is refused. At most one request for memory a table.
+    pub fn reserve(&mut self, additional: usize) -> Result<(), CoverError>
+        ensures { self.new ≡ self.old }
+    {
+        let count = self.pool.len().saturating_add(additional);
+        self.pool.links.cover(count)
+    }
+
+    /// A walk over the objects in their order, from both ends. O(1), and it takes no memory.
+    pub fn iter(&self) -> Iter<'_, T, A>
+        ensures { result ≡ values_of self.now }
+    {
+        Iter::new(self.in_order.iter(&self.pool.links.1, &self.pool.objects))
+    }
+
+    /// Where an object of the key stands, if there is one. It costs what `find` does.
+    pub fn place_of(&self, key: u64) -> Option<Place>
+        ensures found { IsFound T.key_of self.now.values key result }
+        ensures whole { IsWhole (order_in self.now) }
+    {
+        self.find(key).0
+    }
+
     /// Where an object of the key stands, if there is one, and how many objects the search looked at.
     ///
     /// By a tree O(log n): v looks among n objects, where `2^v <= (n + 1)^2`. By a hash table O(1) on average: no more looks than objects
@@ -129,6 +187,14 @@ impl<T: HasKey, I: Index<T, A>, A: Allocator> Indexed<T, I, A> {
         self.pool.objects.get(place).unwrap() // proved: one stands there
     }
 
+    /// The place of the first object, `None` if there is no object. O(1).
+    pub fn first(&self) -> Option<Place>
+        ensures first { object_there self.now.values result ≡ first_value (values_of self.now) }
+        ensures placed { IfSome result (λ place. is_placed self.now.values place ≡ true) }
+    {
+        self.in_order.first()
+    }
+
     /// The place of the last object, `None` if there is no object. O(1).
     pub fn last(&self) -> Option<Place>
         ensures last { object_there self.now.values result ≡ last_value (values_of self.now) }
@@ -149,6 +215,17 @@ impl<T: HasKey, I: Index<T, A>, A: Allocator> Indexed<T, I, A> {
         lists::move_to_front(&mut self.in_order, &mut self.pool.links.1, place);
     }
 
+    /// Moves the object at a place behind all others. Else as `move_to_front`.
+    pub fn move_to_back(&mut self, place: Place)
+        requires placed { is_placed self.old.values place ≡ true }
+        ensures values { self.new.values ≡ self.old.values }
+        ensures parts { self.new.parts ≡ self.old.parts }
+        ensures moved { (value : T) → object_at self.old.values place ≡ Some value
+            → (rest : List T) × Without value (values_of self.old) rest × (values_of self.new ≡ rest ++ value ∷ []) }
+    {
+        lists::move_to_back(&mut self.in_order, &mut self.pool.links.1, place);
+    }
+
     /// Takes the object at a place out. It requires that one stands there. The others keep their order.
     ///
     /// It costs about as much as a search of the index, O(log n) by a tree, and takes no memory.
@@ -157,6 +234,7 @@ impl<T: HasKey, I: Index<T, A>, A: Allocator> Indexed<T, I, A> {
         ensures value { object_at self.old.values place ≡ Some result }
         ensures freed { Frees self.old.values self.new.values place }
         ensures removed { Without result (values_of self.old) (values_of self.new) }
+        ensures order { Without place self.old.order self.new.order }
         ensures parts { self.new.parts ≡ self.old.parts }
     {
         let object = UnsafeRef::new(place);
@@ -164,6 +242,26 @@ impl<T: HasKey, I: Index<T, A>, A: Allocator> Indexed<T, I, A> {
             .remove_place(&mut self.pool.links.0, &self.pool.objects, place);
         lists::remove(&mut self.in_order, &mut self.pool.links.1, place);
         self.pool.remove(object)
+    }
+
+    /// Takes the first object out, `None` if there is no object. The others keep their order.
+    ///
+    /// It costs about as much as a search of the index, O(log n) by a tree, and takes no memory.
+    pub fn pop_first(&mut self) -> Option<T>
+        ensures popped { MatchOption result ((values_of self.old ≡ []) × (self.new ≡ self.old)) (λ first. values_of self.old ≡ first ∷ values_of self.new) }
+        ensures parts { self.new.parts ≡ self.old.parts }
+    {
+        let place = self.in_order.first()?;
+        Some(self.remove(place))
+    }
+
+    /// Takes the last object out, `None` if there is no object. Else as `pop_first`.
+    pub fn pop_last(&mut self) -> Option<T>
+        ensures popped { MatchOption result ((values_of self.old ≡ []) × (self.new ≡ self.old)) (λ last. values_of self.old ≡ values_of self.new ++ last ∷ []) }
+        ensures parts { self.new.parts ≡ self.old.parts }
+    {
+        let place = self.in_order.last()?;
+        Some(self.remove(place))
     }
 
     /// Puts a value in the place of the object there, which comes back, and in front of all others. It requires that one stands
@@ -199,6 +297,23 @@ impl<T: HasKey, I: Index<T, A>, A: Allocator> Indexed<T, I, A> {
         let (objects, links) = (&self.pool.objects, &mut self.pool.links.0);
         self.index.insert_place(links, objects, object.place());
         lists::push_front(&mut self.in_order, &mut self.pool.links.1, object.place());
+        Ok(object)
+    }
+
+    /// Adds an object behind all others. Else as `place_front`.
+    pub fn place_back(&mut self, value: T) -> Result<UnsafeRef<T>, PlaceError<T>>
+        ensures placed { IfOk result (λ object. Places self.old.values self.new.values object value) }
+        ensures added { OnOk result (values_of self.new ≡ values_of self.old ++ value ∷ []) }
+        ensures parts { self.new.parts ≡ self.old.parts }
+        ensures refused { IfErr result (λ refused. (value_of refused ≡ value) × (self.new ≡ self.old)) }
+    {
+        let object = match self.pool.place(value) {
+            Ok(object) => object,
+            Err(refused) => return Err(refused),
+        };
+        let (objects, links) = (&self.pool.objects, &mut self.pool.links.0);
+        self.index.insert_place(links, objects, object.place());
+        lists::push_back(&mut self.in_order, &mut self.pool.links.1, object.place());
         Ok(object)
     }
 }

@@ -9,7 +9,7 @@ invariant_of-result g c =
     let e = c.new-3.ensures in
     record {
       keyed = hash_first _ _ _ _ _ _ _ c.new-5.ensures.empty e.vacant (singly_off c.new-3.result.links.0 (rw e.links c.new.ensures));
-      listed = listed_none c.new-3.result.links.1 c.new-6.ensures e.vacant (rw e.links c.new-2.ensures);
+      listed = listed_none c.new-3.result.links.1 c.new-6.ensures e.empty e.vacant (rw e.links c.new-2.ensures);
     }
 
 pub returns-clause-empty : goal.returns-clause-empty

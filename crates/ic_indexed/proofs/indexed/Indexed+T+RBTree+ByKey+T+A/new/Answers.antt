@@ -10,7 +10,7 @@ invariant_of-result g c =
     let e = c.new-3.ensures in
     record {
       keyed = all_first g.T.HasKey.key_of c.new-3.result.objects c.new-3.result.links.0 (root_of c.new-5.result) (rw e.links c.new.ensures) c.new-5.ensures.empty e.vacant;
-      listed = listed_none c.new-3.result.links.1 c.new-6.ensures e.vacant (rw e.links c.new-2.ensures);
+      listed = listed_none c.new-3.result.links.1 c.new-6.ensures e.empty e.vacant (rw e.links c.new-2.ensures);
     }
 
 pub returns-clause-empty : goal.returns-clause-empty

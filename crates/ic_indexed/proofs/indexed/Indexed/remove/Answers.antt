@@ -1,4 +1,4 @@
-use Rattle.ic_container.proofs.ListedLemmas.{listed_freed, listed_stands, listed_values_freed}
+use Rattle.ic_container.proofs.ListedLemmas.{listed_freed, listed_stands, listed_values_freed, order_freed}
 use Rattle.ic_indexed.proofs.indexed.Indexed.remove.Goals as goal
 
 pub remove_place-requires : goal.remove_place-requires
@@ -16,3 +16,8 @@ pub returns-clause-removed : goal.returns-clause-removed
 returns-clause-removed g c =
     let out = rw c.new-object.ensures at c.remove-2.ensures in
     rw (← c.self.view_is, out.links) (listed_values_freed c.self.invariant.listed out.freed c.remove.new.links c.remove.new.list c.remove.ensures.2 out.value)
+
+pub returns-clause-order : goal.returns-clause-order
+returns-clause-order g c =
+    let out = rw c.new-object.ensures at c.remove-2.ensures in
+    rw (← c.self.view_is, out.links) (order_freed c.self.invariant.listed out.freed c.remove.new.links c.remove.new.list c.remove.ensures.2)
