@@ -1,0 +1,2 @@
+pub mod KeyLemmas
+pub mod RetainLemmas

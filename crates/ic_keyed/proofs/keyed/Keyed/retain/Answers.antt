@@ -1,0 +1,19 @@
+use Rattle.std.proofs.Common.{filter, refl, ◌∙◌, arith}
+use Rattle.ic_keyed.proofs.RetainLemmas.{asked_all, asked_more, asked_none, keyed_is}
+use Rattle.ic_keyed.proofs.keyed.Keyed.retain.Goals as goal
+
+pub loop-asked-init : goal.loop-asked-init
+loop-asked-init g c = record { parts = refl; asked = asked_none }
+
+pub loop-asked-preserved : goal.loop-asked-preserved
+loop-asked-preserved g c =
+    let k = c.loop-asked.invariant in
+    record {
+      parts = c.test_first.ensures.parts ∙ k.parts;
+      asked = asked_more k.asked (omega (arith, c.loop-asked-test.true, c.len-asked-end.ensures)) c.test_first.ensures.tested;
+    }
+
+pub returns : goal.returns
+returns g c holds tests =
+    let k = c.loop-asked.invariant in
+    keyed_is c.args.self.now c.loop-asked.self (filter holds c.args.self.now.values) k.parts (asked_all k.asked (omega (arith, c.loop-asked-test.false, c.len-asked-end.ensures)) holds tests)

@@ -1,0 +1,5 @@
+pub mod Keyed
+pub mod Kept
+pub mod Lends
+pub mod Refusals
+pub mod Tests

@@ -1,0 +1,342 @@
+//! Values by their keys, in the order of their use.
+//!
+//! ```text
+//! let mut pages = Keyed::new(rt.alloc()); // by a tree; `with_buckets` by a hash table
+//! pages.insert(page)?;
+//! let page = pages.peek(7)?; // the order stays
+//! let page = pages.get(7)?; // it is in front of all others
+//! let page = pages.remove(7)?;
+//! ```
+
+ghost use Rattle.std.specs.Prelude.{◌≡◌, ◌≤◌, ◌↔◌, ◌++◌, ◌∷◌, [], None, Some, Bool, List, filter, length, is_some, IsTrue, OnOk, IfOk, IfErr, MatchOption};
+ghost use Rattle.std.specs.List.{AllByRecursion};
+ghost use Rattle.std.specs.Fn.{FnReturnsAt};
+ghost use Rattle.std.specs.Option.{option_copied};
+ghost use Rattle.ic_unsafe_ref.specs.declared.place.Place.{Place};
+ghost use Rattle.ic_unsafe_ref.specs.Objects.{Objects as Placed, object_at};
+ghost use Rattle.ic_keyed.specs.Keyed.{value_with, without, touched, with_values, BeginsWith, EndsWith, HaveOwnKeys, ReplacesLast};
+
+use crate::InsertError;
+use crate::store::{find, place_of};
+use ic_container::Iter;
+use ic_hash_table::{Buckets, HashTable};
+use ic_indexed::{ByHash, ByKey, HasKey, Index, Indexed};
+use ic_link_ops::CoverError;
+use ic_rbtree::RBTree;
+use std::alloc::{Allocator, Global};
+use std::marker::Model;
+
+/// Values with a key each, at most one of a key, in the order of their use.
+///
+/// A clause sees the list of the values, the one that was used last in front (`values`), and in how many parts the index has them
+/// (`parts`): one by a tree, and the number of chains by a hash table. No two values have one key: `keys_differ` gives a proof that fact.
+///
+/// Each call that searches costs O(log n) by a tree and O(1) on average by a hash table, and `insert` alone takes memory.
+#[derive(Drop)]
+pub struct Keyed<T: HasKey, I: Index<T, A>, A: Allocator = Global> {
+    store: Indexed<T, I, A>,
+}
+
+/// Values that are found by a tree: O(log n).
+pub type TreeKeyed<T, A = Global> = Keyed<T, RBTree<ByKey<T>>, A>;
+
+/// Values that are found by a hash table: O(1) on average.
+pub type HashKeyed<T, B, A = Global> = Keyed<T, HashTable<ByHash<T>, B>, A>;
+
+impl<T: HasKey, I: Index<T, A>, A: Allocator> Model for Keyed<T, I, A> {
+    ghost use Rattle.ic_indexed.specs.Indexed.{values_of};
+    ghost use Rattle.ic_keyed.specs.Keyed.{KeyedValues, HaveOwnKeys};
+    ghost use Rattle.ic_keyed.specs.Kept.{keyed_code, keyed_of};
+
+    ghost Value = { KeyedValues T };
+
+    ghost coded = { keyed_code T.code };
+
+    ghost view = { λ k. keyed_of k.store };
+
+    ghost invariant = { λ k. HaveOwnKeys T.key_of (values_of k.store) };
+}
+
+impl<T: HasKey, A: Allocator> Keyed<T, RBTree<ByKey<T>>, A> {
+    /// No values, with a tree as the index. It takes no memory.
+    pub fn new(alloc: A) -> TreeKeyed<T, A>
+    where
+        A: Copy,
+        ensures values { result.values ≡ [] }
+        ensures parts { result.parts ≡ 1 }
+    {
+        Keyed {
+            store: Indexed::new(alloc),
+        }
+    }
+}
+
+impl<T: HasKey, B: Buckets + Drop, A: Allocator> Keyed<T, HashTable<ByHash<T>, B>, A> {
+    /// No values, with a hash table over these buckets as the index. It takes no memory.
+    ///
+    /// It requires that the buckets are empty, and that there is one at least and at most 4,294,967,296. With as many buckets as there
+    /// are values a search looks at one or two values on average, if nobody chooses the keys to fall into one chain.
+    pub fn with_buckets(alloc: A, buckets: B) -> HashKeyed<T, B, A>
+    where
+        A: Copy,
+        requires some { 1 ≤ length (B.fronts buckets) }
+        requires few { length (B.fronts buckets) ≤ 4294967296 }
+        requires empty { AllByRecursion (λ front. front ≡ None) (B.fronts buckets) }
+        ensures values { result.values ≡ [] }
+        ensures parts { result.parts ≡ length (B.fronts buckets) }
+    {
+        Keyed {
+            store: Indexed::with_buckets(alloc, buckets),
+        }
+    }
+}
+
+impl<T: HasKey, I: Index<T, A>, A: Allocator> Keyed<T, I, A> {
+    ghost use Rattle.std.specs.Borrow.{sem};
+    ghost use Rattle.ic_keyed.specs.Lends.{EndsAs};
+    ghost use Rattle.ic_keyed.specs.Refusals.{IsRefused};
+    ghost use Rattle.ic_keyed.specs.Tests.{Tests};
+
+    /// No values, with this index, whose links are in this table. It takes no memory.
+    ///
+    /// It requires that the index has all values where there is none.
+    pub fn with_index(alloc: A, index: I, links: I::Links) -> Keyed<T, I, A>
+    where
+        A: Copy,
+        requires none { (objects : Placed T) → ((place : Place) → object_at objects place ≡ None) → I.Has index links objects }
+        ensures values { result.values ≡ [] }
+        ensures parts { result.parts ≡ I.parts index }
+    {
+        Keyed {
+            store: Indexed::with_index(alloc, index, links),
+        }
+    }
+
+    /// No two values have one key. It does nothing: a caller whose proof needs that fact calls it.
+    #[inline]
+    pub fn keys_differ(&self)
+        ensures { HaveOwnKeys T.key_of self.now.values }
+    {
+        let _ = &self.store;
+    }
+
+    /// How many values there are. O(1).
+    #[inline]
+    pub fn len(&self) -> usize
+        ensures { result ≡ length self.now.values }
+    {
+        self.store.len()
+    }
+
+    /// Whether there is no value. O(1).
+    #[inline]
+    pub fn is_empty(&self) -> bool
+        ensures { IsTrue result ↔ (self.now.values ≡ []) }
+    {
+        self.store.is_empty()
+    }
+
+    /// Makes room for the links of so many more values, so that to insert them takes memory for the values alone. Nothing changes that a
+    /// clause sees, also where it is refused. At most two requests for memory.
+    pub fn reserve(&mut self, additional: usize) -> Result<(), CoverError>
+        ensures { self.new ≡ self.old }
+    {
+        self.store.reserve(additional)
+    }
+
+    /// A walk over the values from the one that was used last, and from both ends. The order stays. O(1).
+    pub fn iter(&self) -> Iter<'_, T, A>
+        ensures { result ≡ self.now.values }
+    {
+        self.store.iter()
+    }
+
+    /// The value of the key, if there is one, and how many values the search looked at. The order stays.
+    ///
+    /// By a tree it looks v times among n values, where `2^v <= (n + 1)^2`, and by a hash table at no more values than belong in the
+    /// chain of the key.
+    pub fn find(&self, key: u64) -> (Option<&T>, u64)
+        ensures value { option_copied result.0 ≡ value_with T.key_of key self.now.values }
+        ensures looks { I.IsFew self.now.parts key self.now.values result.1 }
+    {
+        let (place, looks) = find(&self.store, key);
+        match place {
+            Some(place) => (Some(self.store.at(place)), looks),
+            None => (None, looks),
+        }
+    }
+
+    /// The value of the key, if there is one. The order stays.
+    pub fn peek(&self, key: u64) -> Option<&T>
+        ensures { option_copied result ≡ value_with T.key_of key self.now.values }
+    {
+        let place = place_of(&self.store, key)?;
+        Some(self.store.at(place))
+    }
+
+    /// The value of the key, if there is one. It is used: it goes in front of all others, which keep their order.
+    pub fn get(&mut self, key: u64) -> Option<&T>
+        ensures* touches { sem 𝓛 (EndsAs T.row I.row A.row I.Links.row T.HasKey I.Index I.Links.Tables A.Allocator self.entry (touched T.key_of key self.old.values)) }
+        ensures value { option_copied result ≡ value_with T.key_of key self.old.values }
+    {
+        let used = place_of(&self.store, key)?;
+        self.store.move_to_front(used);
+        Some(self.store.at(used))
+    }
+
+    /// Moves the value of the key in front of all others, which keep their order. Whether there is one.
+    pub fn touch(&mut self, key: u64) -> bool
+        ensures found { result ≡ is_some (value_with T.key_of key self.old.values) }
+        ensures touched { self.new ≡ with_values self.old (touched T.key_of key self.old.values) }
+    {
+        let Some(place) = place_of(&self.store, key) else {
+            return false;
+        };
+        self.store.move_to_front(place);
+        true
+    }
+
+    /// The value that was used last, if there is one. The order stays. O(1).
+    pub fn first(&self) -> Option<&T>
+        ensures { MatchOption result (self.now.values ≡ []) (λ first. BeginsWith first.now self.now.values) }
+    {
+        let newest = self.store.first()?;
+        Some(self.store.at(newest))
+    }
+
+    /// The value that was used longest ago, if there is one. The order stays. O(1).
+    pub fn last(&self) -> Option<&T>
+        ensures { MatchOption result (self.now.values ≡ []) (λ last. EndsWith last.now self.now.values) }
+    {
+        let oldest = self.store.last()?;
+        Some(self.store.at(oldest))
+    }
+
+    /// Adds a value in front of all others.
+    ///
+    /// It is refused if there is one of its key, or if there is no room for one more. Then it comes back, and nothing has changed. It
+    /// costs two searches, and at most three requests for memory.
+    pub fn insert(&mut self, value: T) -> Result<(), InsertError<T>>
+        ensures inserted { OnOk result ((value_with T.key_of (T.key_of value) self.old.values ≡ None) × (self.new ≡ with_values self.old (value ∷ self.old.values))) }
+        ensures refused { IfErr result (λ refused. IsRefused T.key_of value self.old.values refused × (self.new ≡ self.old)) }
+    {
+        if place_of(&self.store, *value.key()).is_some() {
+            return Err(InsertError::KeyTaken(value));
+        }
+        match self.insert_new(value) {
+            Ok(()) => {}
+            Err(refused) => return Err(InsertError::NoRoom(refused)),
+        }
+        Ok(())
+    }
+
+    /// Adds a value in front of all others, without the search of `insert`. It requires that none has its key.
+    ///
+    /// If there is no room for one more it comes back, and nothing has changed.
+    pub fn insert_new(&mut self, value: T) -> Result<(), T>
+        requires new { value_with T.key_of (T.key_of value) self.old.values ≡ None }
+        ensures inserted { OnOk result (self.new ≡ with_values self.old (value ∷ self.old.values)) }
+        ensures refused { IfErr result (λ back. (back ≡ value) × (self.new ≡ self.old)) }
+    {
+        match self.store.place_front(value) {
+            Ok(_) => {}
+            Err(refused) => return Err(refused.into_value()),
+        }
+        Ok(())
+    }
+
+    /// Puts a value in the place of the one with its key, which comes back, and in front of all others, which keep their order.
+    ///
+    /// If none has its key the value itself comes back, and nothing has changed. One search.
+    pub fn replace(&mut self, value: T) -> Result<T, T>
+        ensures replaced { IfOk result (λ gone. (value_with T.key_of (T.key_of value) self.old.values ≡ Some gone)
+            × (self.new ≡ with_values self.old (value ∷ without T.key_of (T.key_of value) self.old.values))) }
+        ensures absent { IfErr result (λ back. (back ≡ value) × (value_with T.key_of (T.key_of value) self.old.values ≡ None) × (self.new ≡ self.old)) }
+    {
+        let Some(place) = place_of(&self.store, *value.key()) else {
+            return Err(value);
+        };
+        Ok(self.store.renew(place, value))
+    }
+
+    /// Puts a value in the place of the one that was used longest ago, which comes back, and in front of all others, which keep their
+    /// order. It requires that none has its key.
+    ///
+    /// If there is no value this one comes back, and nothing has changed. It costs two searches.
+    pub fn replace_last(&mut self, value: T) -> Result<T, T>
+        requires new { value_with T.key_of (T.key_of value) self.old.values ≡ None }
+        ensures replaced { IfOk result (λ last. ReplacesLast last value self.old self.new) }
+        ensures empty { IfErr result (λ back. (back ≡ value) × (self.old.values ≡ []) × (self.new ≡ self.old)) }
+    {
+        let Some(oldest) = self.store.last() else {
+            return Err(value);
+        };
+        Ok(self.store.renew(oldest, value))
+    }
+
+    /// Takes the value of the key out, if there is one. The others keep their order. It costs two searches.
+    pub fn remove(&mut self, key: u64) -> Option<T>
+        ensures value { result ≡ value_with T.key_of key self.old.values }
+        ensures removed { self.new ≡ with_values self.old (without T.key_of key self.old.values) }
+    {
+        let leaving = place_of(&self.store, key)?;
+        Some(self.store.remove(leaving))
+    }
+
+    /// Takes the value out that was used last, if there is one. It costs about a search.
+    pub fn pop_first(&mut self) -> Option<T>
+        ensures { MatchOption result ((self.old.values ≡ []) × (self.new ≡ self.old)) (λ first. self.old ≡ with_values self.new (first ∷ self.new.values)) }
+    {
+        self.store.pop_first()
+    }
+
+    /// Takes the value out that was used longest ago, if there is one. It costs about a search.
+    pub fn pop_last(&mut self) -> Option<T>
+        ensures { MatchOption result ((self.old.values ≡ []) × (self.new ≡ self.old)) (λ last. self.old ≡ with_values self.new (self.new.values ++ last ∷ [])) }
+    {
+        self.store.pop_last()
+    }
+
+    /// Keeps the values that pass the test, in their order, and drops the others. The test is asked once for each value, from the one that
+    /// was used last on. It costs a few steps for each value, and about a search for each that goes.
+    pub fn retain<F: Fn(&T) -> bool>(&mut self, keeps: F)
+    where
+        T: Drop,
+        requires callable { F.IsAlwaysCallable keeps }
+        ensures { (holds : T → Bool) → Tests (FnReturnsAt F.Fn keeps) holds → self.new ≡ with_values self.old (filter holds self.old.values) }
+    {
+        for _asked in 0..self.len() {
+            self.test_first(&keeps);
+        }
+    }
+
+    // Asks the test of the first value, which goes behind all others if it passes, and out if it does not.
+    fn test_first<F: Fn(&T) -> bool>(&mut self, keeps: &F)
+    where
+        T: Drop,
+        requires callable { F.IsAlwaysCallable keeps.now }
+        ensures parts { self.new.parts ≡ self.old.parts }
+        ensures tested { (holds : T → Bool) → Tests (FnReturnsAt F.Fn keeps.now) holds → (first : T) (rest : List T) → self.old.values ≡ first ∷ rest
+            → self.new.values ≡ rest ++ filter holds (first ∷ []) }
+    {
+        let Some(first) = self.store.first() else {
+            return;
+        };
+        if keeps(self.store.at(first)) {
+            self.store.move_to_back(first);
+        } else {
+            self.store.remove(first);
+        }
+    }
+
+    /// Takes all values out and drops them. It costs about a search for each.
+    pub fn clear(&mut self)
+    where
+        T: Drop,
+        ensures { self.new ≡ with_values self.old [] }
+    {
+        for _popped in 0..self.len() {
+            let _ = self.pop_last();
+        }
+    }
+}

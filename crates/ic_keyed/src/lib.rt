@@ -1,0 +1,20 @@
+//! Values with a key each, at most one of a key, in the order of their use.
+//!
+//! ```text
+//! let mut pages = Keyed::new(rt.alloc());
+//! pages.insert(page)?; // in front of all others, if none has its key
+//! let page = pages.get(7); // in front of all others again
+//! let oldest = pages.pop_last();
+//! ```
+//!
+//! A clause sees one list of values, the one that was used last in front. Each call cuts, joins or filters that list.
+#![tactic(auto)]
+
+mod insert_error;
+mod keyed;
+mod store;
+
+pub use ic_container::Iter;
+pub use ic_indexed::{ByHash, ByKey, HasKey, Index};
+pub use insert_error::InsertError;
+pub use keyed::{HashKeyed, Keyed, TreeKeyed};
