@@ -19,11 +19,10 @@ ghost use Rattle.ic_raw.specs.Words.{place_of, is_linked_two};
 
 use crate::gap::Side;
 use crate::number::{number_of, place_of};
-use crate::ring;
-use crate::ring_moves;
 use crate::status::{NULL, OK};
 use crate::table::{RawTable, refusal_at_end};
 use crate::words::RawTwo;
+use crate::{ring, ring_moves};
 use ic_unsafe_ref::Place;
 
 /// Makes a place the head of a ring with no members. O(1).

@@ -129,12 +129,7 @@ pub(crate) fn move_beside(
 // Moves all members of a head to this side of a place of another ring, and says whether it could: not beside that head itself, nor behind its
 // last member.
 #[inline]
-pub(crate) fn splice(
-    links: &mut RawTable<'_, RawTwo>,
-    side: Side,
-    at: Place,
-    given: Place,
-) -> bool
+pub(crate) fn splice(links: &mut RawTable<'_, RawTwo>, side: Side, at: Place, given: Place) -> bool
     ensures spliced { (r s : List Place) → IsCircle (lent_table links.old) (at ∷ r) → IsCircle (lent_table links.old) (given ∷ s)
         → IsDisjoint (at ∷ r) (given ∷ s)
         → (result ≡ true) × MakesTwo (lent_table links.old) (lent_table links.new) (at ∷ r ++ given ∷ s) (all_put_in side at r s) (given ∷ []) }

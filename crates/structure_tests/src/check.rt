@@ -13,11 +13,13 @@ ghost use Rattle.ic_rbtree.specs.Tree.{root_of};
 use crate::asserts::assert_true;
 use ic_chain::Chain;
 use ic_check::{
-    NamesItsNext, TellsLinks, TellsNeighbors, check, check_all, check_both, check_marking, check_tree,
-    is_sorted,
+    NamesItsNext, TellsLinks, TellsNeighbors, check, check_all, check_both, check_marking,
+    check_tree, is_sorted,
 };
 use ic_link_ops::linked_list::LinkedListOps;
-use ic_link_ops::{OneWord, PlainTable, Words, linked_list, rbtree, singly_linked_list, xor_linked_list};
+use ic_link_ops::{
+    OneWord, PlainTable, Words, linked_list, rbtree, singly_linked_list, xor_linked_list,
+};
 use ic_linked_list::{DoublyLinked, LinkedList};
 use ic_rbtree::{KeyAdapter, RBTree};
 use ic_singly_linked_list::SinglyLinked;

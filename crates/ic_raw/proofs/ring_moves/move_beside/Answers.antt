@@ -87,21 +87,23 @@ returns-clause-apart c r s circle ring away =
     (λ q out. c.close_gap.ensures.others q (prev_not {n = neighbors} r circle from.0.prev out) (next_not {n = neighbors} r circle from.1.next out)) in
     let other = stays_told c.args.side c.in-Some.from c.in-Some-beside.to from.0 from.1 to.0 to.1 (tested_other _ _ (sym c.eq.ensures ∙ c.if-eq.false))
     (λ e. tested_other _ _ (sym c.eq-2.ensures ∙ c.if-eq-2.false) (c.neighbor_on.ensures ∙ e)) in
-    let told = c.close_gap.ensures.told _ _ other.0 other.1 to.0 in
-    (refl, record {
-      circle = circle_stays {n = neighbors} r (place ∷ at ∷ s) off (disjoint_cons place r (at ∷ s) circle.distinct.0 away.1)
-          (λ q out. let beside = not_beside c.args.side mid s stays c.in-Some-beside.to told to.1 q out.1 in c.link_between.ensures.others q out.0 beside.0 beside.1);
-      beside = c.link_between.ensures.inserted c.args.side at s to.1 stays away.0;
-      frame = record {
-        extent = c.link_between.ensures.extent ∙ c.close_gap.ensures.extent;
-        others = λ q out.
-            let one : IsAbsent q (place ∷ r) = (out.0, absent_left q r (at ∷ s) out.1) in
-            let two = absent_right q r (at ∷ s) out.1 in
-            let beside = not_beside c.args.side old s ring c.in-Some-beside.to to.0 to.1 q two in
-            c.link_between.ensures.others q out.0 beside.0 beside.1
-            ∙ c.close_gap.ensures.others q (prev_not {n = neighbors} r circle from.0.prev one) (next_not {n = neighbors} r circle from.1.next one);
-      };
-    })
+    let told = c.close_gap.ensures.told _ _ other.0 other.1 to.0 in (
+      refl,
+      record {
+        circle = circle_stays {n = neighbors} r (place ∷ at ∷ s) off (disjoint_cons place r (at ∷ s) circle.distinct.0 away.1)
+            (λ q out. let beside = not_beside c.args.side mid s stays c.in-Some-beside.to told to.1 q out.1 in c.link_between.ensures.others q out.0 beside.0 beside.1);
+        beside = c.link_between.ensures.inserted c.args.side at s to.1 stays away.0;
+        frame = record {
+          extent = c.link_between.ensures.extent ∙ c.close_gap.ensures.extent;
+          others = λ q out.
+              let one : IsAbsent q (place ∷ r) = (out.0, absent_left q r (at ∷ s) out.1) in
+              let two = absent_right q r (at ∷ s) out.1 in
+              let beside = not_beside c.args.side old s ring c.in-Some-beside.to to.0 to.1 q two in
+              c.link_between.ensures.others q out.0 beside.0 beside.1
+              ∙ c.close_gap.ensures.others q (prev_not {n = neighbors} r circle from.0.prev one) (next_not {n = neighbors} r circle from.1.next one);
+        };
+      },
+    )
 
 pub returns-clause-within : goal.returns-clause-within
 returns-clause-within c r s circle =
@@ -112,17 +114,19 @@ returns-clause-within c r s circle =
     let to = c.beside.ensures.told c.in-Some-beside.to c.in-Some-beside.is in
     let rest = r ++ at ∷ s in
     let off = circle_taken {n = neighbors} from.0.prev from.1.next (c.close_gap.ensures.closed place) rest circle in
-    let ring = rotated {n = neighbors} (place ∷ r) (at ∷ s) circle in
-    (refl, record {
-      circle = c.link_between.ensures.inserted c.args.side at (s ++ r) to.1 (rotated {n = neighbors} r (at ∷ s) off) (absent_turned place (at ∷ s) r circle.distinct.0);
-      frame = record {
-        extent = c.link_between.ensures.extent ∙ c.close_gap.ensures.extent;
-        others = λ q out.
-            let beside = not_beside c.args.side old (s ++ place ∷ r) ring c.in-Some-beside.to to.0 to.1 q (absent_turned q (at ∷ s) (place ∷ r) out) in
-            c.link_between.ensures.others q out.0 beside.0 beside.1
-            ∙ c.close_gap.ensures.others q (prev_not {n = neighbors} rest circle from.0.prev out) (next_not {n = neighbors} rest circle from.1.next out);
-      };
-    })
+    let ring = rotated {n = neighbors} (place ∷ r) (at ∷ s) circle in (
+      refl,
+      record {
+        circle = c.link_between.ensures.inserted c.args.side at (s ++ r) to.1 (rotated {n = neighbors} r (at ∷ s) off) (absent_turned place (at ∷ s) r circle.distinct.0);
+        frame = record {
+          extent = c.link_between.ensures.extent ∙ c.close_gap.ensures.extent;
+          others = λ q out.
+              let beside = not_beside c.args.side old (s ++ place ∷ r) ring c.in-Some-beside.to to.0 to.1 q (absent_turned q (at ∷ s) (place ∷ r) out) in
+              c.link_between.ensures.others q out.0 beside.0 beside.1
+              ∙ c.close_gap.ensures.others q (prev_not {n = neighbors} rest circle from.0.prev out) (next_not {n = neighbors} rest circle from.1.next out);
+        };
+      },
+    )
 
 pub returns-clause-itself : goal.returns-clause-itself
 returns-clause-itself c r same circle = absurd (tested_other _ _ (sym c.eq.ensures ∙ c.if-eq.false) same)

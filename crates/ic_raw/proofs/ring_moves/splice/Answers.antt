@@ -79,27 +79,32 @@ returns-clause-spliced c r s ring circle away =
     let joined = c.cross.ensures.joins (before_gap side at r) s (from_gap side (lent_table c.close_gap.new.links) at r stays) off apart (last_before side old at r ring c.in-Some-beside.to to.0 to.1)
     (sym (last_some {n = neighbors} s circle from.0.prev (tested_other _ _ (sym c.eq-3.ensures ∙ c.if-eq-3.false)))) in
     let same : (q : Place) → q ≢ given → (lent_table c.set_next.new.self).entry q ≡ (lent_table c.cross.new.links).entry q =
-        λ q other. c.set_next.ensures.frame.others q other ∙ c.set_prev.ensures.frame.others q other in
-    (refl, record {
-      circle = circle_beside {n = neighbors} given (all_put side (lent_table c.cross.new.links) at r s joined.circle) (absent_all side at r s given rest.0 circle.distinct.0) same;
-      beside = record {
-        distinct = (tt, tt);
-        chain = (record {
-          linked = ap (λ x. x.linked) c.set_next.ensures.set ∙ ap (λ x. x.linked) c.set_prev.ensures.set
-              ∙ c.cross.ensures.no_step given ∙ c.close_gap.ensures.no_step given ∙ from.1.linked;
-          prev = ap (λ x. x.prev) c.set_next.ensures.set ∙ ap (λ x. x.prev) c.set_prev.ensures.set;
-          next = ap (λ x. x.next) c.set_next.ensures.set;
-        }, tt);
-      };
-      frame = record {
-        extent = c.set_next.ensures.frame.extent ∙ c.set_prev.ensures.frame.extent ∙ joined.frame.extent ∙ c.close_gap.ensures.extent;
-        others = λ q out.
-            let one = absent_left q (at ∷ r) (given ∷ s) out in
-            let two = absent_right q (at ∷ r) (given ∷ s) out in
-            same q two.0 ∙ joined.frame.others q (absent_both q (before_gap side at r) s (absent_gap side at r q one) two.1)
-            ∙ c.close_gap.ensures.others q (prev_not {n = neighbors} s circle from.0.prev two) (next_not {n = neighbors} s circle from.1.next two);
-      };
-    })
+    λ q other. c.set_next.ensures.frame.others q other ∙ c.set_prev.ensures.frame.others q other in (
+      refl,
+      record {
+        circle = circle_beside {n = neighbors} given (all_put side (lent_table c.cross.new.links) at r s joined.circle) (absent_all side at r s given rest.0 circle.distinct.0) same;
+        beside = record {
+          distinct = (tt, tt);
+          chain = (
+            record {
+              linked = ap (λ x. x.linked) c.set_next.ensures.set ∙ ap (λ x. x.linked) c.set_prev.ensures.set
+                  ∙ c.cross.ensures.no_step given ∙ c.close_gap.ensures.no_step given ∙ from.1.linked;
+              prev = ap (λ x. x.prev) c.set_next.ensures.set ∙ ap (λ x. x.prev) c.set_prev.ensures.set;
+              next = ap (λ x. x.next) c.set_next.ensures.set;
+            },
+            tt,
+          );
+        };
+        frame = record {
+          extent = c.set_next.ensures.frame.extent ∙ c.set_prev.ensures.frame.extent ∙ joined.frame.extent ∙ c.close_gap.ensures.extent;
+          others = λ q out.
+              let one = absent_left q (at ∷ r) (given ∷ s) out in
+              let two = absent_right q (at ∷ r) (given ∷ s) out in
+              same q two.0 ∙ joined.frame.others q (absent_both q (before_gap side at r) s (absent_gap side at r q one) two.1)
+              ∙ c.close_gap.ensures.others q (prev_not {n = neighbors} s circle from.0.prev two) (next_not {n = neighbors} s circle from.1.next two);
+        };
+      },
+    )
 
 pub returns-clause-before : goal.returns-clause-before
 returns-clause-before c made = (c.in-Some.from.0, (c.around.ensures.told c.in-Some.from c.in-Some.is).0)
