@@ -42,7 +42,7 @@ static uint32_t *shuffled(uint64_t *state, uint32_t count) {
     return numbers;
 }
 
-#ifdef __unix__
+#if defined(__unix__) || defined(__APPLE__)
 static uint64_t now(void) {
     struct timespec time;
     clock_gettime(CLOCK_MONOTONIC, &time);

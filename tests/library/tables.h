@@ -6,7 +6,7 @@
 #include "common.h"
 #include <string.h>
 
-#ifdef __unix__
+#if defined(__unix__) || defined(__APPLE__)
 #include <sys/mman.h>
 #include <unistd.h>
 #endif
@@ -81,7 +81,7 @@ static inline struct ic_list lead_through(enum kind kind, void *table, const uin
     return (struct ic_list){grow(table, members, count, IC_NONE, depth), 0};
 }
 
-#ifdef __unix__
+#if defined(__unix__) || defined(__APPLE__)
 /* The end of a page between two that can't be touched. Before it are `count` words that can be read and written. */
 static inline uint64_t *end_between_guards(size_t count) {
     size_t page = (size_t)sysconf(_SC_PAGESIZE);
