@@ -1,4 +1,5 @@
 pub mod Edits
 pub mod Members
 pub mod Placed
+pub mod Ready
 pub mod Trees

@@ -6,5 +6,6 @@ mod cursors;
 mod keys;
 mod looks;
 mod shape;
+mod summaries;
 pub(crate) mod trees;
 mod walks;

@@ -1,5 +1,5 @@
 mod ConsistencyLemmas
-mod EditLemmas
+pub mod EditLemmas
 pub mod StepLemmas
 mod CountLemmas
 mod SubtreeLemmas

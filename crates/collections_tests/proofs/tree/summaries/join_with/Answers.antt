@@ -1,0 +1,42 @@
+use Rattle.std.proofs.Common.{◌≡◌, ◌<◌, ◌∙◌, [], ◌∷◌, true, sym, ap, arith, inr, rules, subst}
+use Rattle.ic_unsafe_ref.specs.Places.{index_of}
+use Rattle.ic_link_ops.specs.Sequences.{Cut, join, insert}
+use Rattle.ic_link_ops.specs.Tables.{Extent}
+use Rattle.ic_link_ops.proofs.Times.{times_append}
+use Rattle.ic_rbtree.proofs.KeptHeads.{shown}
+use Rattle.collections_tests.proofs.Ready.{on_ok, one_more, parts_right, ready_behind}
+use Rattle.collections_tests.proofs.tree.summaries.join_with.Goals as goal
+
+pub member_at-member-requires : goal.member_at-member-requires
+member_at-member-requires g c = let q = c.requires.ready in record { shown = (q.members, q.shown) }
+
+pub join-joined-requires-clause-covered : goal.join-joined-requires-clause-covered
+join-joined-requires-clause-covered g c =
+    let m = c.member_at-member.ensures.member in
+    rw ((c.split_off-rest.ensures.split m.front m.back m.shown).frame.extent, c.requires.ready.covers) c.requires.few
+
+pub join-joined-requires-clause-shown : goal.join-joined-requires-clause-shown
+join-joined-requires-clause-shown g c =
+    let m = c.member_at-member.ensures.member in
+    let s = c.split_off-rest.ensures.split m.front m.back m.shown in
+    let gap : Cut = record { front = m.front; back = c.member_at-member.result ∷ m.back } in
+    (gap, record { front = s.keeps; back = s.hands_out; distinct = (shown (g.E.TreeHead.kept c.args.tree.now.head) m.shown).held.distinct })
+
+pub returns : goal.returns
+returns g c =
+    let q = c.requires.ready in
+    let m = c.member_at-member.ensures.member in
+    let e = c.split_off-rest.ensures in
+    let s = e.split m.front m.back m.shown in
+    let gap : Cut = record { front = m.front; back = c.member_at-member.result ∷ m.back } in
+    let is : c.is_ok.result ≡ true = search rules in
+    let ok = sym c.is_ok.ensures.value ∙ is in
+    let put = on_ok c.join-joined.result ok (c.join-joined.ensures.joined gap (record { front = s.keeps; back = s.hands_out; distinct = (shown (g.E.TreeHead.kept c.args.tree.now.head) m.shown).held.distinct })) in
+    let steps = on_ok c.join-joined.result ok c.join-joined.ensures.acquired in
+    let kept = g.E.TreeHead.kept in
+    record {
+      ready = ready_behind kept steps (ap (λ (x : Extent). x.places) s.frame.extent ∙ q.covers)
+          (λ p covered. e.no_step.covers p (q.room p (subst (λ (x : Extent). index_of p < x.places) s.frame.extent covered))) put.frame.extent
+          (join gap) (insert gap c.args.object) (parts_right kept q e.no_step (join gap) (join gap) m.shown (λ p there. inr there)) put.shows
+          (one_more c.args.object [] (join gap) (insert gap c.args.object) (λ p. omega (arith, times_append p gap.front gap.back, times_append p gap.front (c.args.object ∷ gap.back))));
+    }

@@ -1,0 +1,11 @@
+use Rattle.collections_tests.proofs.Ready.{last_popped}
+use Rattle.collections_tests.proofs.tree.summaries.pop_back.Goals as goal
+
+pub pop_back-requires : goal.pop_back-requires
+pop_back-requires g c = let q = c.requires.ready in record { shown = (q.members, q.shown) }
+
+pub returns : goal.returns
+returns g c =
+    let q = c.requires.ready in
+    let e = c.pop_back.ensures in
+    record { ready = last_popped g.L.LinkOps.Does g.E.TreeHead.kept q c.pop_back.result e.released e.empty (e.frame q.members q.shown).extent (e.removed q.members q.shown) }

@@ -1,0 +1,464 @@
+//! Summaries over the edits of a tree: after each edit and a `refresh` they tell what the members show, in a tree of any head and over any sums.
+
+ghost use Rattle.std.specs.Prelude.{◌≡◌, ◌<◌, true, List};
+ghost use Rattle.ic_unsafe_ref.specs.declared.place.Place.{Place};
+ghost use Rattle.ic_unsafe_ref.specs.Objects.{is_placed};
+ghost use Rattle.ic_unsafe_ref.specs.Places.{index_of};
+ghost use Rattle.ic_link_ops.specs.Positions.{HasMember};
+ghost use Rattle.ic_rbtree.specs.Kept.{IsEmptied, ShowsKept, ShowsKeptSome};
+ghost use Rattle.ic_rbtree.specs.Tree.{head_of, root_in};
+ghost use Rattle.ic_augmented.specs.Consistent.{ShowsSummed};
+ghost use Rattle.ic_augmented.specs.Summed.{links_of, sums_of};
+ghost use Rattle.collections_tests.specs.Ready.{IsReady};
+
+use crate::notes::assert_words;
+use crate::tree::trees::OwnKey;
+use ic_augmented::{
+    Counts, Greatest, RenewSums, Summed, first_greater, index_of, len, nth, refresh, set_value,
+};
+use ic_link_ops::rbtree::RBTreeOps;
+use ic_rbtree::{RBTree, TreeHead};
+use ic_test_support::answers::write_places;
+use ic_test_support::notes::{Answer, Text};
+use ic_test_support::objects::{TENS, eight_objects, place_at, reference};
+use ic_unsafe_ref::{Objects, UnsafeRef};
+use std::alloc::Global;
+use std::process::Abort;
+
+// What a test reads of a tree that is summed.
+trait Readings: RenewSums {
+    // Notes it.
+    fn note<E: TreeHead, L: RBTreeOps>(
+        notes: &mut Text,
+        tree: &RBTree<OwnKey, E>,
+        summed: &Summed<L, Self>,
+    )
+        requires shown { (s : List Place) × ShowsSummed L.node (Self.sums (sums_of summed.now)) (L.table (links_of summed.now)) (root_in E.kept tree.now) s };
+}
+
+// How many members there are, and each by its position, which it has to tell itself.
+impl Readings for Counts {
+    fn note<E: TreeHead, L: RBTreeOps>(
+        notes: &mut Text,
+        tree: &RBTree<OwnKey, E>,
+        summed: &Summed<L, Counts>,
+    ) {
+        let count = len(tree, summed);
+        notes.add(Answer::Number(count), " ");
+        for position in 0..count {
+            let found = nth(tree, summed, position);
+            write_places(notes, &[found]);
+            if let Some(place) = found {
+                if index_of(summed, place) != position {
+                    notes.word("astray ");
+                }
+            }
+        }
+    }
+}
+
+// The first members whose numbers are greater than 25, than 45 and than 65.
+impl Readings for Greatest {
+    fn note<E: TreeHead, L: RBTreeOps>(
+        notes: &mut Text,
+        tree: &RBTree<OwnKey, E>,
+        summed: &Summed<L, Greatest>,
+    ) {
+        write_places(
+            notes,
+            &[
+                first_greater(tree, summed, 25),
+                first_greater(tree, summed, 45),
+                first_greater(tree, summed, 65),
+            ],
+        );
+    }
+}
+
+// Renews the summaries, and notes what they tell.
+fn write_sums<E: TreeHead, L: RBTreeOps, M: Readings>(
+    notes: &mut Text,
+    tree: &RBTree<OwnKey, E>,
+    summed: &mut Summed<L, M>,
+)
+    requires ready { IsReady E.kept L.node L.table M.sums M.Covers tree.now summed.old }
+    ensures ready { IsReady E.kept L.node L.table M.sums M.Covers tree.now summed.new }
+{
+    refresh(tree, summed);
+    M::note(notes, tree, summed);
+}
+
+// The member at that position. The test ends where there is none.
+fn member_at<E: TreeHead, L: RBTreeOps>(
+    rt: &impl Abort,
+    tree: &RBTree<OwnKey, E>,
+    links: &L,
+    position: usize,
+) -> UnsafeRef<u64>
+    requires shown { ShowsKeptSome E.kept L.node (L.table links.now) (head_of tree.now) }
+    ensures member { HasMember (ShowsKept E.kept L.node (L.table links.now) (head_of tree.now)) result }
+{
+    let mut cursor = tree.front(links);
+    for _step in 0..position {
+        cursor.move_next();
+    }
+    UnsafeRef::new(cursor.get_ptr().expect(rt, "a member"))
+}
+
+// Puts the object in where its key belongs.
+fn put_by_key<E: TreeHead, L: RBTreeOps, M: RenewSums>(
+    rt: &impl Abort,
+    tree: &mut RBTree<OwnKey, E>,
+    summed: &mut Summed<L, M>,
+    objects: &Objects<u64>,
+    object: UnsafeRef<u64>,
+)
+    requires few { index_of object < 8 }
+    requires placed { (q : Place) → index_of q < 8 → is_placed objects.now q ≡ true }
+    requires ready { IsReady E.kept L.node L.table M.sums M.Covers tree.old summed.old }
+    ensures ready { IsReady E.kept L.node L.table M.sums M.Covers tree.new summed.new }
+{
+    let inserted = tree.insert(summed, objects, object);
+    assert!(rt; inserted.is_ok());
+}
+
+// Puts the object in where its key belongs, with the member at the position as the hint.
+fn put_with_hint<E: TreeHead, L: RBTreeOps, M: RenewSums>(
+    rt: &impl Abort,
+    tree: &mut RBTree<OwnKey, E>,
+    summed: &mut Summed<L, M>,
+    objects: &Objects<u64>,
+    position: usize,
+    object: UnsafeRef<u64>,
+)
+    requires few { index_of object < 8 }
+    requires placed { (q : Place) → index_of q < 8 → is_placed objects.now q ≡ true }
+    requires ready { IsReady E.kept L.node L.table M.sums M.Covers tree.old summed.old }
+    ensures ready { IsReady E.kept L.node L.table M.sums M.Covers tree.new summed.new }
+{
+    let hint = member_at(rt, &*tree, &*summed, position);
+    let inserted = tree.insert_with_hint(summed, objects, &hint, object);
+    assert!(rt; inserted.is_ok());
+}
+
+// Puts the object in front of the member at the position, by a cursor.
+fn put_before<E: TreeHead, L: RBTreeOps, M: RenewSums>(
+    rt: &impl Abort,
+    tree: &mut RBTree<OwnKey, E>,
+    summed: &mut Summed<L, M>,
+    position: usize,
+    object: UnsafeRef<u64>,
+)
+    requires few { index_of object < 8 }
+    requires ready { IsReady E.kept L.node L.table M.sums M.Covers tree.old summed.old }
+    ensures ready { IsReady E.kept L.node L.table M.sums M.Covers tree.new summed.new }
+{
+    let member = member_at(rt, &*tree, &*summed, position);
+    let mut cursor = tree.cursor_mut_from_ptr(summed, member);
+    let inserted = cursor.insert_before(object);
+    assert!(rt; inserted.is_ok());
+}
+
+// Puts the object in the place of the member at the position, by a cursor.
+fn replace_at<E: TreeHead, L: RBTreeOps, M: RenewSums>(
+    rt: &impl Abort,
+    tree: &mut RBTree<OwnKey, E>,
+    summed: &mut Summed<L, M>,
+    position: usize,
+    object: UnsafeRef<u64>,
+)
+    requires few { index_of object < 8 }
+    requires ready { IsReady E.kept L.node L.table M.sums M.Covers tree.old summed.old }
+    ensures ready { IsReady E.kept L.node L.table M.sums M.Covers tree.new summed.new }
+{
+    let member = member_at(rt, &*tree, &*summed, position);
+    let mut cursor = tree.cursor_mut_from_ptr(summed, member);
+    let replaced = cursor.replace_with(object);
+    assert!(rt; replaced.is_ok());
+}
+
+// Takes the member at the position off, by a cursor.
+fn remove_at<E: TreeHead, L: RBTreeOps, M: RenewSums>(
+    rt: &impl Abort,
+    tree: &mut RBTree<OwnKey, E>,
+    summed: &mut Summed<L, M>,
+    position: usize,
+)
+    requires ready { IsReady E.kept L.node L.table M.sums M.Covers tree.old summed.old }
+    ensures ready { IsReady E.kept L.node L.table M.sums M.Covers tree.new summed.new }
+{
+    let member = member_at(rt, &*tree, &*summed, position);
+    let mut cursor = tree.cursor_mut_from_ptr(summed, member);
+    let _ = cursor.remove();
+}
+
+// Takes the member at the position off, by its reference.
+fn remove<E: TreeHead, L: RBTreeOps, M: RenewSums>(
+    rt: &impl Abort,
+    tree: &mut RBTree<OwnKey, E>,
+    summed: &mut Summed<L, M>,
+    position: usize,
+)
+    requires ready { IsReady E.kept L.node L.table M.sums M.Covers tree.old summed.old }
+    ensures ready { IsReady E.kept L.node L.table M.sums M.Covers tree.new summed.new }
+{
+    let member = member_at(rt, &*tree, &*summed, position);
+    tree.remove(summed, &member);
+}
+
+// Takes the first member off, if there is one.
+fn pop_front<E: TreeHead, L: RBTreeOps, M: RenewSums>(
+    tree: &mut RBTree<OwnKey, E>,
+    summed: &mut Summed<L, M>,
+)
+    requires ready { IsReady E.kept L.node L.table M.sums M.Covers tree.old summed.old }
+    ensures ready { IsReady E.kept L.node L.table M.sums M.Covers tree.new summed.new }
+{
+    let _ = tree.pop_front(summed);
+}
+
+// Takes the last member off, if there is one.
+fn pop_back<E: TreeHead, L: RBTreeOps, M: RenewSums>(
+    tree: &mut RBTree<OwnKey, E>,
+    summed: &mut Summed<L, M>,
+)
+    requires ready { IsReady E.kept L.node L.table M.sums M.Covers tree.old summed.old }
+    ensures ready { IsReady E.kept L.node L.table M.sums M.Covers tree.new summed.new }
+{
+    let _ = tree.pop_back(summed);
+}
+
+// Splits the tree in front of the member at the position, notes what the summaries tell of both parts, and puts the second behind the first again.
+fn write_parts<E: TreeHead, L: RBTreeOps, M: Readings>(
+    rt: &impl Abort,
+    notes: &mut Text,
+    tree: &mut RBTree<OwnKey, E>,
+    summed: &mut Summed<L, M>,
+    position: usize,
+)
+    requires ready { IsReady E.kept L.node L.table M.sums M.Covers tree.old summed.old }
+    ensures ready { IsReady E.kept L.node L.table M.sums M.Covers tree.new summed.new }
+{
+    let member = member_at(rt, &*tree, &*summed, position);
+    let mut rest = tree.split_off(summed, &member);
+    refresh(&*tree, summed);
+    M::note(notes, &*tree, &*summed);
+    refresh(&rest, summed);
+    M::note(notes, &rest, &*summed);
+    tree.append(summed, &mut rest);
+}
+
+// Splits the tree in front of the member at the position, and puts the second part behind the first again, with the object between both.
+fn join_with<E: TreeHead, L: RBTreeOps, M: RenewSums>(
+    rt: &impl Abort,
+    tree: &mut RBTree<OwnKey, E>,
+    summed: &mut Summed<L, M>,
+    position: usize,
+    object: UnsafeRef<u64>,
+)
+    requires few { index_of object < 8 }
+    requires ready { IsReady E.kept L.node L.table M.sums M.Covers tree.old summed.old }
+    ensures ready { IsReady E.kept L.node L.table M.sums M.Covers tree.new summed.new }
+{
+    let member = member_at(rt, &*tree, &*summed, position);
+    let mut rest = tree.split_off(summed, &member);
+    let joined = tree.join(summed, object, &mut rest);
+    assert!(rt; joined.is_ok());
+}
+
+// Takes all members off.
+fn clear<E: TreeHead, L: RBTreeOps, M: RenewSums>(
+    tree: &mut RBTree<OwnKey, E>,
+    summed: &mut Summed<L, M>,
+)
+    requires ready { IsReady E.kept L.node L.table M.sums M.Covers tree.old summed.old }
+    ensures ready { IsReady E.kept L.node L.table M.sums M.Covers tree.new summed.new }
+{
+    tree.clear(summed);
+}
+
+// One edit, of the object at a place, and at the member at a position.
+enum Edit {
+    ByKey(usize),
+    WithHint(usize, usize),
+    Before(usize, usize),
+    Replace(usize, usize),
+    RemoveAt(usize),
+    Remove(usize),
+    PopFront,
+    PopBack,
+    Parts(usize),
+    Join(usize, usize),
+    Clear,
+}
+
+// The object at one of the eight places.
+fn eighth(place: usize) -> UnsafeRef<u64>
+    ensures { index_of result < 8 }
+{
+    reference(place % 8)
+}
+
+// Makes the edit.
+fn make<E: TreeHead, L: RBTreeOps, M: Readings>(
+    rt: &impl Abort,
+    notes: &mut Text,
+    tree: &mut RBTree<OwnKey, E>,
+    summed: &mut Summed<L, M>,
+    objects: &Objects<u64>,
+    edit: &Edit,
+)
+    requires placed { (q : Place) → index_of q < 8 → is_placed objects.now q ≡ true }
+    requires ready { IsReady E.kept L.node L.table M.sums M.Covers tree.old summed.old }
+    ensures ready { IsReady E.kept L.node L.table M.sums M.Covers tree.new summed.new }
+{
+    match edit {
+        Edit::ByKey(object) => put_by_key(rt, tree, summed, objects, eighth(*object)),
+        Edit::WithHint(at, object) => {
+            put_with_hint(rt, tree, summed, objects, *at, eighth(*object));
+        }
+        Edit::Before(at, object) => put_before(rt, tree, summed, *at, eighth(*object)),
+        Edit::Replace(at, object) => replace_at(rt, tree, summed, *at, eighth(*object)),
+        Edit::RemoveAt(at) => remove_at(rt, tree, summed, *at),
+        Edit::Remove(at) => remove(rt, tree, summed, *at),
+        Edit::PopFront => pop_front(tree, summed),
+        Edit::PopBack => pop_back(tree, summed),
+        Edit::Parts(at) => write_parts(rt, notes, tree, summed, *at),
+        Edit::Join(at, object) => join_with(rt, tree, summed, *at, eighth(*object)),
+        Edit::Clear => clear(tree, summed),
+    }
+}
+
+// The edits of a test. Beside each stand the members that the tree has then.
+const EDITS: &[Edit] = &[
+    Edit::ByKey(3), // 3
+    Edit::WithHint(0, 1), // 1 3: in front of the hint
+    Edit::WithHint(0, 6), // 1 3 6: elsewhere
+    Edit::ByKey(5), // 1 3 5 6
+    Edit::WithHint(2, 4), // 1 3 4 5 6
+    Edit::WithHint(4, 0), // 0 1 3 4 5 6
+    Edit::Before(2, 2), // 0 1 2 3 4 5 6
+    Edit::Replace(5, 7), // 0 1 2 3 4 7 6
+    Edit::RemoveAt(1), // 0 2 3 4 7 6
+    Edit::Remove(3), // 0 2 3 7 6
+    Edit::PopFront, // 2 3 7 6
+    Edit::PopBack, // 2 3 7
+    Edit::Before(0, 6), // 6 2 3 7
+    Edit::Before(3, 5), // 6 2 3 5 7
+    Edit::Parts(2), // 6 2 and 3 5 7, and then 6 2 3 5 7
+    Edit::Join(1, 1), // 6 1 2 3 5 7
+    Edit::Clear, // none
+    Edit::ByKey(2), // 2
+];
+
+// Makes all edits, and notes after each what the summaries tell.
+fn play<E: TreeHead, L: RBTreeOps, M: Readings>(
+    rt: &impl Abort,
+    notes: &mut Text,
+    tree: &mut RBTree<OwnKey, E>,
+    summed: &mut Summed<L, M>,
+    objects: &Objects<u64>,
+)
+    requires placed { (q : Place) → index_of q < 8 → is_placed objects.now q ≡ true }
+    requires ready { IsReady E.kept L.node L.table M.sums M.Covers tree.old summed.old }
+{
+    for edit in EDITS {
+        make(rt, notes, tree, summed, objects, edit);
+        write_sums(notes, &*tree, summed);
+    }
+}
+
+// Counts of the tree that has no members: how many it has after each edit, and which stand at each position.
+fn play_counts<E: TreeHead>(rt: &impl Abort, alloc: Global, tree: RBTree<OwnKey, E>)
+    requires empty { IsEmptied (E.kept (head_of tree)) }
+{
+    let mut notes = Text::new(alloc);
+    let mut tree = tree;
+    let (objects, links) = eight_objects(alloc, TENS).expect(rt, "memory");
+    let mut sums = Counts::new(alloc);
+    let covered = sums.cover(8);
+    assert!(rt; covered.is_ok());
+    let mut summed = Summed { links, sums };
+    play(rt, &mut notes, &mut tree, &mut summed, &objects);
+    assert_words(
+        rt,
+        &notes,
+        "1 3
+        2 1 3
+        3 1 3 6
+        4 1 3 5 6
+        5 1 3 4 5 6
+        6 0 1 3 4 5 6
+        7 0 1 2 3 4 5 6
+        7 0 1 2 3 4 7 6
+        6 0 2 3 4 7 6
+        5 0 2 3 7 6
+        4 2 3 7 6
+        3 2 3 7
+        4 6 2 3 7
+        5 6 2 3 5 7
+        2 6 2  3 3 5 7  5 6 2 3 5 7
+        6 6 1 2 3 5 7
+        0
+        1 2",
+    );
+}
+
+// The numbers at the places 0 to 7.
+const NUMBERS: [u64; 8] = [20, 40, 30, 60, 80, 70, 50, 10];
+
+// Numbers beside the tree that has no members: which member is the first, after each edit, with more than 25, with more than 45 and with
+// more than 65.
+fn play_greatest<E: TreeHead>(rt: &impl Abort, alloc: Global, tree: RBTree<OwnKey, E>)
+    requires empty { IsEmptied (E.kept (head_of tree)) }
+{
+    let mut notes = Text::new(alloc);
+    let mut tree = tree;
+    let (objects, links) = eight_objects(alloc, TENS).expect(rt, "memory");
+    let mut sums = Greatest::new(alloc);
+    let covered = sums.cover(8);
+    assert!(rt; covered.is_ok());
+    let mut summed = Summed { links, sums };
+    for index in 0..8 {
+        set_value(&mut summed, place_at(index), NUMBERS[index]);
+    }
+    play(rt, &mut notes, &mut tree, &mut summed, &objects);
+    assert_words(
+        rt,
+        &notes,
+        "3 3 none
+        1 3 none
+        1 3 none
+        1 3 5
+        1 3 4
+        1 3 4
+        1 3 4
+        1 3 4
+        2 3 4
+        2 3 none
+        2 3 none
+        2 3 none
+        6 6 none
+        6 6 5
+        6 6 none  3 3 5  6 6 5
+        6 6 5
+        none none none
+        2 none none",
+    );
+}
+
+// Promise: counts after each edit.
+#[test]
+fn counts_after_each_edit(rt: HostRuntime) {
+    let alloc = rt.alloc();
+    play_counts(&rt, alloc, RBTree::new(OwnKey));
+    play_counts(&rt, alloc, RBTree::with_ends(OwnKey));
+}
+
+// Promise: greatest numbers after each edit.
+#[test]
+fn greatest_after_each_edit(rt: HostRuntime) {
+    let alloc = rt.alloc();
+    play_greatest(&rt, alloc, RBTree::new(OwnKey));
+    play_greatest(&rt, alloc, RBTree::with_ends(OwnKey));
+}
