@@ -4,7 +4,7 @@ import dataclasses
 import math
 
 # Workloads for which there are programs of their own: their tables have other columns.
-OF_FEW = ("sort", "fresh", "fresh-ends", "hash_find")
+OF_FEW = ("sort", "insert-counts", "remove-counts", "fresh", "fresh-ends", "hash_find")
 PAGE, PLOT = "beside-peers.md", "beside-peers.svg"
 OURS, OTHER, ENDS, RUST = "ours", "ours, other", "ours, kept ends", "Rust crate"
 PEERS = [RUST, "Boost", "BSD", "list_sort", "uthash"]  # those that no check makes slower, and that are as their users get them
