@@ -1,0 +1,21 @@
+//! A connection.
+
+use ic_keyed::HasKey;
+
+/// A connection that is open.
+#[derive(Clone, Copy, PartialEq, Eq, Debug)]
+pub struct Connection {
+    /// By which it is found.
+    pub id: u64,
+    /// When it was opened, or touched last.
+    pub seen: u64,
+}
+
+impl HasKey for Connection {
+    ghost key_of = { λ connection. connection.id };
+
+    #[inline]
+    fn key(&self) -> &u64 {
+        &self.id
+    }
+}
