@@ -14,3 +14,5 @@ mod hash_table;
 mod keyed;
 #[cfg(test)]
 mod tree_merges;
+#[cfg(test)]
+mod unique_keys;

@@ -1,7 +1,8 @@
 -- Caches: entries, the one touched last in front, and how many there may be.
-use Rattle.std.specs.Prelude.{◌≡◌, ℕ, ◌≤◌, Bool, false, not, eqb, Option, List, [], ◌∷◌, ◌++◌, length, take, filter, find, slice_get}
-use Rattle.std.specs.List.{AllByRecursion}
+use Rattle.std.specs.Prelude.{ℕ, ◌≤◌, Option, List, ◌∷◌, length, take, slice_get}
 use Rattle.std.specs.Option.{option_map, option_or}
+use Rattle.ic_keyed.specs.Keyed as keyed
+use Rattle.ic_keyed.specs.Keyed.{KeyedValues}
 use Rattle.lru_cache.specs.declared.entry.Entry.{Entry}
 
 -- the entries, from the one touched last to the oldest, the most that there may be, and in how many parts the index has them: a search
@@ -22,24 +23,19 @@ module _ {V : Type 0} where
   abbrev pub entry_of : ℕ → V → Entry V
   entry_of key value = record { key = key; value = value }
 
-  -- whether an entry has the key
-  abbrev pub has_key : ℕ → Entry V → Bool
-  has_key key entry = eqb entry.key key
-
   -- the entry of the key, if there is one, and its value
   abbrev pub entry_with : ℕ → List (Entry V) → Option (Entry V)
-  entry_with key entries = find (has_key key) entries
+  entry_with key entries = keyed.value_with key_of key entries
 
   abbrev pub value_with : ℕ → List (Entry V) → Option V
   value_with key entries = option_map (λ (entry : Entry V). entry.value) (entry_with key entries)
 
-  -- the entries without that of the key
+  -- the entries without that of the key, and those of which it stands in front
   abbrev pub without : ℕ → List (Entry V) → List (Entry V)
-  without key entries = filter (λ entry. not (has_key key entry)) entries
+  without key entries = keyed.without key_of key entries
 
-  -- TOUCHED: the entry of the key, if there is one, stands in front of all others, which keep their order
   abbrev pub touched : ℕ → List (Entry V) → List (Entry V)
-  touched key entries = filter (has_key key) entries ++ without key entries
+  touched key entries = keyed.touched key_of key entries
 
   -- INSERTED: the entry stands in front, in place of the one with its key; of more than there may be the last ones are gone
   abbrev pub inserted : Entry V → Cache V → List (Entry V)
@@ -53,12 +49,11 @@ module _ {V : Type 0} where
   abbrev pub with_entries : Cache V → List (Entry V) → Cache V
   with_entries cache entries = record { entries = entries; capacity = cache.capacity; parts = cache.parts }
 
-  -- no two entries have one key
-  abbrev pub HaveOwnKeys : List (Entry V) → Type 0
-  HaveOwnKeys [] = Unit {0}
-  HaveOwnKeys (entry ∷ entries) = AllByRecursion (λ other. has_key entry.key other ≡ false) entries × HaveOwnKeys entries
+  -- the cache that keeps these entries
+  abbrev pub cache_of : ℕ → KeyedValues (Entry V) → Cache V
+  cache_of capacity kept = record { entries = kept.values; capacity = capacity; parts = kept.parts }
 
   -- WHAT HOLDS OF EACH CACHE: no key twice, and no more entries than there may be
   pub record IsSound (cache : Cache V) : Type 0 where
-    pub own : HaveOwnKeys cache.entries
+    pub own : keyed.HaveOwnKeys key_of cache.entries
     pub few : length cache.entries ≤ cache.capacity

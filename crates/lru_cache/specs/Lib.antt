@@ -1,3 +1,2 @@
 pub mod Cache
-pub mod Kept
 pub mod Lends

@@ -14,9 +14,8 @@ ghost use Rattle.std.specs.Option.{option_copied, option_map};
 
 use crate::InsertError;
 use crate::entry::Entry;
-use crate::store::{Store, find, leaving};
 use ic_hash_table::{Buckets, HashTable};
-use ic_indexed::{ByHash, ByKey, Index, Indexed};
+use ic_keyed::{ByHash, ByKey, Index, Keyed};
 use ic_rbtree::RBTree;
 use std::alloc::{Allocator, Global};
 use std::marker::Model;
@@ -29,8 +28,7 @@ use std::marker::Model;
 /// (`IsSound`). A cache of capacity 0 keeps nothing: what is inserted leaves at once, and comes back.
 #[derive(Drop)]
 pub struct LruCache<V, I: Index<Entry<V>, A>, A: Allocator = Global> {
-    store: Store<V, I, A>,
-    len: usize,
+    entries: Keyed<Entry<V>, I, A>,
     capacity: usize,
 }
 
@@ -41,14 +39,14 @@ pub type TreeLruCache<V, A = Global> = LruCache<V, RBTree<ByKey<Entry<V>>>, A>;
 pub type HashLruCache<V, B, A = Global> = LruCache<V, HashTable<ByHash<Entry<V>>, B>, A>;
 
 impl<V, I: Index<Entry<V>, A>, A: Allocator> Model for LruCache<V, I, A> {
-    ghost use Rattle.lru_cache.specs.Cache.{Cache};
-    ghost use Rattle.lru_cache.specs.Kept.{entries_of, IsCounted};
+    ghost use Rattle.std.specs.Prelude.{◌≤◌, length};
+    ghost use Rattle.lru_cache.specs.Cache.{Cache, cache_of};
 
     ghost Value = { Cache V };
 
-    ghost view = { λ c. record { entries = entries_of c.store; capacity = c.capacity; parts = c.store.parts } };
+    ghost view = { λ c. cache_of c.capacity c.entries };
 
-    ghost invariant = { λ c. IsCounted c.store c.len c.capacity };
+    ghost invariant = { λ c. length c.entries.values ≤ c.capacity };
 }
 
 impl<V, A: Allocator> LruCache<V, RBTree<ByKey<Entry<V>>>, A> {
@@ -61,10 +59,20 @@ impl<V, A: Allocator> LruCache<V, RBTree<ByKey<Entry<V>>>, A> {
         ensures parts { result.parts ≡ 1 }
     {
         LruCache {
-            store: Indexed::new(alloc),
-            len: 0,
+            entries: Keyed::new(alloc),
             capacity,
         }
+    }
+
+    /// A cache of no entries whose capacity is 18,446,744,073,709,551,615: none leaves unless it is taken out, since there are fewer places. It takes no memory.
+    pub fn unbounded(alloc: A) -> TreeLruCache<V, A>
+    where
+        A: Copy,
+        ensures entries { result.entries ≡ [] }
+        ensures capacity { result.capacity ≡ 18446744073709551615 }
+        ensures parts { result.parts ≡ 1 }
+    {
+        LruCache::new(alloc, usize::MAX)
     }
 }
 
@@ -84,8 +92,7 @@ impl<V, B: Buckets + Drop, A: Allocator> LruCache<V, HashTable<ByHash<Entry<V>>,
         ensures parts { result.parts ≡ length (B.fronts buckets) }
     {
         LruCache {
-            store: Indexed::with_buckets(alloc, buckets),
-            len: 0,
+            entries: Keyed::with_buckets(alloc, buckets),
             capacity,
         }
     }
@@ -93,6 +100,7 @@ impl<V, B: Buckets + Drop, A: Allocator> LruCache<V, HashTable<ByHash<Entry<V>>,
 
 impl<V, I: Index<Entry<V>, A>, A: Allocator> LruCache<V, I, A> {
     ghost use Rattle.std.specs.Borrow.{sem};
+    ghost use Rattle.ic_keyed.specs.Keyed.{EndsWith};
     ghost use Rattle.lru_cache.specs.Cache.{entry_of, pair_of, value_with, inserted, leaves, without, touched, with_entries, IsSound};
     ghost use Rattle.lru_cache.specs.Lends.{EndsAs};
 
@@ -101,7 +109,7 @@ impl<V, I: Index<Entry<V>, A>, A: Allocator> LruCache<V, I, A> {
     pub fn len(&self) -> usize
         ensures { result ≡ length self.now.entries }
     {
-        self.len
+        self.entries.len()
     }
 
     /// Whether there is no entry. O(1).
@@ -109,7 +117,7 @@ impl<V, I: Index<Entry<V>, A>, A: Allocator> LruCache<V, I, A> {
     pub fn is_empty(&self) -> bool
         ensures { IsTrue result ↔ (self.now.entries ≡ []) }
     {
-        self.len == 0
+        self.entries.is_empty()
     }
 
     /// How many entries there may be. O(1).
@@ -129,9 +137,10 @@ impl<V, I: Index<Entry<V>, A>, A: Allocator> LruCache<V, I, A> {
         ensures looks { I.IsFew self.now.parts key self.now.entries result.1 }
         ensures sound { IsSound self.now }
     {
-        let (place, looks) = find(&self.store, key);
-        match place {
-            Some(place) => (Some(&self.store.at(place).value), looks),
+        self.entries.keys_differ();
+        let (entry, looks) = self.entries.find(key);
+        match entry {
+            Some(entry) => (Some(&entry.value), looks),
             None => (None, looks),
         }
     }
@@ -140,7 +149,7 @@ impl<V, I: Index<Entry<V>, A>, A: Allocator> LruCache<V, I, A> {
     pub fn peek(&self, key: u64) -> Option<&V>
         ensures { option_copied result ≡ value_with key self.now.entries }
     {
-        self.find(key).0
+        Some(&self.entries.peek(key)?.value)
     }
 
     /// The value of the key, if there is one. The entry is touched: it goes in front of all others, which keep their
@@ -149,9 +158,11 @@ impl<V, I: Index<Entry<V>, A>, A: Allocator> LruCache<V, I, A> {
         ensures* touches { sem 𝓛 (EndsAs V.row I.row A.row I.Links.row I.Index I.Links.Tables A.Allocator self.entry (touched key self.old.entries)) }
         ensures value { option_copied result ≡ value_with key self.old.entries }
     {
-        let place = find(&self.store, key).0?;
-        self.store.move_to_front(place);
-        Some(&self.store.at(place).value)
+        if !self.entries.touch(key) {
+            return None;
+        }
+        let newest = self.entries.first()?; // proved: it is that of the key
+        Some(&newest.value)
     }
 
     /// Takes the entry of the key out, if there is one. It costs about two searches, and takes no memory.
@@ -159,10 +170,15 @@ impl<V, I: Index<Entry<V>, A>, A: Allocator> LruCache<V, I, A> {
         ensures value { result ≡ value_with key self.old.entries }
         ensures removed { self.new ≡ with_entries self.old (without key self.old.entries) }
     {
-        let place = find(&self.store, key).0?;
-        let entry = self.store.remove(place);
-        self.len -= 1;
-        Some(entry.value)
+        Some(self.entries.remove(key)?.value)
+    }
+
+    /// The entry that was touched longest ago, if there is one. It does not touch it. O(1).
+    pub fn peek_oldest(&self) -> Option<(u64, &V)>
+        ensures { MatchOption result (self.now.entries ≡ []) (λ oldest. EndsWith (entry_of oldest.0 oldest.1.now) self.now.entries) }
+    {
+        let oldest = self.entries.last()?;
+        Some((oldest.key, &oldest.value))
     }
 
     /// Takes the entry out that was touched longest ago: `None` if there is none. It costs about a search, and takes no memory.
@@ -173,10 +189,8 @@ impl<V, I: Index<Entry<V>, A>, A: Allocator> LruCache<V, I, A> {
         ensures capacity { self.new.capacity ≡ self.old.capacity }
         ensures parts { self.new.parts ≡ self.old.parts }
     {
-        let place = self.store.last()?;
-        let entry = self.store.remove(place);
-        self.len -= 1;
-        Some((entry.key, entry.value))
+        let oldest = self.entries.pop_last()?;
+        Some((oldest.key, oldest.value))
     }
 
     /// Puts an entry in front of all others. It returns the one that leaves, if one does: the one of the same key, or
@@ -192,23 +206,43 @@ impl<V, I: Index<Entry<V>, A>, A: Allocator> LruCache<V, I, A> {
         ensures accepted { IsSome (leaves (entry_of key value) self.old) → IsOk result }
         ensures sound { IsSound self.new }
     {
+        let left = self.put(key, value);
+        self.keys_differ();
+        left
+    }
+
+    // The same, but for what the law says.
+    fn put(&mut self, key: u64, value: V) -> Result<Option<(u64, V)>, InsertError<V>>
+        ensures left { IfOk result (λ left. left ≡ option_map pair_of (leaves (entry_of key value) self.old)) }
+        ensures inserted { OnOk result (self.new ≡ with_entries self.old (inserted (entry_of key value) self.old)) }
+        ensures refused { IfErr result (λ refused. (refused.0 ≡ value) × (self.new ≡ self.old)) }
+        ensures accepted { IsSome (leaves (entry_of key value) self.old) → IsOk result }
+    {
         if self.capacity == 0 {
             return Ok(Some((key, value)));
         }
-        let entry = Entry { key, value };
-        let is_full = self.len == self.capacity;
-        match leaving(&self.store, key, is_full) {
-            Some(place) => {
-                let left = self.store.renew(place, entry);
-                Ok(Some((left.key, left.value)))
+        let entry = match self.entries.replace(Entry { key, value }) {
+            Ok(gone) => return Ok(Some((gone.key, gone.value))),
+            Err(entry) => entry,
+        };
+        if self.entries.len() == self.capacity {
+            match self.entries.replace_last(entry) {
+                Ok(oldest) => return Ok(Some((oldest.key, oldest.value))),
+                Err(entry) => return Err(InsertError(entry.value)), // proved: there is an oldest one
             }
-            None => match self.store.place_front(entry) {
-                Ok(_) => {
-                    self.len += 1;
-                    Ok(None)
-                }
-                Err(refused) => Err(InsertError(refused.into_value().value)),
-            },
         }
+        match self.entries.insert_new(entry) {
+            Ok(()) => {}
+            Err(refused) => return Err(InsertError(refused.value)),
+        }
+        Ok(None)
+    }
+
+    // The law of each cache.
+    #[inline]
+    fn keys_differ(&self)
+        ensures { IsSound self.now }
+    {
+        self.entries.keys_differ();
     }
 }

@@ -12,6 +12,7 @@ pub(crate) enum Call {
     Peek(u64),
     Looks(u64),
     Remove(u64),
+    PeekOldest,
     PopOldest,
     Len,
 }
@@ -40,6 +41,10 @@ pub(crate) fn make<I: Index<Entry<u64>, A>, A: Allocator>(
         Call::Peek(key) => value(cache.peek(key).copied()),
         Call::Looks(key) => Answer::Count(cache.find(key).1),
         Call::Remove(key) => value(cache.remove(key)),
+        Call::PeekOldest => match cache.peek_oldest() {
+            Some((key, value)) => Answer::Entry(key, *value),
+            None => Answer::Nothing,
+        },
         Call::PopOldest => entry(cache.pop_oldest()),
         Call::Len => Answer::Count(cache.len() as u64),
     }

@@ -11,11 +11,13 @@ type Row = (Call, Answer);
 
 // Three keys in a cache of two entries. Behind each row: the keys afterwards, the one touched last in front.
 const TWO: &[Row] = &[
+    (Call::PeekOldest, Answer::Nothing),
     (Call::PopOldest, Answer::Nothing),
     (Call::Looks(1), Answer::Count(0)),
     (Call::Insert(1, 10), Answer::Nothing), // 1
     (Call::Insert(2, 20), Answer::Nothing), // 2 1
     (Call::Len, Answer::Count(2)),
+    (Call::PeekOldest, Answer::Entry(1, 10)), // 2 1: no touch
     (Call::Get(1), Answer::Value(10)), // 1 2
     (Call::Insert(3, 30), Answer::Entry(2, 20)), // 3 1
     (Call::Get(2), Answer::Nothing),
@@ -41,6 +43,16 @@ const ONE: &[Row] = &[
     (Call::Get(1), Answer::Nothing),
     (Call::Get(2), Answer::Value(21)),
     (Call::Len, Answer::Count(1)),
+];
+
+// From a cache with no bound none leaves by itself.
+const ALL: &[Row] = &[
+    (Call::Insert(1, 10), Answer::Nothing),
+    (Call::Insert(2, 20), Answer::Nothing),
+    (Call::Insert(3, 30), Answer::Nothing),
+    (Call::Insert(1, 11), Answer::Entry(1, 10)), // 1 3 2
+    (Call::PeekOldest, Answer::Entry(2, 20)),
+    (Call::Len, Answer::Count(3)),
 ];
 
 // A cache of none keeps nothing.
@@ -109,6 +121,12 @@ fn is_refused_in_turn(by: By, alloc: Global, capacity: usize, rows: &[Row], leas
         as_wanted &= play_new(by, &memory, capacity, rows) == Some(1);
     }
     as_wanted
+}
+
+#[test]
+fn a_cache_with_no_bound(rt: HostRuntime) {
+    let mut cache = LruCache::unbounded(rt.alloc());
+    assert!(rt; play(&mut cache, ALL) == Some(0));
 }
 
 #[test]
