@@ -35,7 +35,7 @@ function argument(parameter, length) {
   const [name] = parameter.match(/\w+$/);
   if (parameter.includes("*")) return { offset: OFFSETS[name] };
   if (name === "bucket_count") return { value: BigInt(random(40) === 0 ? 0 : BUCKETS) };
-  if (parameter.startsWith("size_t")) return { value: BigInt(length) };
+  if (parameter.startsWith("ic_length")) return { value: BigInt(length) };
   return { value: parameter.startsWith("uint64_t") ? BigInt(random(20)) : place() };
 }
 
