@@ -10,7 +10,8 @@ import tempfile
 from checks import ROOT, Tally
 from vendoring import Folder, files_of
 
-CRATES = ("bench", "width_bench")
+# Those that have their checksums beside them. `width_bench` has none, so nothing compares what it prints.
+CRATES = ("bench",)
 
 
 def beside(crate):
