@@ -10,7 +10,7 @@ ghost use Rattle.ic_rbtree.specs.Tree.{ends_of};
 use crate::notes::{assert_words, write_object};
 use crate::tree::trees::OwnKey;
 use ic_link_ops::LinkOps;
-use ic_link_ops::rbtree::RBTreeOps;
+use ic_link_ops::rbtree::{self, RBTreeOps};
 use ic_rbtree::{RBTree, WithEnds};
 use ic_test_support::answers::write_places;
 use ic_test_support::notes::{Answer, Text};
@@ -79,7 +79,9 @@ fn write_split<L: RBTreeOps>(notes: &mut Text, tree: &mut RBTree<OwnKey, WithEnd
 fn ends(rt: HostRuntime) {
     let alloc = rt.alloc();
     let mut notes = Text::new(alloc);
-    let (objects, mut links) = eight_objects(alloc, TENS).expect(&rt, "memory");
+    let (objects, mut links): (_, rbtree::LinkOps) = eight_objects(alloc, TENS).expect(
+        &rt, "memory",
+    );
     let mut tree = RBTree::with_ends(OwnKey);
     write_inserted(&mut notes, &mut tree, &mut links, &objects, reference(2));
     write_inserted(&mut notes, &mut tree, &mut links, &objects, reference(4));
