@@ -10,8 +10,7 @@
 //! found, and in the list of ages, whose last one leaves first. The index is a tree, or a hash table over buckets of yours:
 //!
 //! ```text
-//! let buckets = empty_buckets(rt.alloc(), 1000)?; // as many as entries: O(1) on average
-//! let mut cache = LruCache::with_buckets(rt.alloc(), 1000, buckets);
+//! let mut cache = LruCache::with_buckets(rt.alloc(), 1000, buckets); // as many as entries: O(1) on average
 //! ```
 #![tactic(auto)]
 
