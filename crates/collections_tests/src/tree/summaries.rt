@@ -16,7 +16,7 @@ use crate::tree::trees::OwnKey;
 use ic_augmented::{
     Counts, Greatest, RenewSums, Summed, first_greater, index_of, len, nth, refresh, set_value,
 };
-use ic_link_ops::rbtree::RBTreeOps;
+use ic_link_ops::rbtree::{self, RBTreeOps};
 use ic_rbtree::{RBTree, TreeHead};
 use ic_test_support::answers::write_places;
 use ic_test_support::notes::{Answer, Text};
@@ -374,7 +374,7 @@ fn play_counts<E: TreeHead>(rt: &impl Abort, alloc: Global, tree: RBTree<OwnKey,
 {
     let mut notes = Text::new(alloc);
     let mut tree = tree;
-    let (objects, links) = eight_objects(alloc, TENS).expect(rt, "memory");
+    let (objects, links): (_, rbtree::LinkOps) = eight_objects(alloc, TENS).expect(rt, "memory");
     let mut sums = Counts::new(alloc);
     let covered = sums.cover(8);
     assert!(rt; covered.is_ok());
@@ -414,7 +414,7 @@ fn play_greatest<E: TreeHead>(rt: &impl Abort, alloc: Global, tree: RBTree<OwnKe
 {
     let mut notes = Text::new(alloc);
     let mut tree = tree;
-    let (objects, links) = eight_objects(alloc, TENS).expect(rt, "memory");
+    let (objects, links): (_, rbtree::LinkOps) = eight_objects(alloc, TENS).expect(rt, "memory");
     let mut sums = Greatest::new(alloc);
     let covered = sums.cover(8);
     assert!(rt; covered.is_ok());
