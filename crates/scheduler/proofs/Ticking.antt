@@ -43,6 +43,10 @@ module _ {V : Type 0} where
     pub count : moved ≡ length taken
     pub is_full : schedule.is_full ≡ start.is_full
 
+  -- none has gone yet
+  pub none_moved : (now : ℕ) (schedule : Schedule V) → Moved now schedule schedule 0
+  none_moved now schedule = record { taken = []; first = refl; due = tt; queues = λ q. sym (append-nil (queue_at schedule q)); count = refl; is_full = refl }
+
   module _ {now : ℕ} {start schedule : Schedule V} {moved : ℕ} (k : Moved now start schedule moved) where
     pub moved_one : {new : Schedule V} → MovesFirst now schedule new → Moved now start new (moved + 1)
     moved_one {new} m = record {

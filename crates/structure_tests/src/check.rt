@@ -183,6 +183,7 @@ fn a_table_of_a_list_and_a_tree_is_checked(rt: HostRuntime) {
     let mut list: LinkedList<u64> = LinkedList::new();
     let _ = list.push_front(&mut links, UnsafeRef::new(place(3)));
     let trees = [tree_of_three(&mut links)];
+    assert!(rt; links.covers() == 4);
     let mut marks = [true; 4];
     write_found(&mut notes, check_both(&[list], &trees, &links, &mut marks));
     let none: [LinkedList<u64>; 0] = [];

@@ -1,6 +1,17 @@
 use Rattle.std.proofs.Common.{rules, ◌∙◌}
-use Rattle.scheduler.proofs.Ticking.{moved_one, moved_few, all_moved}
+use Rattle.scheduler.proofs.Ticking.{none_moved, moved_one, moved_few, all_moved}
 use Rattle.scheduler.proofs.due.move_due.Goals as goal
+
+pub loop-moved-init : goal.loop-moved-init
+loop-moved-init g c =
+    let b = c.front_mut-cursor.ensures.borrows in
+    record {
+      borrows = search rules;
+      kept = rw (b.2, b.3) c.requires.kept;
+      first_is = rw (b.2, b.3) c.front_mut-cursor.ensures.position;
+      moved = rw (b.2, b.3) (none_moved _ _);
+      few = search rules;
+    }
 
 pub loop-moved-preserved : goal.loop-moved-preserved
 loop-moved-preserved g c =

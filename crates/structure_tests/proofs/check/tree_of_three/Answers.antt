@@ -1,8 +1,11 @@
-use Rattle.std.proofs.Common.{[]}
+use Rattle.std.proofs.Common.{[], rules}
 use Rattle.ic_link_ops.specs.ThreeWords.{node_of}
 use Rattle.ic_link_ops.proofs.Positions.{stands_null}
 use Rattle.ic_link_ops.proofs.ShownTrees.{shows_nothing}
-use Rattle.ic_rbtree.specs.PlainTrees.{plain_table}
+use Rattle.ic_link_ops.specs.Sequences.{join}
+use Rattle.ic_rbtree.specs.PlainTrees.{plain_table, PlainShowsSome}
+use Rattle.ic_rbtree.specs.Tree.{root_of}
+use Rattle.structure_tests.proofs.check.tree_of_three.Goals.{then-index-covers, else-index-covers}
 use Rattle.structure_tests.proofs.check.tree_of_three.Goals as goal
 
 pub loop-index-init : goal.loop-index-init
@@ -13,3 +16,14 @@ insert_before-requires-clause-stands c =
     let s = c.loop-index.invariant.shown in
     let e = c.cursor_mut-cursor.ensures in
     stands_null s.0 (rw (e.borrows.2, e.borrows.3) s.1) e.null
+
+pub loop-index-preserved : goal.loop-index-preserved
+loop-index-preserved c =
+    elim c.if-index-covers.branch [
+      | then-index-covers w ↦
+          let k = w.insert_before.ensures.kept in
+          let shown : PlainShowsSome w.insert_before.new.self.links.now (root_of w.insert_before.new.self.list.now) = (join k.stands.gap, k.stands.shown) in
+          let names = k.borrows in
+          record { shown = search rules }
+      | else-index-covers w ↦ record { shown = rw (w.tree-is, w.links-is) c.loop-index.invariant.shown }
+    ]
