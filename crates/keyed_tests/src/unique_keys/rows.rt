@@ -55,6 +55,15 @@ const ROWS: &[Row] = &[
     (Call::Insert(4, 1), Answer::Nothing, &[4]),
 ];
 
+// Whether the call puts in a page with this number and this size.
+fn puts_in(call: Call, number: u64, size: u64) -> bool {
+    match call {
+        Call::Insert(put, of) => put == number && of == size,
+        Call::Put(put, of) => put == number && of == size,
+        _ => false,
+    }
+}
+
 // Plays the rows. An insert with no room gives its page back and changes nothing, so it is made once more. How many were
 // refused; none, where a call answers otherwise.
 fn play<I: Index<Page, A>, A: Allocator>(
@@ -64,10 +73,8 @@ fn play<I: Index<Page, A>, A: Allocator>(
     let mut refused: usize = 0;
     for (call, wanted, numbers) in rows {
         let mut found = make(pages, *call);
-        if let (Call::Insert(number, size) | Call::Put(number, size), Answer::NoRoom(back, of)) = (
-            *call, found,
-        ) {
-            if back != number || of != size {
+        if let Answer::NoRoom(number, size) = found {
+            if !puts_in(*call, number, size) {
                 return None;
             }
             refused = refused.saturating_add(1);
