@@ -6659,8 +6659,8 @@ ic_program.session.Session.answer_lines.61c60e3f83b1098c:
 	cmp	w8, #2
 	b.ne	.LBB4_472
 	ubfiz	x8, x9, #3, #8
-	adrp	x9, .Lswitch.table.ic_program.session.Session.call.40a73cb1e87492e9..650
-	add	x9, x9, :lo12:.Lswitch.table.ic_program.session.Session.call.40a73cb1e87492e9..650
+	adrp	x9, .Lswitch.table.ic_program.session.Session.call.40a73cb1e87492e9..663
+	add	x9, x9, :lo12:.Lswitch.table.ic_program.session.Session.call.40a73cb1e87492e9..663
 	ldr	x26, [x9, x8]
 	adrp	x9, .Lswitch.table.ic_program.session.Session.call.40a73cb1e87492e9
 	add	x9, x9, :lo12:.Lswitch.table.ic_program.session.Session.call.40a73cb1e87492e9
@@ -21153,8 +21153,8 @@ ic_program.session.Session.call.40a73cb1e87492e9:
 	ubfiz	x9, x1, #3, #8
 	adrp	x10, .Lswitch.table.ic_program.session.Session.call.40a73cb1e87492e9
 	add	x10, x10, :lo12:.Lswitch.table.ic_program.session.Session.call.40a73cb1e87492e9
-	adrp	x11, .Lswitch.table.ic_program.session.Session.call.40a73cb1e87492e9..650
-	add	x11, x11, :lo12:.Lswitch.table.ic_program.session.Session.call.40a73cb1e87492e9..650
+	adrp	x11, .Lswitch.table.ic_program.session.Session.call.40a73cb1e87492e9..663
+	add	x11, x11, :lo12:.Lswitch.table.ic_program.session.Session.call.40a73cb1e87492e9..663
 	sub	x12, x8, x26
 	ldr	x23, [x10, x9]
 	ldr	x24, [x11, x9]
@@ -28575,10 +28575,10 @@ core.scope.entry.7e1ed12227098c65.thread.called.by.C.0:
 	.xword	26
 	.xword	23
 	.size	.Lswitch.table.ic_program.session.Session.call.40a73cb1e87492e9, 112
-	.type	.Lswitch.table.ic_program.session.Session.call.40a73cb1e87492e9..650,@object
-	.section	.data.rel.ro..Lswitch.table.ic_program.session.Session.call.40a73cb1e87492e9..650,"aw",@progbits
+	.type	.Lswitch.table.ic_program.session.Session.call.40a73cb1e87492e9..663,@object
+	.section	.data.rel.ro..Lswitch.table.ic_program.session.Session.call.40a73cb1e87492e9..663,"aw",@progbits
 	.p2align	3, 0x0
-.Lswitch.table.ic_program.session.Session.call.40a73cb1e87492e9..650:
+.Lswitch.table.ic_program.session.Session.call.40a73cb1e87492e9..663:
 	.xword	.Lstatic.23
 	.xword	.Lstatic.24
 	.xword	.Lstatic.25
@@ -28593,5 +28593,5 @@ core.scope.entry.7e1ed12227098c65.thread.called.by.C.0:
 	.xword	.Lstatic.34
 	.xword	.Lstatic.35
 	.xword	.Lstatic.36
-	.size	.Lswitch.table.ic_program.session.Session.call.40a73cb1e87492e9..650, 112
+	.size	.Lswitch.table.ic_program.session.Session.call.40a73cb1e87492e9..663, 112
 	.section	".note.GNU-stack","",@progbits
