@@ -294,7 +294,9 @@ function refusals(ic) {
   ring.pushBack(1);
   refused(LINKED, () => new Ring(links, 0));
   refused(OUT_OF_RANGE, () => new Ring(links, 5));
-  refused(LINKED, () => ring.moveAfter(0, 0));
+  const before = linked();
+  ring.moveAfter(0, 0);
+  assert.deepEqual(linked(), before);
   refused(LINKED, () => list.pushBack(0));
   refused(NOT_LINKED, () => ring.remove(2));
   refused(NOT_LINKED, () => ring.moveBefore(2, 1));

@@ -26,7 +26,7 @@
 //!
 //! No call can tell whether two places are in one ring or in two.
 
-use crate::error::done;
+use crate::error::{done, handed_out};
 use crate::link::{member, read, Link};
 use crate::{Error, Link2};
 use ic_sys::*;

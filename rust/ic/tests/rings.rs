@@ -127,10 +127,9 @@ impl Pair {
 
     fn move_to(&mut self, at: u32, place: u32, side: Side) {
         let call = if side == Side::After { ring::move_after } else { ring::move_before };
-        let same = (at == place).then_some(Error::Linked);
-        let refusal = same.or(self.refusal_of_old(place)).or(self.refusal_of_old(at));
+        let refusal = self.refusal_of_old(at).or(self.refusal_of_old(place));
         assert_eq!(call(&mut self.links, at, place), refusal.map_or(Ok(()), Err));
-        if refusal.is_none() {
+        if refusal.is_none() && at != place {
             self.plain_remove(place);
             self.plain_insert(at, place, side);
         }
