@@ -10,7 +10,7 @@ ghost use Rattle.ic_rbtree.specs.Tree.{root_of, ends_of};
 use crate::notes::assert_words;
 use crate::tree::trees::OwnKey;
 use ic_link_ops::LinkValues;
-use ic_link_ops::rbtree::{LinkOpsWith, NarrowLinkOpsWith, RBTreeOps};
+use ic_link_ops::rbtree::{LinkOpsWith, RBTreeOps};
 use ic_rbtree::{RBTree, RBTreeCached};
 use ic_test_support::answers::write_places;
 use ic_test_support::notes::Text;
@@ -66,22 +66,4 @@ fn keys_beside_links(rt: HostRuntime) {
     write_inserted_cached(&mut notes, &mut tree, &mut links, reference(2));
     write_inserted_cached(&mut notes, &mut tree, &mut links, reference(3));
     assert_words(&rt, &notes, "0 1 2 2 3 2");
-}
-
-// A tree over links of 4-byte words, with keys beside them, whose members each come in front of those with greater keys.
-// Promise: keys beside 4-byte words.
-#[test]
-fn keys_beside_narrow_links(rt: HostRuntime) {
-    let mut notes = Text::new(rt.alloc());
-    let mut links: NarrowLinkOpsWith<u64> = NarrowLinkOpsWith::new(rt.alloc());
-    let _ = links.cover(4);
-    assert!(rt; links.covers() == 4);
-    links.set_value(place_at(0), 20);
-    links.set_value(place_at(1), 10);
-    links.set_value(place_at(2), 30);
-    let mut tree = RBTree::with_ends(OwnKey);
-    write_inserted_cached(&mut notes, &mut tree, &mut links, reference(0));
-    write_inserted_cached(&mut notes, &mut tree, &mut links, reference(1));
-    write_inserted_cached(&mut notes, &mut tree, &mut links, reference(2));
-    assert_words(&rt, &notes, "0 0 1 0 1 2");
 }

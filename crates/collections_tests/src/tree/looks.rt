@@ -1,13 +1,11 @@
 //! How often the calls that take a key read a value: once for each look, and an insert once more, for the object's own key.
 
-ghost use Rattle.std.specs.Prelude.{◌≡◌, ◌<◌, true};
-ghost use Rattle.ic_unsafe_ref.specs.declared.place.Place.{Place};
+ghost use Rattle.std.specs.Prelude.{◌≡◌, true};
 ghost use Rattle.ic_unsafe_ref.specs.Objects.{is_placed};
-ghost use Rattle.ic_unsafe_ref.specs.Places.{index_of};
 ghost use Rattle.ic_link_ops.specs.PlacedObjects.{ShowsPlaced};
 ghost use Rattle.ic_link_ops.specs.Tables.{IsCovered};
 ghost use Rattle.ic_rbtree.specs.Kept.{ShowsKept};
-ghost use Rattle.ic_rbtree.specs.PlainTrees.{plain_table, PlainShows, PlainShowsSome};
+ghost use Rattle.ic_rbtree.specs.PlainTrees.{PlainShows};
 ghost use Rattle.ic_rbtree.specs.Tree.{head_of, root_of};
 
 use crate::notes::assert_words;
@@ -16,7 +14,6 @@ use ic_link_ops::rbtree::RBTreeOps;
 use ic_rbtree::{RBTree, TreeHead};
 use ic_test_support::notes::{Answer, Text};
 use ic_test_support::objects::reference;
-use ic_test_support::tables::are_placed;
 use ic_unsafe_ref::{Objects, Place, UnsafeRef, Values};
 use std::cell::Cell;
 
@@ -84,32 +81,8 @@ fn write_entry(notes: &mut Text, fixture: &mut TreeFixture)
     counted.write_reads(notes);
 }
 
-// Takes 40 out, puts it back in with this member as the hint, and notes how often a value was read for that.
-fn write_insert_with_hint(notes: &mut Text, fixture: &mut TreeFixture, hint: UnsafeRef<u64>)
-    requires hint { index_of hint < 8 }
-    requires covers { (plain_table fixture.old.links).extent.places ≡ 8 }
-    requires placed { (q : Place) → index_of q < 8 → is_placed fixture.old.objects q ≡ true }
-    requires shown { PlainShowsSome fixture.old.links (root_of fixture.old.tree) }
-{
-    let TreeFixture {
-        objects,
-        links,
-        tree,
-    } = fixture;
-    let object = reference(3);
-    if tree.contains(links, object.place()) {
-        let _ = tree.cursor_mut_from_ptr(links, object).remove();
-    }
-    if tree.contains(links, hint.place()) && are_placed(links, objects) {
-        let counted = Counted::of(objects);
-        let _ = tree.insert_with_hint(links, &counted, &hint, reference(3));
-        counted.write_reads(notes);
-    }
-}
-
 // Seven members that came in rising order have 20 at the root, and 40, 60 and 70 below each other on its right. So an insert of 80 makes four
-// looks, and one where 70 is kept as the last member, and an entry of 80 makes four. An insert of 40 makes two looks where the hint is 50,
-// four where it is 20, which is less, and five where it is 70, since 60 in front of it is greater too.
+// looks, and one where 70 is kept as the last member, and an entry of 80 makes four.
 // Promise: looks of plain calls.
 #[test]
 fn plain_calls_look_once(rt: HostRuntime) {
@@ -133,8 +106,5 @@ fn plain_calls_look_once(rt: HostRuntime) {
         reference(7),
     );
     write_entry(&mut notes, &mut tree_of(&rt, alloc, 7));
-    for hint in [4, 1, 6] {
-        write_insert_with_hint(&mut notes, &mut tree_of(&rt, alloc, 7), reference(hint));
-    }
-    assert_words(&rt, &notes, "5 2 4 3 5 6");
+    assert_words(&rt, &notes, "5 2 4");
 }

@@ -9,3 +9,8 @@ finish-requires c =
       | then-from_back w ↦ record { can_take = rw w.rest-is (_, w.next_back.ensures.steps.removed _ left) }
       | else-from_back w ↦ record { can_take = rw w.rest-is (_, left) }
     ]
+
+pub next_back-requires : goal.next_back-requires
+next_back-requires c =
+    let s = c.requires.shown in
+    (_, c.next.ensures.steps.removed s.0 (c.into_iter-rest.ensures.tree s.0 (rw c.take.ensures.whole s.1)))
