@@ -27,16 +27,16 @@ pub loop-index-preserved : goal.loop-index-preserved
 loop-index-preserved c =
     elim c.if-index-covers.branch [
       | then-index-covers w ↦ elim w.if-in_front.branch [
-          | then-in_front w' ↦
-              let k = w'.insert_after.ensures.kept in
-              let shown : PlainShowsSome w.if-in_front.cursor.links.now (root_of w.if-in_front.cursor.list.now) = rw w'.cursor-is (join k.stands.gap, k.stands.shown) in
-              let names : SameBorrows w.cursor_mut-cursor.result w.if-in_front.cursor = rw w'.cursor-is k.borrows in
-              record { shown = search rules }
-          | else-in_front w' ↦
-              let k = w'.insert_before.ensures.kept in
-              let shown : PlainShowsSome w.if-in_front.cursor.links.now (root_of w.if-in_front.cursor.list.now) = rw w'.cursor-is (join k.stands.gap, k.stands.shown) in
-              let names : SameBorrows w.cursor_mut-cursor.result w.if-in_front.cursor = rw w'.cursor-is k.borrows in
-              record { shown = search rules }
-        ]
+        | then-in_front w' ↦
+            let k = w'.insert_after.ensures.kept in
+            let shown : PlainShowsSome w.if-in_front.cursor.links.now (root_of w.if-in_front.cursor.list.now) = rw w'.cursor-is (join k.stands.gap, k.stands.shown) in
+            let names : SameBorrows w.cursor_mut-cursor.result w.if-in_front.cursor = rw w'.cursor-is k.borrows in
+            record { shown = search rules }
+        | else-in_front w' ↦
+            let k = w'.insert_before.ensures.kept in
+            let shown : PlainShowsSome w.if-in_front.cursor.links.now (root_of w.if-in_front.cursor.list.now) = rw w'.cursor-is (join k.stands.gap, k.stands.shown) in
+            let names : SameBorrows w.cursor_mut-cursor.result w.if-in_front.cursor = rw w'.cursor-is k.borrows in
+            record { shown = search rules }
+      ]
       | else-index-covers w ↦ record { shown = rw (w.tree-is, w.links-is) c.loop-index.invariant.shown }
     ]
