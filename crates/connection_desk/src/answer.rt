@@ -6,7 +6,7 @@ use connections::{Connection, ConnectionTable, OpenError};
 use ic_keyed::Index;
 use std::alloc::{AllocError, Allocator, Global};
 
-/// Does what a command asks for, and says how it ended.
+/// Carries out a command, and says how it ended.
 pub fn answer<I: Index<Connection, A>, A: Allocator>(
     alloc: Global,
     table: &mut ConnectionTable<I, A>,
