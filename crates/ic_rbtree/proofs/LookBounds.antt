@@ -1,5 +1,5 @@
 -- How many looks tell where an object goes.
-use Rattle.std.proofs.Common.{◌≡◌, ℕ, ◌+◌, ◌*◌, ◌^◌, ◌≤◌, ◌<◌, Bool, true, false, suc, Option, Some, None, List, [], ◌∷◌, ◌++◌, length, refl, sym, ◌∙◌, subst, arith}
+use Rattle.std.proofs.Common.{◌≡◌, ℕ, ◌+◌, ◌*◌, ◌^◌, ◌≤◌, ◌<◌, Bool, true, false, suc, Option, Some, None, List, [], ◌∷◌, ◌++◌, length, refl, sym, ◌∙◌, subst, arith, ap, true≢false}
 use Rattle.std.proofs.Math.Nat.{pow-le-pow_left, pow-suc}
 use Rattle.std.proofs.Math.Pow.{pow_mono}
 use Rattle.std.specs.declared.cmp.Ordering.{Ordering}
@@ -11,9 +11,9 @@ use Rattle.ic_link_ops.specs.Sequences.{last}
 use Rattle.ic_link_ops.proofs.PlacedEnds.{last_placed}
 use Rattle.ic_link_ops.proofs.SequenceLemmas.{none_not, nothing_last}
 use Rattle.ic_rbtree.specs.Borders.{less_at}
-use Rattle.ic_rbtree.specs.Comparing.{HasRoom, FewLooks, Looks}
+use Rattle.ic_rbtree.specs.Comparing.{HasRoom, FewLooks, Looks, compared}
 use Rattle.ic_rbtree.specs.Holes.{behind_there, looks_there}
-use Rattle.ic_rbtree.specs.Kept.{Kept, alone, ended, HasRoomFor, InsertLooks}
+use Rattle.ic_rbtree.specs.Kept.{Kept, alone, ended, last_kept, TellsEnds, HasRoomFor, InsertLooks}
 
 -- there is a member, if there is a last one
 has_some : (s : List Place) {p : Place} → Some p ≡ last s → 1 ≤ length s
@@ -75,33 +75,44 @@ behind_some at (Some p) e = (p, refl, not_true (less_at at p) e) where
   not_true true e = cc
   not_true false e = refl
 
--- a probe with room for an insert has it for a descent behind the look at an end that is kept
-pub room_below : (k : Kept) (o : Option Place) (count : ℕ) {now : ℕ} → ((root : Option Place) → k ≡ alone root → o ≡ None) → HasRoomFor k count → now ≡ count + looks_there o → HasRoom now
-room_below (alone root) None count none room is = omega (arith, room, is)
-room_below (alone root) (Some p) count none room is = absurd (none_not p (sym (none root refl)))
-room_below (ended e) None count none room is = omega (arith, room, is)
-room_below (ended e) (Some p) count none room is = omega (arith, room, is)
+-- it is the last of a tree with these members, if it is kept
+pub kept_is_last : (k : Kept) (s : List Place) (o : Option Place) → o ≡ last_kept k → TellsEnds k s → IfSome o (λ p. last s ≡ Some p)
+kept_is_last k s None is ends = tt
+kept_is_last (alone root) s (Some p) is ends = absurd (none_not p (sym is))
+kept_is_last (ended h) s (Some p) is ends = sym ends.1 ∙ sym is
 
-module _ {P V : Type 0} (order : P → V → Ordering) (count : P → ℕ) where
+-- a probe with room for an insert has it for a descent behind the look at an end that is kept
+pub room_below : (k : Kept) (o : Option Place) (count : ℕ) {now : ℕ} → o ≡ last_kept k → HasRoomFor k count → now ≡ count + looks_there o → HasRoom now
+room_below (alone root) None count kept room is = omega (arith, room, is)
+room_below (alone root) (Some p) count kept room is = absurd (none_not p (sym kept))
+room_below (ended e) None count kept room is = omega (arith, room, is)
+room_below (ended e) (Some p) count kept room is = omega (arith, room, is)
+
+-- what is not behind the last member makes no claim on the looks
+not_behind : (at : Place → Ordering) (s : List Place) (o : Option Place) {looks : ℕ} → o ≡ last s → behind_there at o ≡ false → behind_there at (last s) ≡ true → looks ≡ 1
+not_behind at s o is away there = absurd (true≢false (sym there ∙ (ap (behind_there at) (sym is) ∙ away)))
+
+module _ {P V : Type 0} (order : P → V → Ordering) (count : P → ℕ) (objects : Objects V) where
   -- THE LOOKS OF AN INSERT that ends behind the last member,
-  pub looks_behind : (k : Kept) (s : List Place) (o : Option Place) (at : Place → Ordering) {old new : P} → ((root : Option Place) → k ≡ alone root → o ≡ None) → IfSome o (λ p. last s ≡ Some p) → behind_there at o ≡ true
-      → count new ≡ count old + looks_there o → order new ≡ order old → InsertLooks order count k old new s
-  looks_behind (alone root) s None at none tells behind counted same = cc
-  looks_behind (alone root) s (Some p) at none tells behind counted same = absurd (none_not p (sym (none root refl)))
-  looks_behind (ended e) s None at none tells behind counted same = cc
-  looks_behind (ended e) s (Some p) at none tells behind counted same = record { looks = 1; counted = counted; few = few_last s (Some p) (sym tells); order_is = same }
+  pub looks_behind : (k : Kept) (s : List Place) (o : Option Place) {old new : P} → o ≡ last_kept k → TellsEnds k s → behind_there (compared (order old) objects) o ≡ true
+      → count new ≡ count old + looks_there o → order new ≡ order old → InsertLooks order count k objects old new s
+  looks_behind (alone root) s None kept ends behind counted same = cc
+  looks_behind (alone root) s (Some p) kept ends behind counted same = absurd (none_not p (sym kept))
+  looks_behind (ended e) s None kept ends behind counted same = cc
+  looks_behind (ended e) s (Some p) kept ends behind counted same = record { looks = 1; counted = counted; few = few_last s (Some p) (kept ∙ ends.1); at_last = λ _. refl; order_is = same }
 
   -- and of one that descends
-  pub looks_below : (k : Kept) (s : List Place) (o : Option Place) {old mid new : P} → ((root : Option Place) → k ≡ alone root → o ≡ None) → IfSome o (λ p. last s ≡ Some p)
-      → count mid ≡ count old + looks_there o → order mid ≡ order old → Looks order count mid new s → InsertLooks order count k old new s
-  looks_below (alone root) s None none tells counted same x =
+  pub looks_below : (k : Kept) (s : List Place) (o : Option Place) {old mid new : P} → o ≡ last_kept k → TellsEnds k s → behind_there (compared (order old) objects) o ≡ false
+      → count mid ≡ count old + looks_there o → order mid ≡ order old → Looks order count mid new s → InsertLooks order count k objects old new s
+  looks_below (alone root) s None kept ends away counted same x =
       record { looks = x.looks; counted = omega (arith, x.counted, counted); few = x.few; fewer = x.fewer; order_is = x.order_is ∙ same }
-  looks_below (alone root) s (Some p) none tells counted same x = absurd (none_not p (sym (none root refl)))
-  looks_below (ended e) s None none tells counted same x =
-      record { looks = x.looks; counted = omega (arith, x.counted, counted); few = x.few; order_is = x.order_is ∙ same }
-  looks_below (ended e) s (Some p) none tells counted same x = record {
+  looks_below (alone root) s (Some p) kept ends away counted same x = absurd (none_not p (sym kept))
+  looks_below (ended e) s None kept ends away counted same x =
+      record { looks = x.looks; counted = omega (arith, x.counted, counted); few = x.few; at_last = not_behind _ s None (kept ∙ ends.1) away; order_is = x.order_is ∙ same }
+  looks_below (ended e) s (Some p) kept ends away counted same x = record {
     looks = x.looks + 1;
     counted = omega (arith, x.counted, counted);
-    few = record { few = x.fewer (has_some s (sym tells)); some = λ _. omega arith };
+    few = record { few = x.fewer (has_some s (kept ∙ ends.1)); some = λ _. omega arith };
+    at_last = not_behind _ s (Some p) (kept ∙ ends.1) away;
     order_is = x.order_is ∙ same;
   }

@@ -1,15 +1,17 @@
 -- What a tree keeps of its members: its root, and maybe the first and the last of them.
-use Rattle.std.specs.Prelude.{◌≡◌, ℕ, ◌+◌, cond, Option, None, Some, List, []}
+use Rattle.std.specs.Prelude.{◌≡◌, ℕ, ◌+◌, true, cond, Option, None, Some, List, []}
 use Rattle.std.specs.declared.cmp.Ordering.{Ordering}
 use Rattle.ic_unsafe_ref.specs.declared.place.Place.{Place}
+use Rattle.ic_unsafe_ref.specs.Objects.{Objects}
 use Rattle.ic_link_ops.specs.declared.side.Side.{Side}
 use Rattle.ic_link_ops.specs.declared.side.Side.TheVariants.{Left, Right}
 use Rattle.ic_link_ops.specs.Sequences.{Cut, first, last}
 use Rattle.ic_link_ops.specs.Tables.{Table}
 use Rattle.ic_link_ops.specs.Walk.{is_end}
 use Rattle.ic_link_ops.specs.RedBlackTree.{Node, Shows, ShowsSome}
-use Rattle.ic_rbtree.specs.Comparing.{HasRoom, FewLooks, Looks}
+use Rattle.ic_rbtree.specs.Comparing.{HasRoom, FewLooks, Looks, compared}
 use Rattle.ic_rbtree.specs.Ends.{end_on}
+use Rattle.ic_rbtree.specs.Holes.{behind_there}
 use Rattle.ic_rbtree.specs.Insertion.{are_across}
 use Rattle.ic_rbtree.specs.Sides.{IsBeside}
 
@@ -31,6 +33,11 @@ pub data Kept : Type 0 where
 abbrev pub root_kept : Kept → Option Place
 root_kept (alone root) = root
 root_kept (ended h) = h.root
+
+-- the last member, where it is kept
+abbrev pub last_kept : Kept → Option Place
+last_kept (alone root) = None
+last_kept (ended h) = h.back
 
 -- what is kept beside the root is right of a tree with these members
 abbrev pub TellsEnds : Kept → List Place → Type 0
@@ -95,14 +102,16 @@ HasRoomFor (alone root) count = HasRoom count
 HasRoomFor (ended h) count = HasRoom (count + 1)
 
 module _ {P V : Type 0} (order : P → V → Ordering) (count : P → ℕ) where
-  -- THE LOOKS OF ONE INSERT that looks at the last member first: no more than one descent makes at most. The probe compares as before
-  pub record EndLooks (old new : P) (s : List Place) : Type 0 where
+  -- THE LOOKS OF ONE INSERT that looks at the last member first: at that one alone where what is searched is not less, and never more than one
+  -- descent makes at most. The probe compares as before
+  pub record EndLooks (objects : Objects V) (old new : P) (s : List Place) : Type 0 where
     pub looks : ℕ
     pub counted : count new ≡ count old + looks
     pub few : FewLooks looks s
+    pub at_last : behind_there (compared (order old) objects) (last s) ≡ true → looks ≡ 1
     pub order_is : order new ≡ order old
 
   -- and of one in a tree that keeps this
-  abbrev pub InsertLooks : Kept → P → P → List Place → Type 0
-  InsertLooks (alone root) = Looks order count
-  InsertLooks (ended h) = EndLooks
+  abbrev pub InsertLooks : Kept → Objects V → P → P → List Place → Type 0
+  InsertLooks (alone root) objects = Looks order count
+  InsertLooks (ended h) objects = EndLooks objects

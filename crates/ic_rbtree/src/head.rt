@@ -5,15 +5,15 @@
 //! let timers: RBTree<ByDeadline, WithEnds> = RBTree::with_ends(ByDeadline); // three, and `first` reads one
 //! ```
 
-ghost use Rattle.std.specs.Prelude.{◌≡◌, ◌≢◌, Option, Some, None, IfSome, List, [], ◌∷◌, ◌++◌};
+ghost use Rattle.std.specs.Prelude.{◌≡◌, ◌≢◌, Option, Some, None, List, [], ◌∷◌, ◌++◌};
 ghost use Rattle.ic_unsafe_ref.specs.declared.place.Place.{Place};
 ghost use Rattle.ic_link_ops.specs.Frames.{across};
 ghost use Rattle.ic_link_ops.specs.RedBlackTree.{Shows, ShowsSome};
-ghost use Rattle.ic_link_ops.specs.Sequences.{Cut, join, insert, last, IsDistinct};
+ghost use Rattle.ic_link_ops.specs.Sequences.{Cut, join, insert, IsDistinct};
 ghost use Rattle.ic_rbtree.specs.Closed.{IsSafe, IsSafeBut, StaysClosed, ClosesAt};
 ghost use Rattle.ic_rbtree.specs.Ends.{end_on};
 ghost use Rattle.ic_rbtree.specs.Insertion.{Attaches};
-ghost use Rattle.ic_rbtree.specs.Kept.{Kept, RootAndEnds, alone, ended, root_kept, end_with, end_for, TellsEnds, IsEmptied, IsBelow, EndIs, HasEnds};
+ghost use Rattle.ic_rbtree.specs.Kept.{Kept, RootAndEnds, alone, ended, root_kept, last_kept, end_with, end_for, TellsEnds, IsEmptied, IsBelow, EndIs, HasEnds};
 ghost use Rattle.ic_rbtree.specs.Transplants.{TakesAway, TakesPlace};
 
 use crate::nodes::Nodes;
@@ -78,8 +78,7 @@ pub trait TreeHead: Drop {
 
     /// The last member as it is kept, `None` in an empty tree, and where no end is kept. O(1).
     fn kept_last(&self) -> Option<Place>
-        ensures last { (s : List Place) → TellsEnds (kept self.now) s → IfSome result (λ p. last s ≡ Some p) }
-        ensures alone { (root : Option Place) → kept self.now ≡ alone root → result ≡ None };
+        ensures { result ≡ last_kept (kept self.now) };
 
     /// Becomes the head of the tree with this root, in which another call has joined the members of both trees with `place` between them.
     /// `other` has no members then. O(1).

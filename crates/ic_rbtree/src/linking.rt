@@ -68,7 +68,7 @@ pub(crate) fn insert_in_order<L: RBTreeOps, E: TreeHead, V, P: Probe<V>, O: Valu
         head.new s object) }
     ensures acquired { OnTrue result (L.Does links.old links.new (acquires object ∷ [])) }
     ensures looks { (s : List Place) → ShowsKept E.kept L.node (L.table links.old) head.old s
-        → OnTrue result (InsertLooks P.order P.count (E.kept head.old) probe.old probe.new s) }
+        → OnTrue result (InsertLooks P.order P.count (E.kept head.old) (O.values objects.now) probe.old probe.new s) }
     ensures refused { OnFalse result (L.Refused links.old links.new object) }
     ensures unchanged { OnFalse result ((head.new ≡ head.old) × (probe.new ≡ probe.old)) }
 {

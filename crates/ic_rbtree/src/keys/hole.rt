@@ -70,7 +70,7 @@ pub(crate) fn hole_for<E: TreeHead, L: RBTreeOps, V, P: Probe<V>, O: Values<V>>(
     ensures hole { (s : List Place) → ShowsKept E.kept L.node (L.table links.now) head.now s
         → IsInOrder L.node (L.table links.now) (compared (P.order probe.old) (O.values objects.now)) s result.0 result.1 }
     ensures looks { (s : List Place) → ShowsKept E.kept L.node (L.table links.now) head.now s
-        → InsertLooks P.order P.count (E.kept head.now) probe.old probe.new s }
+        → InsertLooks P.order P.count (E.kept head.now) (O.values objects.now) probe.old probe.new s }
 {
     let last = head.kept_last();
     if is_behind(objects, probe, last) {

@@ -48,7 +48,7 @@ impl<A: KeyAdapter, E: TreeHead> RBTree<A, E> {
         ensures refused { OnErr result (L.Refused links.old links.new object) }
         ensures unchanged { IfErr result (λ refused. (refused.0 ≡ object) × (self.new ≡ self.old)) }
         ensures looks { (s : List Place) → ShowsKept E.kept L.node (L.table links.old) (head_of self.old) s
-            → OnOk result (InsertLooks P.order P.count (E.kept (head_of self.old)) probe.old probe.new s) }
+            → OnOk result (InsertLooks P.order P.count (E.kept (head_of self.old)) (L.values links.old) probe.old probe.new s) }
         ensures no_look { OnErr result (probe.new ≡ probe.old) }
     {
         let place = object.place();

@@ -70,7 +70,7 @@ impl<A: KeyAdapter, E: TreeHead> RBTree<A, E> {
         ensures refused { OnErr result (L.Refused links.old links.new object) }
         ensures unchanged { IfErr result (λ refused. (refused.0 ≡ object) × (self.new ≡ self.old)) }
         ensures looks { (s : List Place) → ShowsKept E.kept L.node (L.table links.old) (head_of self.old) s
-            → OnOk result (InsertLooks P.order P.count (E.kept (head_of self.old)) probe.old probe.new s) }
+            → OnOk result (InsertLooks P.order P.count (E.kept (head_of self.old)) (O.values objects.now) probe.old probe.new s) }
         ensures no_look { OnErr result (probe.new ≡ probe.old) }
     {
         if !insert_in_order(links, &mut self.head, objects, probe, object.place()) {

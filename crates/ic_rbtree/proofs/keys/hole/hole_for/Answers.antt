@@ -7,7 +7,7 @@ use Rattle.ic_rbtree.specs.Comparing.{compared}
 use Rattle.ic_rbtree.specs.Descents.{EndsAt}
 use Rattle.ic_rbtree.proofs.InOrder.{ended_in_order}
 use Rattle.ic_rbtree.proofs.KeptHeads.{shown, told, placed_root, room_descent}
-use Rattle.ic_rbtree.proofs.LookBounds.{end_placed, last_there, room_less, behind_some, room_below, looks_behind, looks_below}
+use Rattle.ic_rbtree.proofs.LookBounds.{end_placed, kept_is_last, last_there, room_less, behind_some, room_below, looks_behind, looks_below}
 use Rattle.ic_rbtree.proofs.Neighbors.{hole_behind}
 use Rattle.ic_rbtree.proofs.Sending.{ends_at_root}
 use Rattle.ic_rbtree.proofs.keys.hole.hole_for.Goals as goal
@@ -15,7 +15,7 @@ use Rattle.ic_rbtree.proofs.keys.hole.hole_for.Goals as goal
 pub is_behind-requires-clause-placed : goal.is_behind-requires-clause-placed
 is_behind-requires-clause-placed g c =
     let r = c.requires.placed in
-    end_placed (g.O.Values.values c.args.objects.now) r.members r.placed c.kept_last-last.result (c.kept_last-last.ensures.last r.members (told g.L.RBTreeOps.node (g.L.LinkOps.table c.args.links.now) (g.E.TreeHead.kept c.args.head.now) r.members r.shown))
+    end_placed (g.O.Values.values c.args.objects.now) r.members r.placed c.kept_last-last.result (kept_is_last (g.E.TreeHead.kept c.args.head.now) r.members c.kept_last-last.result c.kept_last-last.ensures (told g.L.RBTreeOps.node (g.L.LinkOps.table c.args.links.now) (g.E.TreeHead.kept c.args.head.now) r.members r.shown))
 
 pub is_behind-requires-clause-room : goal.is_behind-requires-clause-room
 is_behind-requires-clause-room g c = room_less (room_descent (g.E.TreeHead.kept c.args.head.now) _ c.requires.room)
@@ -25,7 +25,7 @@ returns-then-is_behind-clause-hole g c s h =
     let k = g.E.TreeHead.kept c.args.head.now in
     let at = compared (g.P.Probe.order c.args.probe.now) (g.O.Values.values c.args.objects.now) in
     let b = behind_some at c.kept_last-last.result (sym c.is_behind.ensures.behind ∙ c.if-is_behind.true) in
-    let is = last_there s c.kept_last-last.result (c.kept_last-last.ensures.last s (told g.L.RBTreeOps.node (g.L.LinkOps.table c.args.links.now) k s h)) b.1 in
+    let is = last_there s c.kept_last-last.result (kept_is_last k s c.kept_last-last.result c.kept_last-last.ensures (told g.L.RBTreeOps.node (g.L.LinkOps.table c.args.links.now) k s h)) b.1 in
     record {
       gap = at_back s;
       same = append-nil s;
@@ -36,14 +36,14 @@ returns-then-is_behind-clause-hole g c s h =
 pub returns-then-is_behind-clause-looks : goal.returns-then-is_behind-clause-looks
 returns-then-is_behind-clause-looks g c s h =
     let k = g.E.TreeHead.kept c.args.head.now in
-    looks_behind g.P.Probe.order g.P.Probe.count k s c.kept_last-last.result (compared (g.P.Probe.order c.args.probe.now) (g.O.Values.values c.args.objects.now))
-    c.kept_last-last.ensures.alone (c.kept_last-last.ensures.last s (told g.L.RBTreeOps.node (g.L.LinkOps.table c.args.links.now) k s h)) (sym c.is_behind.ensures.behind ∙ c.if-is_behind.true) c.is_behind.ensures.counted c.is_behind.ensures.same
+    looks_behind g.P.Probe.order g.P.Probe.count (g.O.Values.values c.args.objects.now) k s c.kept_last-last.result c.kept_last-last.ensures
+    (told g.L.RBTreeOps.node (g.L.LinkOps.table c.args.links.now) k s h) (sym c.is_behind.ensures.behind ∙ c.if-is_behind.true) c.is_behind.ensures.counted c.is_behind.ensures.same
 
 pub descend-hole-requires-clause-placed : goal.descend-hole-requires-clause-placed
 descend-hole-requires-clause-placed g c = rw c.root.ensures (placed_root (g.E.TreeHead.kept c.args.head.now) c.requires.placed)
 
 pub descend-hole-requires-clause-room : goal.descend-hole-requires-clause-room
-descend-hole-requires-clause-room g c = room_below (g.E.TreeHead.kept c.args.head.now) c.kept_last-last.result _ c.kept_last-last.ensures.alone c.requires.room c.is_behind.ensures.counted
+descend-hole-requires-clause-room g c = room_below (g.E.TreeHead.kept c.args.head.now) c.kept_last-last.result _ c.kept_last-last.ensures c.requires.room c.is_behind.ensures.counted
 
 pub returns-clause-hole : goal.returns-clause-hole
 returns-clause-hole g c s h =
@@ -56,5 +56,6 @@ returns-clause-hole g c s h =
 pub returns-clause-looks : goal.returns-clause-looks
 returns-clause-looks g c s h =
     let k = g.E.TreeHead.kept c.args.head.now in
-    looks_below g.P.Probe.order g.P.Probe.count k s c.kept_last-last.result c.kept_last-last.ensures.alone (c.kept_last-last.ensures.last s (told g.L.RBTreeOps.node (g.L.LinkOps.table c.args.links.now) k s h)) c.is_behind.ensures.counted c.is_behind.ensures.same
+    looks_below g.P.Probe.order g.P.Probe.count (g.O.Values.values c.args.objects.now) k s c.kept_last-last.result c.kept_last-last.ensures
+    (told g.L.RBTreeOps.node (g.L.LinkOps.table c.args.links.now) k s h) (sym c.is_behind.ensures.behind ∙ c.if-is_behind.false) c.is_behind.ensures.counted c.is_behind.ensures.same
     (c.descend-hole.ensures.looks s (rw c.root.ensures (shown k h)))

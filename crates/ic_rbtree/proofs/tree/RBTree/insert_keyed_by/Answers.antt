@@ -2,7 +2,7 @@ use Rattle.std.proofs.Common.{◌≡◌, sym, subst}
 use Rattle.ic_unsafe_ref.specs.declared.place.Place.{Place}
 use Rattle.ic_unsafe_ref.specs.Objects.{Objects}
 use Rattle.ic_rbtree.specs.Comparing.{compared}
-use Rattle.ic_rbtree.specs.Kept.{ShowsKept}
+use Rattle.ic_rbtree.specs.Kept.{ShowsKept, InsertLooks}
 use Rattle.ic_rbtree.specs.Ordered.{InsertsInOrder}
 use Rattle.ic_rbtree.proofs.InOrder.{still_kept, fits_safe, fitted}
 use Rattle.ic_rbtree.proofs.KeptHeads.{shown}
@@ -52,4 +52,7 @@ returns-clause-values g c =
 pub returns-clause-looks : goal.returns-clause-looks
 returns-clause-looks g c s h =
     let l = g.met.L.LinkOps.does_replay _ _ _ c.if-not-acquire_link.ensures.acquired in
-    c.hole_for-parent.ensures.looks s (still_kept g.L.RBTreeOps.node g.L.LinkOps.linked g.met.L.RBTreeOps.linked_alike l.was l.is c.acquire_link.ensures.frame (g.E.TreeHead.kept c.args.self.now.head) s h)
+    let kept = g.E.TreeHead.kept c.args.self.now.head in
+    subst (λ (o : Objects g.row.A-Value.Denot). InsertLooks g.P.Probe.order g.P.Probe.count kept o c.args.probe.now c.hole_for-parent.new.probe s)
+    (g.met.L.LinkValues.values_stay _ _ c.acquire_link.ensures.frame.extent)
+    (c.hole_for-parent.ensures.looks s (still_kept g.L.RBTreeOps.node g.L.LinkOps.linked g.met.L.RBTreeOps.linked_alike l.was l.is c.acquire_link.ensures.frame kept s h))
