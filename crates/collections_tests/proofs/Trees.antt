@@ -14,6 +14,7 @@ use Rattle.ic_link_ops.specs.Tables.{Table, IsCovered}
 use Rattle.ic_link_ops.specs.ThreeWords.{no_words, has_link, node_of}
 use Rattle.ic_link_ops.proofs.ShownTrees.{shows_nothing}
 use Rattle.ic_link_ops.proofs.Trees.{tree_covered}
+use Rattle.ic_rbtree.specs.CursorMut.{CursorOf}
 use Rattle.ic_rbtree.specs.Entry.{IfVacant, IsVacantFor, CanInsert}
 use Rattle.ic_rbtree.specs.PlainTrees.{TreeLinkOps, plain_table, PlainShows, PlainShowsSome}
 use Rattle.ic_rbtree.specs.Tree.{root_of}
@@ -46,3 +47,8 @@ module _ {A L V K E : Type 0} (n : E → Node) (table : L → Table E) (at : Pla
       → IfVacant e (CanInsert alone n table)
   can_insert (Occupied c) f b = tt
   can_insert (Vacant v) f b = (f.gap, rw (b.2, b.3, f.same) shown, rw b.3 f.is_at)
+
+-- an entry that is not occupied is vacant
+pub vacant_one : {A L H V K : Type 0} (entry : Entry A L H V K) → ((c : CursorOf A L V H) → entry ≡ Occupied c → ⊥) → (v : InsertCursor A L H) × (entry ≡ Vacant v)
+vacant_one (Occupied c) other = absurd (other c refl)
+vacant_one (Vacant v) other = (v, refl)

@@ -87,6 +87,7 @@ fn ends(rt: HostRuntime) {
     write_inserted(&mut notes, &mut tree, &mut links, &objects, reference(4));
     write_inserted(&mut notes, &mut tree, &mut links, &objects, reference(1));
     write_split(&mut notes, &mut tree, &mut links);
+    let mut tree = tree.forget_ends().keep_ends(&links);
     write_taken(&mut notes, &mut tree, &mut links);
     assert_words(&rt, &notes, "2 2 2 4 1 4  1 2 4 4 1 4 none  1 4 2 2 no");
 }

@@ -9,13 +9,15 @@ ghost use Rattle.ic_rbtree.specs.PlainTrees.{PlainShows};
 ghost use Rattle.ic_rbtree.specs.Tree.{head_of, root_of};
 
 use crate::notes::assert_words;
-use crate::tree::trees::{OwnKey, TreeFixture, tree_of};
+use crate::tree::summaries::member_at;
+use crate::tree::trees::{OwnKey, TreeFixture, tree_of, tree_over};
 use ic_link_ops::rbtree::RBTreeOps;
 use ic_rbtree::{RBTree, TreeHead};
 use ic_test_support::notes::{Answer, Text};
 use ic_test_support::objects::reference;
 use ic_unsafe_ref::{Objects, Place, UnsafeRef, Values};
 use std::cell::Cell;
+use std::process::Abort;
 
 // Values that count how often one is read.
 #[derive(Drop)]
@@ -81,8 +83,33 @@ fn write_entry(notes: &mut Text, fixture: &mut TreeFixture)
     counted.write_reads(notes);
 }
 
-// Seven members that came in rising order have 20 at the root, and 40, 60 and 70 below each other on its right. So an insert of 80 makes four
-// looks, and one where 70 is kept as the last member, and an entry of 80 makes four.
+// Puts the object in with the member at the position as the hint, and notes how often a value was read for that.
+fn write_insert_with_hint<E: TreeHead, L: RBTreeOps>(
+    rt: &impl Abort,
+    notes: &mut Text,
+    tree: &mut RBTree<OwnKey, E>,
+    links: &mut L,
+    objects: &Objects<u64>,
+    position: usize,
+    object: UnsafeRef<u64>,
+)
+    requires covered { IsCovered (L.table links.old) object }
+    requires placed { ShowsPlaced (ShowsKept E.kept L.node (L.table links.old) (head_of tree.old)) objects.now }
+    requires object { is_placed objects.now object ≡ true }
+{
+    let hint = member_at(rt, &*tree, &*links, position);
+    let counted = Counted::of(objects);
+    let _ = tree.insert_with_hint(links, &counted, &hint, object);
+    counted.write_reads(notes);
+}
+
+// Seven numbers that rise, and one that belongs in front of the fourth.
+const SEVEN_AND_ONE: [u64; 8] = [10, 20, 30, 50, 60, 70, 80, 40];
+
+// Seven members that came in rising order have the second at the root, and the fourth, the sixth and the last below each other on its right. So
+// an insert behind all makes four looks, and one where the last member is kept, and an entry of a greater key makes four. An insert in front of the
+// fourth makes two looks where that is the hint. It makes four where the hint is the second, which is less, and five where it is the
+// last, since the one in front of that is greater, too.
 // Promise: looks of plain calls.
 #[test]
 fn plain_calls_look_once(rt: HostRuntime) {
@@ -106,5 +133,17 @@ fn plain_calls_look_once(rt: HostRuntime) {
         reference(7),
     );
     write_entry(&mut notes, &mut tree_of(&rt, alloc, 7));
-    assert_words(&rt, &notes, "5 2 4");
+    for position in [3, 1, 6] {
+        let mut fixture = tree_over(&rt, alloc, SEVEN_AND_ONE, 7);
+        write_insert_with_hint(
+            &rt,
+            &mut notes,
+            &mut fixture.tree,
+            &mut fixture.links,
+            &fixture.objects,
+            position,
+            reference(7),
+        );
+    }
+    assert_words(&rt, &notes, "5 2 4 3 5 6");
 }

@@ -14,10 +14,11 @@ ghost use Rattle.collections_tests.specs.Ready.{IsReady};
 use crate::notes::assert_words;
 use crate::tree::trees::OwnKey;
 use ic_augmented::{
-    Counts, Greatest, RenewSums, Summed, first_greater, index_of, len, nth, refresh, set_value,
+    Counts, Greatest, RenewSums, Summed, Sums, first_greater, first_overlap, index_of, len, nth,
+    refresh, set_value,
 };
 use ic_link_ops::rbtree::{self, RBTreeOps};
-use ic_rbtree::{RBTree, TreeHead};
+use ic_rbtree::{Entry, RBTree, RefusedInsert, TreeHead};
 use ic_test_support::answers::write_places;
 use ic_test_support::notes::{Answer, Text};
 use ic_test_support::objects::{TENS, eight_objects, place_at, reference};
@@ -88,8 +89,8 @@ fn write_sums<E: TreeHead, L: RBTreeOps, M: Readings>(
     M::note(notes, tree, summed);
 }
 
-// The member at that position. The test ends where there is none.
-fn member_at<E: TreeHead, L: RBTreeOps>(
+/// The member at that position. The test ends where there is none.
+pub(crate) fn member_at<E: TreeHead, L: RBTreeOps>(
     rt: &impl Abort,
     tree: &RBTree<OwnKey, E>,
     links: &L,
@@ -120,6 +121,34 @@ fn put_by_key<E: TreeHead, L: RBTreeOps, M: RenewSums>(
 {
     let inserted = tree.insert(summed, objects, object);
     assert!(rt; inserted.is_ok());
+}
+
+// Puts the object in at the entry of the key, if no member has that.
+fn put_at_entry<E: TreeHead, L: RBTreeOps, M: RenewSums>(
+    rt: &impl Abort,
+    tree: &mut RBTree<OwnKey, E>,
+    summed: &mut Summed<L, M>,
+    objects: &Objects<u64>,
+    key: u64,
+    object: UnsafeRef<u64>,
+)
+    requires few { index_of object < 8 }
+    requires placed { (q : Place) → index_of q < 8 → is_placed objects.now q ≡ true }
+    requires ready { IsReady E.kept L.node L.table M.sums M.Covers tree.old summed.old }
+    ensures ready { IsReady E.kept L.node L.table M.sums M.Covers tree.new summed.new }
+{
+    match tree.entry(summed, objects, &key) {
+        Entry::Occupied(_found) => {}
+        vacant => match vacant.or_insert(object) {
+            Ok(_cursor) => {}
+            Err(
+                RefusedInsert {
+                    gap: _gap,
+                    object: _object,
+                },
+            ) => panic!(rt; "the object is linked"),
+        },
+    }
 }
 
 // Puts the object in where its key belongs, with the member at the position as the hint.
@@ -280,6 +309,7 @@ fn clear<E: TreeHead, L: RBTreeOps, M: RenewSums>(
 // One edit, of the object at a place, and at the member at a position.
 enum Edit {
     ByKey(usize),
+    AtEntry(u64, usize),
     WithHint(usize, usize),
     Before(usize, usize),
     Replace(usize, usize),
@@ -314,6 +344,9 @@ fn make<E: TreeHead, L: RBTreeOps, M: Readings>(
 {
     match edit {
         Edit::ByKey(object) => put_by_key(rt, tree, summed, objects, eighth(*object)),
+        Edit::AtEntry(key, object) => {
+            put_at_entry(rt, tree, summed, objects, *key, eighth(*object));
+        }
         Edit::WithHint(at, object) => {
             put_with_hint(rt, tree, summed, objects, *at, eighth(*object));
         }
@@ -349,6 +382,9 @@ const EDITS: &[Edit] = &[
     Edit::Join(1, 1), // 6 1 2 3 5 7
     Edit::Clear, // none
     Edit::ByKey(2), // 2
+    Edit::AtEntry(40, 3), // 2 3
+    Edit::AtEntry(10, 0), // 0 2 3
+    Edit::AtEntry(30, 5), // 0 2 3: the member at 2 has that key
 ];
 
 // Makes all edits, and notes after each what the summaries tell.
@@ -361,10 +397,26 @@ fn play<E: TreeHead, L: RBTreeOps, M: Readings>(
 )
     requires placed { (q : Place) → index_of q < 8 → is_placed objects.now q ≡ true }
     requires ready { IsReady E.kept L.node L.table M.sums M.Covers tree.old summed.old }
+    ensures ready { IsReady E.kept L.node L.table M.sums M.Covers tree.new summed.new }
 {
     for edit in EDITS {
         make(rt, notes, tree, summed, objects, edit);
         write_sums(notes, &*tree, summed);
+    }
+}
+
+// Notes the first member, from the value of its object to its number, that overlaps 15 to 35, 45 to 50, and 20 to 30.
+fn write_overlaps<E: TreeHead, L: RBTreeOps>(
+    notes: &mut Text,
+    tree: &RBTree<OwnKey, E>,
+    summed: &Summed<L, Greatest>,
+    objects: &Objects<u64>,
+)
+    requires placed { (q : Place) → index_of q < 8 → is_placed objects.now q ≡ true }
+    requires ready { IsReady E.kept L.node L.table ⟦<Greatest as Sums>⟧.sums ⟦<Greatest as Sums>⟧.Covers tree.now summed.now }
+{
+    for (from, to) in [(15, 35), (45, 50), (20, 30)] {
+        write_places(notes, &[first_overlap(tree, summed, objects, from, to)]);
     }
 }
 
@@ -400,7 +452,10 @@ fn play_counts<E: TreeHead>(rt: &impl Abort, alloc: Global, tree: RBTree<OwnKey,
         2 6 2  3 3 5 7  5 6 2 3 5 7
         6 6 1 2 3 5 7
         0
-        1 2",
+        1 2
+        2 2 3
+        3 0 2 3
+        3 0 2 3",
     );
 }
 
@@ -423,6 +478,7 @@ fn play_greatest<E: TreeHead>(rt: &impl Abort, alloc: Global, tree: RBTree<OwnKe
         set_value(&mut summed, place_at(index), NUMBERS[index]);
     }
     play(rt, &mut notes, &mut tree, &mut summed, &objects);
+    write_overlaps(&mut notes, &tree, &summed, &objects);
     assert_words(
         rt,
         &notes,
@@ -443,7 +499,11 @@ fn play_greatest<E: TreeHead>(rt: &impl Abort, alloc: Global, tree: RBTree<OwnKe
         6 6 none  3 3 5  6 6 5
         6 6 5
         none none none
-        2 none none",
+        2 none none
+        2 3 none
+        2 3 none
+        2 3 none
+        0 3 none",
     );
 }
 

@@ -32,7 +32,7 @@ impl KeyAdapter for OwnKey {
     }
 }
 
-/// A tree, the table of its links, which covers the places 0 to 7, and its objects: 10 to 80 stand there, in this order.
+/// A tree, the table of its links, which covers the places 0 to 7, and its objects, which stand at these.
 pub(crate) struct TreeFixture {
     pub(crate) objects: Objects<u64>,
     pub(crate) links: LinkOps,
@@ -69,14 +69,19 @@ pub(crate) fn filled(links: &mut LinkOps, members: usize, in_front: bool) -> RBT
     tree
 }
 
-/// A tree of the objects at the first places, as many as that, in their order.
-pub(crate) fn tree_of(rt: &impl Abort, alloc: Global, members: usize) -> TreeFixture
+/// A tree of the objects at the first places, as many as that, in their order. These numbers are the eight objects.
+pub(crate) fn tree_over(
+    rt: &impl Abort,
+    alloc: Global,
+    numbers: [u64; 8],
+    members: usize,
+) -> TreeFixture
     requires { members ≤ 8 }
     ensures covers { (plain_table result.links).extent.places ≡ 8 }
     ensures placed { (q : Place) → index_of q < 8 → is_placed result.objects q ≡ true }
     ensures shown { ShowsPlaced (PlainShows result.links (root_of result.tree)) result.objects }
 {
-    let (objects, mut links) = eight_objects(alloc, TENS).expect(rt, "memory");
+    let (objects, mut links) = eight_objects(alloc, numbers).expect(rt, "memory");
     let tree = filled(&mut links, members, false);
     assert!(rt; links.covers() == 8);
     assert!(rt; are_placed(&links, &objects));
@@ -85,4 +90,14 @@ pub(crate) fn tree_of(rt: &impl Abort, alloc: Global, members: usize) -> TreeFix
         links,
         tree,
     }
+}
+
+/// A tree of the objects at the first places, as many as that, in their order. The objects are 10 to 80.
+pub(crate) fn tree_of(rt: &impl Abort, alloc: Global, members: usize) -> TreeFixture
+    requires { members ≤ 8 }
+    ensures covers { (plain_table result.links).extent.places ≡ 8 }
+    ensures placed { (q : Place) → index_of q < 8 → is_placed result.objects q ≡ true }
+    ensures shown { ShowsPlaced (PlainShows result.links (root_of result.tree)) result.objects }
+{
+    tree_over(rt, alloc, TENS, members)
 }

@@ -1,6 +1,6 @@
 use Rattle.std.proofs.Common.{rules}
 use Rattle.collections_tests.proofs.Trees.{shows_placed}
-use Rattle.collections_tests.proofs.tree.trees.tree_of.Goals as goal
+use Rattle.collections_tests.proofs.tree.trees.tree_over.Goals as goal
 
 pub returns-clause-shown : goal.returns-clause-shown
 returns-clause-shown g c =
