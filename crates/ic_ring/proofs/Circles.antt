@@ -4,10 +4,10 @@ use Rattle.ic_unsafe_ref.specs.declared.place.Place.{Place}
 use Rattle.ic_unsafe_ref.specs.Places.{same_word}
 use Rattle.ic_unsafe_ref.proofs.PlaceLemmas.{same_or_not}
 use Rattle.ic_link_ops.specs.Sequences.{IsAbsent, IsMember, IsDisjoint, first_or, last_or, first, last, but_last}
-use Rattle.ic_link_ops.specs.Tables.{Table, LinksAlso}
+use Rattle.ic_link_ops.specs.Tables.{Table, LinksAlso, ChangesOnly}
 use Rattle.ic_link_ops.specs.Chains.{Ends}
 use Rattle.ic_link_ops.specs.Turns.{TurnsBehind, TurnsBefore}
-use Rattle.ic_link_ops.specs.LinkedList.{Neighbors, IsBetween, IsChain}
+use Rattle.ic_link_ops.specs.LinkedList.{Neighbors, neighbors_at, IsBetween, IsChain}
 use Rattle.ic_link_ops.specs.LinkedList as doubly
 use Rattle.ic_link_ops.proofs.SequenceLemmas.{IsOutside, last_outside, split_last, absent_both, member_split, absent_turned, last_or-append, distinct_disjoint, distinct_left, distinct_right, distinct_splice, disjoint_sym, last_not, first_not, none_not, some_same}
 use Rattle.ic_link_ops.proofs.Chains.{chain_kept, chain_cut, chain_glue, chain_last, chain_first, chain_absent, chain_beside, last_between}
@@ -71,6 +71,22 @@ stays_linked {linked = linked} {old} {new} {p} q links was = elim (same_or_not q
   | inr other ↦ links.others q other ∙ was
 ]
 
+module _ {E : Type 0} (n : E → Neighbors) where
+  -- A NEIGHBOR SET AS IT IS leaves what each entry says
+  pub next_stays : {old new : Table E} {p : Place} {to : Option Place} → ChangesOnly old new p → neighbors_at n new p ≡ record (neighbors_at n old p) { next = to }
+      → (neighbors_at n old p).next ≡ to → (q : Place) → neighbors_at n new q ≡ neighbors_at n old q
+  next_stays {old} {new} frame set is q = elim (same_or_not q _) [
+    | inl e ↦ subst (λ z. neighbors_at n new z ≡ neighbors_at n old z) (sym e) (set ∙ rw (← is) refl)
+    | inr other ↦ ap n (frame.others q other)
+  ]
+
+  pub prev_stays : {old new : Table E} {p : Place} {to : Option Place} → ChangesOnly old new p → neighbors_at n new p ≡ record (neighbors_at n old p) { prev = to }
+      → (neighbors_at n old p).prev ≡ to → (q : Place) → neighbors_at n new q ≡ neighbors_at n old q
+  prev_stays {old} {new} frame set is q = elim (same_or_not q _) [
+    | inl e ↦ subst (λ z. neighbors_at n new z ≡ neighbors_at n old z) (sym e) (set ∙ rw (← is) refl)
+    | inr other ↦ ap n (frame.others q other)
+  ]
+
 module _ {E : Type 0} {n : E → Neighbors} where
   -- A CIRCLE CAN BE READ from each of its places
   pub rotated : {t : Place → E} (s u : List Place) → IsCircle n t (s ++ u) → IsCircle n t (u ++ s)
@@ -99,6 +115,11 @@ module _ {E : Type 0} {n : E → Neighbors} where
   seen_at {t} {p} {r} c member =
       let m = member_split p r member in
       (m.1 ++ m.0, rotated m.0 (p ∷ m.1) (subst (IsCircle n t) m.2 c), λ q out. absent_turned q (p ∷ m.1) m.0 (subst (IsAbsent q) m.2 out))
+
+  -- FACING: what stands behind a place of a ring has that place in front of itself
+  pub facing : {t : Place → E} (x : Place) (s : List Place) {b : Place} → IsCircle n t (x ∷ s) → (n (t x)).next ≡ Some b → (n (t b)).prev ≡ Some x
+  facing {t} x [] c e = subst (λ z. (n (t z)).prev ≡ Some x) (some_same (sym c.chain.0.next ∙ e)) c.chain.0.prev
+  facing {t} x (y ∷ s) c e = subst (λ z. (n (t z)).prev ≡ Some x) (some_same (sym c.chain.0.next ∙ e)) c.chain.1.0.prev
 
   -- it stays where the table keeps the entries of its places
   pub circle_kept : {t0 t1 : Place → E} {r : List Place} → IsCircle n t0 r → ((q : Place) → (IsAbsent q r → ⊥) → t1 q ≡ t0 q) → IsCircle n t1 r

@@ -9,6 +9,7 @@ ghost use Rattle.std.specs.Prelude.{◌≡◌, ◌≢◌, ◌∷◌, ◌++◌, L
 ghost use Rattle.ic_unsafe_ref.specs.declared.place.Place.{Place};
 ghost use Rattle.ic_link_ops.specs.Sequences.{IsAbsent, IsDisjoint, last};
 ghost use Rattle.ic_link_ops.specs.Tables.{KeepsBeside};
+ghost use Rattle.ic_link_ops.specs.LinkedList.{neighbors_at};
 ghost use Rattle.ic_ring.specs.Rings.{IsCircle, Shows, InRing, IsRingOf, OthersStay};
 
 use crate::ring::Ring;
@@ -20,7 +21,8 @@ use ic_unsafe_ref::Place;
 /// Two places that stand in rings exchange what stands behind them. O(1), and no link step.
 ///
 /// So two rings are joined: behind the first place stands what stood behind the second, up to that, and then what stood behind the first.
-/// One ring is cut so between the two. The same call again takes it back. It requires that both places stand in rings of the table.
+/// One ring is cut so between the two. The same call again takes it back, and a place and itself exchange nothing. It requires that both places
+/// stand in rings of the table.
 #[inline]
 pub fn exchange<L: LinkedListOps>(links: &mut L, first: Place, second: Place)
     requires first { InRing L.neighbors (L.table links.old) first }
@@ -29,6 +31,7 @@ pub fn exchange<L: LinkedListOps>(links: &mut L, first: Place, second: Place)
         → IsDisjoint r u → Some first ≡ last r → Some second ≡ last u → IsCircle L.neighbors (L.table links.new).entry (r ++ u) }
     ensures cuts { (r u : List Place) → IsCircle L.neighbors (L.table links.old).entry (r ++ u) → Some first ≡ last r → Some second ≡ last u
         → IsCircle L.neighbors (L.table links.new).entry r × IsCircle L.neighbors (L.table links.new).entry u }
+    ensures itself { first ≡ second → (q : Place) → neighbors_at L.neighbors (L.table links.new) q ≡ neighbors_at L.neighbors (L.table links.old) q }
     ensures no_step { L.Does links.old links.new [] }
     ensures others { OthersStay L.neighbors (L.table links.old) (L.table links.new) (first ∷ second ∷ []) }
     ensures frame { (r u : List Place) → IsRingOf L.neighbors (L.table links.old) first r → IsRingOf L.neighbors (L.table links.old) second u

@@ -1,12 +1,12 @@
-use Rattle.std.proofs.Common.{List, Some, [], ◌∷◌, ◌++◌, ◌≡◌, sym, ◌∙◌}
+use Rattle.std.proofs.Common.{List, Some, [], ◌∷◌, ◌++◌, ◌≡◌, sym, ap, subst, ◌∙◌}
 use Rattle.ic_unsafe_ref.specs.declared.place.Place.{Place}
 use Rattle.ic_link_ops.specs.Sequences.{IsAbsent, last}
-use Rattle.ic_link_ops.specs.LinkedList.{IsBetween}
+use Rattle.ic_link_ops.specs.LinkedList.{IsBetween, neighbors_at}
 use Rattle.ic_link_ops.proofs.Chains.{chain_cut, last_between}
 use Rattle.ic_link_ops.proofs.DoublyLists.{next_turns, prev_turns}
 use Rattle.ic_link_ops.proofs.SequenceLemmas.{absent_left, absent_right, none_not, some_same}
 use Rattle.ic_ring.specs.Rings.{IsCircle}
-use Rattle.ic_ring.proofs.Circles.{circles_joined, circle_cut, seen_at, next_not}
+use Rattle.ic_ring.proofs.Circles.{circles_joined, circle_cut, seen_at, next_not, facing, next_stays, prev_stays}
 use Rattle.ic_ring.proofs.OtherRings.{others_stay_two}
 use Rattle.ic_ring.proofs.exchanges.exchange.Goals as goal
 use Rattle.ic_ring.proofs.exchanges.exchange.Given.{Over}
@@ -43,6 +43,22 @@ returns-clause-cuts g c (x ∷ r) (y ∷ u) circle is_first is_second =
     (rw (is_first, to_x) at (prev_turns {n = n} (last (y ∷ u)) c.set_prev.ensures.frame c.set_prev.ensures.set))
     (rw (is_second, to_y) at (next_turns {n = n} (Some x) c.set_next-2.ensures.frame c.set_next-2.ensures.set))
     (rw (is_second, to_y) at (prev_turns {n = n} (last (x ∷ r)) c.set_prev-2.ensures.frame c.set_prev-2.ensures.set))
+
+pub returns-clause-itself : goal.returns-clause-itself
+returns-clause-itself g c same q =
+    let n = g.L.LinkedListOps.neighbors in
+    let start = g.L.LinkOps.table c.args.links.now in
+    let first = c.args.first in
+    let second = c.args.second in
+    let behind = c.next_of-behind_first.result in
+    let one : behind ≡ c.next_of-behind_second.result
+    = some_same (sym c.next_of-behind_first.ensures ∙ (ap (λ p. (neighbors_at n start p).next) same ∙ c.next_of-behind_second.ensures)) in
+    let faces : (neighbors_at n start behind).prev ≡ Some first = facing {n = n} first c.requires.first.0 c.requires.first.1 c.next_of-behind_first.ensures in
+    let turn1 = next_stays n c.set_next.ensures.frame c.set_next.ensures.set (c.next_of-behind_first.ensures ∙ ap (λ p. Some p) one) in
+    let turn2 = prev_stays n c.set_prev.ensures.frame c.set_prev.ensures.set (ap (λ a. a.prev) (turn1 c.next_of-behind_second.result) ∙ subst (λ p. (neighbors_at n start p).prev ≡ Some first) one faces) in
+    let turn3 = next_stays n c.set_next-2.ensures.frame c.set_next-2.ensures.set (ap (λ a. a.next) (turn2 second ∙ turn1 second) ∙ (c.next_of-behind_second.ensures ∙ ap (λ p. Some p) (sym one))) in
+    let turn4 = prev_stays n c.set_prev-2.ensures.frame c.set_prev-2.ensures.set (ap (λ a. a.prev) (turn3 behind ∙ turn2 behind ∙ turn1 behind) ∙ (faces ∙ ap (λ p. Some p) same)) in
+    turn4 q ∙ turn3 q ∙ turn2 q ∙ turn1 q
 
 pub returns-clause-no_step : goal.returns-clause-no_step
 returns-clause-no_step g c =
