@@ -43,19 +43,42 @@ export class Library {
   constructor(calls) {
     this.calls = calls;
     this.isWide = typeof calls.__heap_base.value === "bigint";
-    this.top = Number(calls.__heap_base.value);
+    this.top = this.mostUsed = Math.ceil(Number(calls.__heap_base.value) / 8) * 8;
+    this.spare = new Spare();
+    this.made = null;
     this.out = this.take(8);
   }
   /** An address as the calls take it. */
   at(address) {
     return this.isWide ? BigInt(address) : address;
   }
-  /** Zeroed memory. It is given back with the whole module. If it does not fit, nothing is taken. */
+  /** Zeroed memory: freed memory of the same length, if there is some. `bytes` is divisible by 8. If it does not fit, nothing is taken. */
   take(bytes) {
-    const at = Math.ceil(this.top / 8) * 8, top = at + bytes;
-    grow(this.calls.memory, top, this.isWide);
-    this.top = top;
+    let at = this.spare.take(bytes);
+    if (at === undefined) {
+      grow(this.calls.memory, this.top + bytes, this.isWide);
+      at = this.top;
+      this.top += bytes;
+    }
+    if (at < this.mostUsed) new Uint8Array(this.calls.memory.buffer, at, bytes).fill(0);
+    this.mostUsed = Math.max(this.mostUsed, this.top);
     return at;
+  }
+  /** Takes memory back. If it is the last that was taken, and what is freed lies before it, both may get any other length. */
+  free(address, bytes) {
+    this.spare.add(address, bytes);
+    this.top = this.spare.takeBelow(this.top);
+  }
+  /** Calls `body`, and frees what was made in it: tables, lists and buckets. It returns what `body` returns. */
+  scope(body) {
+    const outer = this.made;
+    this.made = [];
+    try {
+      return body();
+    } finally {
+      for (const words of this.made.reverse()) words.free();
+      this.made = outer;
+    }
   }
   links1(places) { return new Words(this, places, 1); }
   links2(places) { return new Words(this, places, 2); }
@@ -76,6 +99,33 @@ export class Library {
   counted(status) {
     this.done(status);
     return Number(new DataView(this.calls.memory.buffer).getBigUint64(this.out, true));
+  }
+}
+
+/** Freed memory, by its length and by where it ends. */
+class Spare {
+  constructor() {
+    Object.assign(this, { byLength: new Map(), byEnd: new Map() });
+  }
+  add(address, bytes) {
+    if (bytes === 0) return;
+    if (!this.byLength.has(bytes)) this.byLength.set(bytes, new Set());
+    this.byLength.get(bytes).add(address);
+    this.byEnd.set(address + bytes, bytes);
+  }
+  remove(address, bytes) {
+    this.byLength.get(bytes).delete(address);
+    this.byEnd.delete(address + bytes);
+  }
+  take(bytes) {
+    const [address] = this.byLength.get(bytes) ?? [];
+    if (address !== undefined) this.remove(address, bytes);
+    return address;
+  }
+  /** Takes what ends at `top`, and what ends where that begins, and so on. It returns where the rest ends. */
+  takeBelow(top) {
+    for (let bytes; (bytes = this.byEnd.get(top)) !== undefined;) this.remove(top -= bytes, bytes);
+    return top;
   }
 }
 
@@ -124,10 +174,24 @@ function natural(value, name) {
   return value;
 }
 
-/** A table of links, keys, buckets, or the words of a list: `width` words for each of `length` places. */
+// What the calls are of a list or a table that is freed.
+const FREED = new Proxy({}, { get() { throw new TypeError("it is freed"); } });
+
+/** A table of links, keys, buckets, or the words of a list: `width` words for each of `length` places. It may be a part `of` another one. */
 export class Words {
-  constructor(library, length, width, address = library.take(8 * width * natural(length, "length"))) {
-    Object.assign(this, { library, length, width, address });
+  constructor(library, length, width, of = null, from = 0) {
+    const address = of ? of.address + 8 * from : library.take(8 * width * natural(length, "length"));
+    Object.assign(this, { library, length, width, of, address, isFreed: false });
+    if (!of) library.made?.push(this);
+  }
+  /** Gives the memory back. Then there are no places, and each call of a list of this table throws. A part does nothing. */
+  free() {
+    if (this.of || this.isFreed) return;
+    this.library.free(this.address, 8 * this.width * this.length);
+    Object.assign(this, { length: 0, isFreed: true, seen: undefined, halves: undefined });
+  }
+  get calls() {
+    return (this.of ?? this).isFreed ? FREED : this.library.calls;
   }
   /** All words. Take it anew after memory was taken. */
   get words() {
@@ -180,6 +244,7 @@ const fromHalves = (low, high) => (high & 8 ? null : orNull((high << 29 | low >>
 const orNull = (place) => (place === NONE ? null : place);
 
 function checkWidth(links, width) {
+  if (links.isFreed) throw new TypeError("its table is freed");
   if (links.width !== width) throw new TypeError(`its table has ${width} words for each place`);
 }
 
@@ -193,32 +258,58 @@ function keyParts(keys, { library }) {
 class Calls {
   constructor(links, linkWidth) {
     checkWidth(links, linkWidth);
-    Object.assign(this, { links, library: links.library, calls: links.library.calls });
+    Object.assign(this, { links, library: links.library });
     [this.table, this.places] = links.parts;
     this.out = this.library.at(this.library.out);
   }
+  get calls() { return this.links.calls; }
   done(status) { this.library.done(status); }
   member(status) { return this.library.member(status); }
   counted(status) { return this.library.counted(status); }
 }
 
-class Collection extends Calls {
-  constructor(links, width, linkWidth, ends = new Words(links.library, 1, width)) {
-    super(links, linkWidth);
-    this.ends = ends;
-    this.self = this.library.at(ends.address);
+/** Removes each member for which `isUnwanted` returns true: a member after one, which `follow` finds, by `remove`. It returns how many there were. */
+function removeIf(links, isUnwanted, follow, remove) {
+  let before = null, at = null, removed = 0;
+  for (let left = links.length; left > 0; left--) {
+    const next = follow(before, at);
+    if (!links.isLinked(next)) return removed;
+    if (isUnwanted(next)) {
+      remove(at, next);
+      removed++;
+    } else {
+      [before, at] = [at, next];
+    }
   }
+  if (follow(before, at) !== null) throw new Refused(BROKEN);
+  return removed;
+}
+
+class Collection extends Calls {
+  constructor(links, width, linkWidth, ends = null) {
+    super(links, linkWidth);
+    this.ends = ends ?? new Words(links.library, 1, width);
+    this.self = this.library.at(this.ends.address);
+  }
+  get calls() { return this.links.isFreed ? FREED : this.ends.calls; }
+  /** Gives the memory of the list back, but not that of its table. Its members stay linked. */
+  free() { this.ends.free(); }
   get isEmpty() {
     return (this.ends.half(0) >>> 3 | this.ends.half(1) & 15) === 0;
   }
   /** Another collection of this table, whose members move to this one. */
   given(other) {
-    if (other.self === this.self || other.links !== this.links) throw new TypeError("what is given is another list of the same table");
+    if (other.self === this.self || other.links !== this.links || other.ends.isFreed) throw new TypeError("what is given is another list of the same table");
     return other.self;
   }
   split(call) {
     const rest = new this.constructor(this.links);
-    this.done(call(rest.self));
+    try {
+      this.done(call(rest.self));
+    } catch (error) {
+      rest.free();
+      throw error;
+    }
     return rest;
   }
 }
@@ -236,6 +327,9 @@ export class List extends Collection {
   next(at) { return this.links.beside(at, 0); }
   prev(at) { return this.links.beside(at, 1); }
   [Symbol.iterator]() { return walk(this.links, this.first, (at) => this.next(at)); }
+  removeIf(isUnwanted) {
+    return removeIf(this.links, isUnwanted, (_, at) => (at === null ? this.first : this.next(at)), (_, at) => this.remove(at));
+  }
   // tools/c-calls --write writes from here: list list-keys
   pushFront(place) { this.done(this.calls.ic_list_push_front(this.table, this.places, this.self, placeNumber(place, "place"))); }
   pushBack(place) { this.done(this.calls.ic_list_push_back(this.table, this.places, this.self, placeNumber(place, "place"))); }
@@ -295,6 +389,9 @@ export class Ring extends Calls {
   next(at) { return this.links.beside(at, 0); }
   prev(at) { return this.links.beside(at, 1); }
   [Symbol.iterator]() { return walk(this.links, this.first, (at) => this.unlessHead(this.next(at))); }
+  removeIf(isUnwanted) {
+    return removeIf(this.links, isUnwanted, (_, at) => this.unlessHead(this.next(at ?? this.head)), (_, at) => this.remove(at));
+  }
   // tools/c-calls --write writes from here: ring
   insertAfter(at, place) {
     this.done(this.calls.ic_ring_insert_after(this.table, this.places, placeNumber(at, "at"), placeNumber(place, "place")));
@@ -334,6 +431,9 @@ export class Stack extends Collection {
   get first() { return this.ends.place(0, 0); }
   next(at) { return this.links.beside(at, 0); }
   [Symbol.iterator]() { return walk(this.links, this.first, (at) => this.next(at)); }
+  removeIf(isUnwanted) {
+    return removeIf(this.links, isUnwanted, (_, at) => (at === null ? this.first : this.next(at)), (before) => this.removeAfter(before));
+  }
   // tools/c-calls --write writes from here: stack
   pushFront(place) { this.done(this.calls.ic_stack_push_front(this.table, this.places, this.self, placeNumber(place, "place"))); }
   popFront() { return this.member(this.calls.ic_stack_pop_front(this.table, this.places, this.self, this.out)); }
@@ -364,10 +464,13 @@ export class Stack extends Collection {
 export class HashTable extends Calls {
   constructor(links, buckets, keys = null) {
     super(links, 1);
-    Object.assign(this, { keys, buckets: new Words(links.library, natural(buckets, "buckets"), 1) });
     [this.keysAt, this.keyCount] = keyParts(keys, links);
+    Object.assign(this, { keys, buckets: new Words(links.library, natural(buckets, "buckets"), 1) });
     [this.bucketsAt, this.bucketCount] = this.buckets.parts;
   }
+  get calls() { return this.links.isFreed ? FREED : this.buckets.calls; }
+  /** Gives the memory of the buckets back, but not that of the table of links. The members stay linked. */
+  free() { this.buckets.free(); }
   *[Symbol.iterator]() {
     let left = this.links.length;
     for (let bucket = 0; bucket < this.buckets.length; bucket++) {
@@ -377,9 +480,14 @@ export class HashTable extends Calls {
       }
     }
   }
+  removeIf(isUnwanted) {
+    let removed = 0;
+    for (let bucket = 0; bucket < this.buckets.length; bucket++) removed += this.bucket(bucket).removeIf(isUnwanted);
+    return removed;
+  }
   /** The chain of a hash. A list that was made before of the same chain has the same members. */
   chain(hash) { return this.bucket(Number(u64(hash, "hash") % this.bucketCount)); }
-  bucket(at) { return new Stack(this.links, new Words(this.library, 1, 1, this.buckets.address + 8 * at)); }
+  bucket(at) { return new Stack(this.links, new Words(this.library, 1, 1, this.buckets, at)); }
   // tools/c-calls --write writes from here: hash
   insert(hash, place) {
     this.done(this.calls.ic_hash_insert(
@@ -419,6 +527,10 @@ export class XorList extends Collection {
       return next;
     });
   }
+  removeIf(isUnwanted) {
+    const follow = (before, at) => (at === null ? this.first : this.step(before, at));
+    return removeIf(this.links, isUnwanted, follow, (before, at) => this.remove(before, at));
+  }
   // tools/c-calls --write writes from here: xor
   pushFront(place) { this.done(this.calls.ic_xor_push_front(this.table, this.places, this.self, placeNumber(place, "place"))); }
   pushBack(place) { this.done(this.calls.ic_xor_push_back(this.table, this.places, this.self, placeNumber(place, "place"))); }
@@ -457,9 +569,9 @@ export class XorList extends Collection {
 /** A red-black tree over links3, by keys if it is handed any. */
 export class Tree extends Collection {
   constructor(links, keys = null) {
+    const [keysAt, keyCount] = keyParts(keys, links);
     super(links, 1, 3);
-    this.keys = keys;
-    [this.keysAt, this.keyCount] = keyParts(keys, links);
+    Object.assign(this, { keys, keysAt, keyCount });
   }
   get root() { return this.ends.place(0, 0); }
   left(at) { return this.links.beside(at, 0); }
@@ -504,4 +616,7 @@ export class Tree extends Collection {
     return status === OK ? this.member(status) : null;
   }
   [Symbol.iterator]() { return walk(this.links, this.after(null), (at) => this.after(at)); }
+  removeIf(isUnwanted) {
+    return removeIf(this.links, isUnwanted, (_, at) => this.next(at), (_, at) => this.remove(at));
+  }
 }

@@ -34,6 +34,11 @@ const table = new HashTable(ic.links1(4), 16, keys);
 table.insert(50n, 3);
 const found: Gap = table.find(50, 50n);
 const chain: Stack = table.chain(50);
+const gone: number = list.removeIf((place) => place % 2 === 0) + table.removeIf((place: number) => place === 3);
+const sum: number = ic.scope(() => new List(ic.links2(3)).check());
+rest.free();
+table.free();
+keys.free();
 try {
   others.insertBetween(null, 3, null);
 } catch (error) {
@@ -59,5 +64,9 @@ others.check();
 list.next(null);
 // @ts-expect-error: a tree has no such end
 tree.popFront();
+// @ts-expect-error: a ring has no memory of its own
+ring.free();
+// @ts-expect-error: a member leaves by yes or no
+list.removeIf((place) => place);
 // @ts-expect-error: a place is no text
 list.pushFront("7");
