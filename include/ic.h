@@ -437,7 +437,7 @@ static inline uint32_t ic_ring_prev(const struct ic_link2 *table, ic_length plac
 
 /* Whether a head has no members. */
 static inline int ic_ring_is_empty(const struct ic_link2 *table, ic_length places, uint32_t head) {
-    return ic_ring_next(table, places, head) == head;
+    return ic_list_is_linked(table, places, head) && ic_list_next(table, places, head) == head;
 }
 
 /* Loops from the first member of a head to the last, and back. */

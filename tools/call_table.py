@@ -105,19 +105,22 @@ def reads():
 
 
 def read_faults():
-    """The reads that the header lacks, and those of which the cases have none for a reason, or another answer than the table."""
+    """The reads that the header lacks, and those of which the cases have none for a reason, or another answer than the table. Beyond the table is no
+    place, too."""
     declared = set(re.findall(r"^static inline \w+ (ic_\w+)\(", HEADER.read_text(), re.M))
     cases, kind = set(), ""
     for line in CASES.read_text().splitlines():
-        played = re.match(r"(\w+) [\w ]*= (\w+) *# (\w+)", line)
+        played = re.match(r"(\w+) (?:\w+ )?(\w+) = (\w+) *# (\w+)", line)
         kind = line if re.fullmatch(r"[a-z]+", line) else kind
         if played:
-            cases.add((f"ic_{kind}_{played[1]}", played[3], played[2]))
+            cases.add((f"ic_{kind}_{played[1]}", played[4], played[3], played[2] == "none"))
     for name, returned in reads().items():
         if name not in declared:
             yield f"crates/ic_ffi/calls.txt: {name} is no inline function of include/ic.h"
         for reason, answer in returned.items():
-            seen = {it for read, why, it in cases if (read, why) == (name, reason)}
+            seen = {it for read, why, it, _ in cases if (read, why) == (name, reason)}
+            if reason == "beyond" and not {(name, reason, answer, is_none) for is_none in (True, False)} <= cases:
+                yield f"tests/library/reads.txt: {name} has no case of a place beyond the table, or none of no place"
             if seen != {answer}:
                 here = " and ".join(sorted(seen)) or "no case says what"
                 yield f"tests/library/reads.txt: {name} ({reason}) returns {answer} by crates/ic_ffi/calls.txt, and here {here}"

@@ -44,6 +44,21 @@ def compilers():
     return [name for name in named if shutil.which(name)] or [name for name in ["cc"] if shutil.which(name)]
 
 
+def cpp_compilers():
+    """The same for C++."""
+    named = [os.environ["CXX"]] if "CXX" in os.environ else ["g++", "clang++"]
+    return [name for name in named if shutil.which(name)] or [name for name in ["c++"] if shutil.which(name)]
+
+
+def node():
+    """How to run a script in node, and the modules of dist/wasm that it can run: none if there is no node."""
+    if not shutil.which("node"):
+        return [], []
+    probe = f"import('{ROOT}/dist/wasm/ic.mjs').then((it) => process.exit(it.hasMemory64() ? 0 : 1))"
+    flags = next((it for it in ([], ["--experimental-wasm-memory64"]) if not run(["node", *it, "-e", probe])[1]), None)
+    return ["node", "--no-warnings", *(flags or [])], ["ic32.wasm"] if flags is None else ["ic.wasm", "ic32.wasm"]
+
+
 def build(compiler, source, target, code, include=ROOT / "include"):
     """What is wrong with building the program with the library's code. The compiler is a list of words."""
     threads = ["-pthread"] if source.name in POSIX else []

@@ -1,7 +1,7 @@
 // Plays the cases of reads.txt by ic.mjs.
 //     node --experimental-wasm-memory64 tests/library/reads.mjs MODULE ..
 import fs from "node:fs";
-import { List, Refused, Ring, Stack, Tree, XorList, open } from "../../dist/wasm/ic.mjs";
+import { List, NONE, Refused, Ring, Stack, Tree, XorList, open } from "../../dist/wasm/ic.mjs";
 
 const KINDS = {
   list: { width: 2, make: (links) => new List(links) },
@@ -25,7 +25,7 @@ function made(ic, { kind, links: words, head }) {
 function said(it, read, places) {
   if (read === "walk") return [...it].join(" ");
   if (read === "is_linked") return yesOrNo(it.links.isLinked(...places));
-  if (read === "is_empty") return yesOrNo(it instanceof Ring ? new RingOf(it, places[0]).isEmpty : it.isEmpty);
+  if (read === "is_empty") return yesOrNo(it instanceof Ring ? ringOf(it, places[0] ?? NONE).isEmpty : it.isEmpty);
   try {
     const found = typeof it[read] === "function" ? it[read](...places) : it[read];
     return String(found ?? "none");
@@ -36,7 +36,7 @@ function said(it, read, places) {
 }
 
 /** A ring with another head, over the same table. */
-function RingOf(ring, head) {
+function ringOf(ring, head) {
   return Object.assign(Object.create(Ring.prototype), ring, { head });
 }
 
