@@ -1056,7 +1056,7 @@ static inline uint32_t ic_tree_last(const struct ic_link3 *table, ic_length plac
 }
 
 /* The member after the member `at`, or the first member if `at` is IC_NONE, or IC_NONE if there is none. */
-static inline uint32_t ic_tree_behind(const struct ic_link3 *table, ic_length places, const struct ic_tree *tree, uint32_t at) {
+static inline uint32_t ic_tree_after(const struct ic_link3 *table, ic_length places, const struct ic_tree *tree, uint32_t at) {
     uint32_t found;
     return ic_tree_next(table, places, tree, at, &found) == IC_OK ? found : IC_NONE;
 }
@@ -1069,12 +1069,12 @@ static inline uint32_t ic_tree_before(const struct ic_link3 *table, ic_length pl
 
 /* Loops from the first member to the last, and back. `next` and `prev` are as in the loops of a list. */
 #define IC_TREE_FOREACH(place, table, places, tree) \
-    IC_LOOP(place, ic_tree_behind(table, places, tree, IC_NONE), places, place != IC_NONE, ic_tree_behind(table, places, tree, place))
+    IC_LOOP(place, ic_tree_after(table, places, tree, IC_NONE), places, place != IC_NONE, ic_tree_after(table, places, tree, place))
 #define IC_TREE_FOREACH_REVERSE(place, table, places, tree) \
     IC_LOOP(place, ic_tree_before(table, places, tree, IC_NONE), places, place != IC_NONE, ic_tree_before(table, places, tree, place))
 #define IC_TREE_FOREACH_SAFE(place, next, table, places, tree)                                                               \
-    IC_LOOP_SAFE(place, next, ic_tree_behind(table, places, tree, IC_NONE), places, ic_tree_is_linked(table, places, place), \
-                 ic_tree_behind(table, places, tree, place))
+    IC_LOOP_SAFE(place, next, ic_tree_after(table, places, tree, IC_NONE), places, ic_tree_is_linked(table, places, place), \
+                 ic_tree_after(table, places, tree, place))
 #define IC_TREE_FOREACH_REVERSE_SAFE(place, prev, table, places, tree)                                                       \
     IC_LOOP_SAFE(place, prev, ic_tree_before(table, places, tree, IC_NONE), places, ic_tree_is_linked(table, places, place), \
                  ic_tree_before(table, places, tree, place))

@@ -114,7 +114,7 @@ struct words {
     const Head *head = nullptr;
 };
 
-// ---- Kinds: which calls each has, the member at an end, the one beyond a member, and how a member is taken off ----------------------
+// ---- Kinds: which calls each has, the member at an end, the one beyond a member, and how a member is removed ------------------------
 
 /// A kind with a head of its own, which views point to.
 template <class Link, class Head>
@@ -193,7 +193,7 @@ struct red_black : headed<ic_link3, ic_tree> {
     static bool is_empty(const source &in) noexcept { return ic_tree_is_empty(in.head) != 0; }
     static std::uint32_t outermost(const source &in, bool back) noexcept { return beyond(in, {}, back); }
     static std::uint32_t beyond(const source &in, position it, bool back) noexcept {
-        return (back ? ic_tree_before : ic_tree_behind)(in.table, in.places, in.head, it.at);
+        return (back ? ic_tree_before : ic_tree_after)(in.table, in.places, in.head, it.at);
     }
     static std::uint32_t take(link *table, std::size_t places, head *tree, position it) noexcept {
         return ic_tree_remove(table, places, tree, it.at);
@@ -230,15 +230,15 @@ struct circular {
 
 // ---- Iterators ---------------------------------------------------------------------------------------------------------------------
 
-/// What an iterator keeps besides, whose place alone does not tell the member in front of it: from which position it came to `from`.
+/// What an iterator keeps besides, whose place alone does not tell the member before it: from which position it came to `from`.
 struct trail {
     position before{};
     bool is_kept = false;
 };
 struct no_trail {};
 
-/// Goes from member to member, and gives the place of each. It stays valid until its member is taken off. In a singly linked or an XOR list
-/// it also needs the member that it came from: make it anew if that has been taken off. An iterator that has gone on by `it++` does not, so
+/// Goes from member to member, and gives the place of each. It stays valid until its member is removed. In a singly linked or an XOR list
+/// it also needs the member that it came from: make it anew if that has been removed. An iterator that has gone on by `it++` does not, so
 /// that `erase(it++)` is right for each kind.
 ///
 /// `Back` is whether it goes from the last member to the first. It counts its steps. After as many forwards as the table has places it is at
@@ -306,14 +306,14 @@ public:
     [[nodiscard]] friend bool operator==(const iterator &one, const iterator &other) noexcept { return one.it_.at == other.it_.at; }
     [[nodiscard]] friend bool operator!=(const iterator &one, const iterator &other) noexcept { return !(one == other); }
 
-    /// The member, and the one in front of it, from which the iterator came unless that has been taken off.
+    /// The member, and the one before it, from which the iterator came unless that has been removed.
     [[nodiscard]] position where() const noexcept {
         iterator settled = *this;
         settled.settle();
         return settled.it_;
     }
 
-    /// The iterator behind this one, as it is after this one's member has been taken off.
+    /// The iterator after this one, as it is once this one's member has been removed.
     [[nodiscard]] iterator past() const noexcept {
         iterator next = *this;
         ++next;
@@ -322,7 +322,7 @@ public:
     }
 
 private:
-    /// Finds out whether the member that the iterator came from has been taken off, as `erase(it++)` does.
+    /// Finds out whether the member that the iterator came from has been removed, as `erase(it++)` does.
     void settle() noexcept {
         if constexpr (Kind::needs_from) {
             if (this->is_kept)
@@ -331,7 +331,7 @@ private:
         }
     }
 
-    /// The member in front of a position: where it came from, unless the one before that leads to it now. It takes values and is no part of a
+    /// The member before a position: where it came from, unless the one before that leads to it now. It takes values and is no part of a
     /// loop, so that compilers keep iterators in registers.
 #ifdef __GNUC__
     [[gnu::noinline]]
@@ -348,11 +348,11 @@ private:
 
     typename Kind::source in_;
     position it_;
-    /// How many steps forwards are left, and how many members in front of its first position it has been.
+    /// How many steps forwards are left, and how many members before its first position it has been.
     std::uint32_t left_ = 0, ahead_ = 0;
 };
 
-/// What `erase` returns: the iterator behind the member that it took off, and its status. If the status is not ok, the member is where it was,
+/// What `erase` returns: the iterator after the member that it removed, and its status. If the status is not ok, the member is where it was,
 /// and the iterator is end(), so that a loop of `it = erase(it)` ends.
 template <class Iterator>
 class erased : public Iterator {
@@ -454,14 +454,14 @@ public:
     of_head(array_view<const link> table, const head &&list) = delete;
 };
 
-/// Takes members off that iterators name.
+/// Removes members that iterators name.
 template <class Base>
 class erases : public Base {
 public:
     using iterator = typename Base::iterator;
     using Base::Base;
 
-    /// Takes the member of an iterator off, and moves the iterator on to the next one.
+    /// Removes the member of an iterator, and moves the iterator on to the next one.
     [[nodiscard]] erased<iterator> erase(iterator &at) const noexcept {
         const iterator next = at.past();
         const status done = this->take(at);
@@ -475,7 +475,7 @@ public:
     erased<iterator> erase(iterator &&at) const noexcept { return erase(at); }
     [[nodiscard]] erased<iterator> erase(const iterator &at) const noexcept { return erase(iterator(at)); }
 
-    /// Takes the members from `first` on off, up to `last`. Stops at the first refusal.
+    /// Removes the members from `first` on, up to `last`. Stops at the first refusal.
     [[nodiscard]] erased<iterator> erase(iterator first, iterator last) const noexcept {
         while (first != last)
             if (const auto done = erase(first); done.status() != status::ok)
@@ -483,7 +483,7 @@ public:
         return {status::ok, first};
     }
 
-    /// Takes off each member of which the predicate is true, and hands it to `then`, which may link it in another list or tree. Neither may
+    /// Removes each member of which the predicate is true, and hands it to `then`, which may link it in another list or tree. Neither may
     /// edit this one. Stops at the first refusal, and returns it.
     template <class Predicate, class Then>
     status remove_if(Predicate is_unwanted, Then then) const {
@@ -500,13 +500,13 @@ public:
         return status::ok;
     }
 
-    /// Takes off each member of which the predicate is true.
+    /// Removes each member of which the predicate is true.
     template <class Predicate>
     status remove_if(Predicate is_unwanted) const {
         return remove_if(std::move(is_unwanted), [](std::uint32_t) {});
     }
 
-    /// Takes off each member of which the predicate is false.
+    /// Removes each member of which the predicate is false.
     template <class Predicate>
     status retain(Predicate is_wanted) const {
         return remove_if([&](std::uint32_t place) { return !is_wanted(place); });
@@ -534,7 +534,7 @@ protected:
         return static_cast<status>(call(table_, this->in_.places, head_, arguments...));
     }
 
-    /// An edit that gives the place which it has taken off.
+    /// An edit that returns the place which it has removed.
     template <class Call, class... Arguments>
     std::optional<std::uint32_t> taken(Call call, Arguments... arguments) const noexcept {
         std::uint32_t place = none;
@@ -560,7 +560,7 @@ public:
 
     status push_front(std::uint32_t place) const noexcept { return this->edit(kind::push_front, place); }
 
-    /// Takes the first member off. std::nullopt: there is none, or, if the list is not empty(), it is none of this table.
+    /// Removes the first member. std::nullopt: there is none, or, if the list is not empty(), it is none of this table.
     [[nodiscard]] std::optional<std::uint32_t> pop_front() const noexcept { return this->taken(kind::pop_front); }
 };
 
@@ -573,7 +573,7 @@ public:
 
     status push_back(std::uint32_t place) const noexcept { return this->edit(kind::push_back, place); }
 
-    /// Takes the last member off. std::nullopt: there is none, or, if the list is not empty(), it is none of this table.
+    /// Removes the last member. std::nullopt: there is none, or, if the list is not empty(), it is none of this table.
     [[nodiscard]] std::optional<std::uint32_t> pop_back() const noexcept { return this->taken(kind::pop_back); }
 };
 
@@ -584,11 +584,11 @@ public:
     using kind = typename Base::kind;
     using Base::Base;
 
-    /// Links `count` places, `first` and those behind it, in the order of their numbers: at the back, and of a singly linked list at the
+    /// Inserts `count` places, `first` and those after it, in the order of their numbers: at the back, and of a singly linked list at the
     /// front. If one of them is refused, none is linked.
     status fill(std::uint32_t first, std::uint32_t count) const noexcept { return this->edit(kind::fill, first, count); }
 
-    /// Takes all members off. ic::status::broken: they are no list of this table, and nothing is changed.
+    /// Removes all members. ic::status::broken: they are no list of this table, and nothing is changed.
     status clear() const noexcept { return this->edit(kind::clear); }
 };
 
@@ -604,7 +604,7 @@ public:
     using keys_view = array_view<const std::uint64_t>;
     using list_edits::list_edits;
 
-    /// Links a place in front of an iterator's member, and at the back if that is end().
+    /// Inserts a place before an iterator's member, and at the back if that is end().
     status insert(iterator at, std::uint32_t place) const noexcept { return insert_before(*at, place); }
     status insert_after(std::uint32_t at, std::uint32_t place) const noexcept { return edit(ic_list_insert_after, at, place); }
     status insert_before(std::uint32_t at, std::uint32_t place) const noexcept { return edit(ic_list_insert_before, at, place); }
@@ -617,7 +617,7 @@ public:
     status move_to_front(std::uint32_t place) const noexcept { return edit(ic_list_move_to_front, place); }
     status move_to_back(std::uint32_t place) const noexcept { return edit(ic_list_move_to_back, place); }
 
-    /// Moves all members of `given` in front of an iterator's member, and to the back if that is end(). This and the next five return
+    /// Moves all members of `given` before an iterator's member, and to the back if that is end(). This and the next five return
     /// ic::status::broken of this list itself, and of a list of another table.
     status splice(iterator at, list_view given) const noexcept { return splice_before(*at, given); }
     status splice_after(std::uint32_t at, list_view given) const noexcept {
@@ -635,7 +635,7 @@ public:
         return static_cast<status>(ic_list_sort(table_, in_.places, keys.data(), keys.size(), head_));
     }
 
-    /// Moves all members of `given` to where their keys belong, behind members with equal keys. ic::status::broken as of a splice.
+    /// Moves all members of `given` to where their keys belong, after members with equal keys. ic::status::broken as of a splice.
     status merge(keys_view keys, list_view given) const noexcept {
         if (given.table_ != table_ || given.head_ == head_)
             return status::broken;
@@ -645,7 +645,7 @@ public:
 
 // ---- Rings ---------------------------------------------------------------------------------------------------------------------------
 
-/// Reads the members of one ring, from behind its head on.
+/// Reads the members of one ring, from the one after its head on.
 class const_ring_members : public detail::placed<detail::circular> {
 public:
     const_ring_members(array_view<const ic_link2> table, std::uint32_t head) noexcept : placed({table.data(), table.size(), head}) {}
@@ -659,7 +659,7 @@ class ring_members : public detail::end_edits<const_ring_members> {
 public:
     using end_edits::end_edits;
 
-    /// Links a place in front of an iterator's member, and at the back if that is end().
+    /// Inserts a place before an iterator's member, and at the back if that is end().
     status insert(iterator at, std::uint32_t place) const noexcept {
         return *at == none ? push_back(place) : static_cast<status>(ic_ring_insert_before(table_, in_.places, *at, place));
     }
@@ -704,21 +704,21 @@ public:
     status move_after(std::uint32_t at, std::uint32_t place) const noexcept { return edit(ic_ring_move_after, at, place); }
     status move_before(std::uint32_t at, std::uint32_t place) const noexcept { return edit(ic_ring_move_before, at, place); }
 
-    /// Moves all members of the head `given` behind a place of another ring, or in front of it.
+    /// Moves all members of the head `given` after a place of another ring, or before it.
     status splice_after(std::uint32_t at, std::uint32_t given) const noexcept { return edit(ic_ring_splice_after, at, given); }
     status splice_before(std::uint32_t at, std::uint32_t given) const noexcept { return edit(ic_ring_splice_before, at, given); }
 
-    /// Two places that stand in rings exchange what stands behind them.
+    /// Two places that are in rings exchange what comes after them.
     status exchange(std::uint32_t one, std::uint32_t other) const noexcept { return edit(ic_ring_exchange, one, other); }
 
-    /// Takes the first member of a head off, or the last one. std::nullopt: there is none, or it is refused.
+    /// Removes the first member of a head, or the last one. std::nullopt: there is none, or it is refused.
     [[nodiscard]] std::optional<std::uint32_t> pop_front(std::uint32_t head) const noexcept { return taken(ic_ring_pop_front, head); }
     [[nodiscard]] std::optional<std::uint32_t> pop_back(std::uint32_t head) const noexcept { return taken(ic_ring_pop_back, head); }
 
-    /// Calls a function with each member of a head, which may take it off.
+    /// Calls a function with each member of a head, which may remove it.
     template <class Function>
     void for_each(std::uint32_t head, Function then) const {
-        IC_RING_FOREACH_SAFE(place, behind, table_, places_, head)
+        IC_RING_FOREACH_SAFE(place, after, table_, places_, head)
             then(place);
     }
 
@@ -742,17 +742,17 @@ private:
 
 using const_stack_view = detail::of_head<detail::members<detail::singly>>;
 
-/// Edits a singly linked list. Its edits in the middle are behind the member `at`, or at the front if that is `none`.
+/// Edits a singly linked list. Its edits in the middle are after the member `at`, or at the front if that is `none`.
 class stack_view : public detail::list_edits<detail::front_edits<const_stack_view>> {
 public:
     using list_edits::list_edits;
 
     status insert_after(std::uint32_t at, std::uint32_t place) const noexcept { return edit(ic_stack_insert_after, at, place); }
 
-    /// Takes the member behind `at` off. std::nullopt: it is refused.
+    /// Removes the member after `at`. std::nullopt: it is refused.
     [[nodiscard]] std::optional<std::uint32_t> remove_after(std::uint32_t at) const noexcept { return taken(ic_stack_remove_after, at); }
 
-    /// Links a place where the member behind `at` is, and gives that member. std::nullopt: it is refused.
+    /// Inserts a place where the member after `at` is, and returns that member. std::nullopt: it is refused.
     [[nodiscard]] std::optional<std::uint32_t> replace_after(std::uint32_t at, std::uint32_t place) const noexcept {
         return taken(ic_stack_replace_after, at, place);
     }
@@ -776,7 +776,7 @@ struct hash_words {
     std::size_t bucket_count = 0;
 };
 
-/// Goes from member to member, chain by chain. It stays valid until its member is taken off. After as many steps as the table has places it
+/// Goes from member to member, chain by chain. It stays valid until its member is removed. After as many steps as the table has places it
 /// is at the end.
 class hash_iterator {
 public:
@@ -814,7 +814,7 @@ public:
     /// The index of the member's bucket.
     [[nodiscard]] std::size_t bucket() const noexcept { return bucket_; }
 
-    /// The iterator behind this one.
+    /// The iterator after this one.
     [[nodiscard]] hash_iterator past() const noexcept {
         hash_iterator next = *this;
         ++next;
@@ -822,7 +822,7 @@ public:
     }
 
 private:
-    /// Goes to a place, or if it is no member to the first member of the chains behind.
+    /// Goes to a place, or if it is no member to the first member of the later chains.
     void go(std::uint32_t place) noexcept {
         while (!ic_stack_is_linked(in_.table, in_.places, place) && ++bucket_ < in_.bucket_count)
             place = ic_stack_first(&in_.buckets[bucket_]);
@@ -863,7 +863,7 @@ public:
         return found(done, place);
     }
 
-    /// The next member behind the member `at` with the key of that one. std::nullopt: there is none, or it is refused.
+    /// The next member after the member `at` with the key of that one. std::nullopt: there is none, or it is refused.
     [[nodiscard]] std::optional<std::uint32_t> next_equal(keys_view keys, std::uint32_t at) const noexcept {
         std::uint32_t place = none;
         const std::uint32_t done = ic_hash_next_equal(in_.table, in_.places, keys.data(), keys.size(), at, &place);
@@ -927,10 +927,10 @@ class hash_view : public detail::erases<detail::hash_writes> {
 public:
     using erases::erases;
 
-    /// Links a place at the front of its chain.
+    /// Inserts a place at the front of its chain.
     status insert(std::uint64_t hash, std::uint32_t place) const noexcept { return edit(ic_hash_insert, hash, place); }
 
-    /// Takes a place off its chain, wherever it is in it.
+    /// Removes a place from its chain, wherever it is in it.
     status remove(std::uint64_t hash, std::uint32_t place) const noexcept { return edit(ic_hash_remove, hash, place); }
 
     /// The chain of a hash, as a list. There has to be a bucket.
@@ -946,10 +946,10 @@ class xor_view : public detail::list_edits<detail::end_edits<const_xor_view>> {
 public:
     using list_edits::list_edits;
 
-    /// Links a place in front of an iterator's member, and at the back if that is end().
+    /// Inserts a place before an iterator's member, and at the back if that is end().
     status insert(iterator at, std::uint32_t place) const noexcept { return insert_between(front_of(at), place, *at); }
-    status insert_between(std::uint32_t before, std::uint32_t place, std::uint32_t behind) const noexcept {
-        return edit(ic_xor_insert_between, before, place, behind);
+    status insert_between(std::uint32_t before, std::uint32_t place, std::uint32_t after) const noexcept {
+        return edit(ic_xor_insert_between, before, place, after);
     }
     status remove(std::uint32_t before, std::uint32_t at) const noexcept { return edit(ic_xor_remove, before, at); }
     status replace(std::uint32_t before, std::uint32_t at, std::uint32_t place) const noexcept {
@@ -957,15 +957,15 @@ public:
     }
     void reverse() const noexcept { ic_xor_reverse(head_); }
 
-    /// Moves all members of `given` in front of an iterator's member, and to the back if that is end(). This and the next three return
+    /// Moves all members of `given` before an iterator's member, and to the back if that is end(). This and the next three return
     /// ic::status::broken of this list itself, and of a list of another table.
     status splice(iterator at, xor_view given) const noexcept { return splice_between(front_of(at), given, *at); }
-    status splice_between(std::uint32_t before, xor_view given, std::uint32_t behind) const noexcept {
-        return edit_both(given, ic_xor_splice_between, before, given.head_, behind);
+    status splice_between(std::uint32_t before, xor_view given, std::uint32_t after) const noexcept {
+        return edit_both(given, ic_xor_splice_between, before, given.head_, after);
     }
     status append(xor_view given) const noexcept { return edit_both(given, ic_xor_append, given.head_); }
-    status split_between(std::uint32_t before, std::uint32_t behind, xor_view rest) const noexcept {
-        return edit_both(rest, ic_xor_split_between, before, behind, rest.head_);
+    status split_between(std::uint32_t before, std::uint32_t after, xor_view rest) const noexcept {
+        return edit_both(rest, ic_xor_split_between, before, after, rest.head_);
     }
 
 private:
@@ -1001,12 +1001,12 @@ public:
         return search(ic_tree_upper_bound, keys, key);
     }
 
-    /// The members with this key, from the first to behind the last.
+    /// The members with this key, from the first to the one after the last.
     [[nodiscard]] std::pair<iterator, iterator> equal_range(keys_view keys, std::uint64_t key) const noexcept {
         return {iterator_to(lower_bound(keys, key).value_or(none)), iterator_to(upper_bound(keys, key).value_or(none))};
     }
 
-    /// The first member of which the predicate is false. It has to be false of all members behind that one, too.
+    /// The first member of which the predicate is false. It has to be false of all members after that one, too.
     template <class Predicate>
     [[nodiscard]] std::optional<std::uint32_t> partition_point(Predicate is_in_front) const {
         std::uint32_t first = none;
@@ -1050,12 +1050,12 @@ class tree_view : public detail::erases<detail::writes<const_tree_view>> {
 public:
     using erases::erases;
 
-    /// Links a place by its key, behind all members whose keys are not greater.
+    /// Inserts a place by its key, after all members whose keys are not greater.
     status insert(keys_view keys, std::uint32_t place) const noexcept {
         return static_cast<status>(ic_tree_insert(table_, in_.places, keys.data(), keys.size(), head_, place));
     }
 
-    /// Links a place by a comparison of two places, behind all members that are not greater.
+    /// Inserts a place by a comparison of two places, after all members that are not greater.
     template <class Less>
     status insert_by(std::uint32_t place, Less is_less) const {
         if (place >= ic_bound(in_.places))
@@ -1069,13 +1069,13 @@ public:
     status remove(std::uint32_t at) const noexcept { return edit(ic_tree_remove, at); }
     status replace(std::uint32_t at, std::uint32_t place) const noexcept { return edit(ic_tree_replace, at, place); }
 
-    /// Takes the first member off. std::nullopt: there is none, or, if the tree is not empty(), its root is none of this table.
+    /// Removes the first member. std::nullopt: there is none, or, if the tree is not empty(), its root is none of this table.
     [[nodiscard]] std::optional<std::uint32_t> pop_front() const noexcept { return popped(*begin()); }
 
-    /// Takes the last member off. std::nullopt as of pop_front().
+    /// Removes the last member. std::nullopt as of pop_front().
     [[nodiscard]] std::optional<std::uint32_t> pop_back() const noexcept { return popped(*rbegin()); }
 
-    /// Takes all members off. ic::status::broken: they are no tree of this table, and nothing is changed.
+    /// Removes all members. ic::status::broken: they are no tree of this table, and nothing is changed.
     status clear() const noexcept { return edit(ic_tree_clear); }
 
 private:

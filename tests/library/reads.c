@@ -70,7 +70,7 @@ static int play_tree(const struct reads_case *it, char *said) {
     else if (is_read(it, "tree", "is_linked")) add_is(said, ic_tree_is_linked(links, places, at));
     else if (is_read(it, "tree", "root")) reads_add(said, ic_tree_root(&tree));
     else if (is_read(it, "tree", "is_empty")) add_is(said, ic_tree_is_empty(&tree));
-    else if (is_read(it, "tree", "next")) reads_add(said, ic_tree_behind(links, places, &tree, at));
+    else if (is_read(it, "tree", "next")) reads_add(said, ic_tree_after(links, places, &tree, at));
     else if (is_read(it, "tree", "prev")) reads_add(said, ic_tree_before(links, places, &tree, at));
     else if (is_read(it, "tree", "walk")) { IC_TREE_FOREACH(place, links, places, &tree) reads_add(said, place); }
     else return 0;
