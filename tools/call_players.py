@@ -57,12 +57,9 @@ def c_call(call):
 
 
 def c_split(call, made):
-    other, struct = f"{HEADS[call.family]}[n[{arguments(call)['rest']}]]", "ic_xor_list" if call.family == "xor" else STRUCTS[call_rest(call).type]
+    kind = next(arg.type for arg in call.args if arg.name == "rest")
+    other, struct = f"{HEADS[call.family]}[n[{arguments(call)['rest']}]]", "ic_xor_list" if call.family == "xor" else STRUCTS[kind]
     return f"SPLIT(ic_{call.family}_is_empty, &{other}, {struct}, {made});"
-
-
-def call_rest(call):
-    return next(arg for arg in call.args if arg.name == "rest")
 
 
 def c_body(call):
@@ -187,7 +184,8 @@ def rust_file(calls):
     cases.update({f"walk_{of}": rust_walk(of) for of in TABLES})
     sizes = "".join(f"pub const {of.upper()}_PLACES: usize = {places};\n" for of, places in PLACES.items())
     arms = "".join(f'        "{name}" => {{ {line} }}\n' for name, line in cases.items())
-    return f"use crate::*;\n\n{sizes}\npub fn play(world: &mut World, name: &str, w: &[&str]) -> String {{\n    match name {{\n{arms}        _ => panic!(\"there is no call {{name}}\"),\n    }}\n}}\n"
+    head = "pub fn play(world: &mut World, name: &str, w: &[&str]) -> String {\n    match name {\n"
+    return f'use crate::*;\n\n{sizes}\n{head}{arms}        _ => panic!("there is no call {{name}}"),\n    }}\n}}\n'
 
 
 # ---- JavaScript ----
@@ -234,4 +232,5 @@ def script_file(calls):
     cases.update({f"walk_{of}": script_walk(of) for of in TABLES})
     sizes = ", ".join(f"{of}: {places}" for of, places in PLACES.items())
     lines = "".join(f"  {name}: (n) => {line},\n" for name, line in cases.items())
-    return f'export const PLACES = {{ {sizes} }};\nconst place = (word) => (word === "none" ? null : Number(word));\nexport const callsOf = (w) => ({{\n{lines}}});\n'
+    head = f'export const PLACES = {{ {sizes} }};\nconst place = (word) => (word === "none" ? null : Number(word));\n'
+    return f"{head}export const callsOf = (w) => ({{\n{lines}}});\n"
