@@ -250,7 +250,7 @@ function checkWidth(links, width) {
 
 /** Keys as the calls take them, which are none where there are no words. */
 function keyParts(keys, { library }) {
-  if (keys && (keys.width !== 1 || keys.library !== library)) throw new TypeError("its keys are words of the same module");
+  if (keys && (keys.width !== 1 || keys.library !== library || keys.isFreed)) throw new TypeError("its keys are words of the same module");
   return keys?.parts ?? [library.at(0), 0n];
 }
 
@@ -291,7 +291,7 @@ class Collection extends Calls {
     this.ends = ends ?? new Words(links.library, 1, width);
     this.self = this.library.at(this.ends.address);
   }
-  get calls() { return this.links.isFreed ? FREED : this.ends.calls; }
+  get calls() { return this.links.isFreed || this.keys?.isFreed ? FREED : this.ends.calls; }
   /** Gives the memory of the list back, but not that of its table. Its members stay linked. */
   free() { this.ends.free(); }
   get isEmpty() {
@@ -468,7 +468,7 @@ export class HashTable extends Calls {
     Object.assign(this, { keys, buckets: new Words(links.library, natural(buckets, "buckets"), 1) });
     [this.bucketsAt, this.bucketCount] = this.buckets.parts;
   }
-  get calls() { return this.links.isFreed ? FREED : this.buckets.calls; }
+  get calls() { return this.links.isFreed || this.keys?.isFreed ? FREED : this.buckets.calls; }
   /** Gives the memory of the buckets back, but not that of the table of links. The members stay linked. */
   free() { this.buckets.free(); }
   *[Symbol.iterator]() {

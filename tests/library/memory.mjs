@@ -97,6 +97,10 @@ function late(ic) {
     table.free();
     for (const call of [() => table.insert(0, 0), () => chain.pushFront(0)]) assert.throws(call, TypeError);
     table.links.free();
+    const keys = ic.keys(3), tree = new Tree(ic.links3(3), keys), hashed = new HashTable(ic.links1(3), 2, keys), sorted = new List(ic.links2(3));
+    keys.free();
+    for (const call of [() => tree.insert(0), () => hashed.find(0, 0), () => sorted.sort(keys)]) assert.throws(call, TypeError);
+    for (const it of [tree, hashed, sorted]) it.free(), it.links.free();
   });
 }
 
