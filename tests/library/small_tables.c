@@ -320,6 +320,12 @@ static void check_steps(void) {
         expect(ic_tree_first(table, places, &tree, &end) == ic_tree_next(table, places, &tree, IC_NONE, &same) && end == same, "ic_tree_first");
         end = same = IC_NONE;
         expect(ic_tree_last(table, places, &tree, &end) == ic_tree_prev(table, places, &tree, IC_NONE, &same) && end == same, "ic_tree_last");
+        for (uint32_t j = 0; j < places + OUTSIDE; j++) {
+            const int is_next = ic_tree_next(table, places, &tree, asked[j], &end) == IC_OK;
+            expect(ic_tree_after(table, places, &tree, asked[j]) == (is_next ? end : IC_NONE), "ic_tree_after");
+            const int is_prev = ic_tree_prev(table, places, &tree, asked[j], &end) == IC_OK;
+            expect(ic_tree_before(table, places, &tree, asked[j]) == (is_prev ? end : IC_NONE), "ic_tree_before");
+        }
         walk_steps(&tree, ic_tree_next);
         GIVES(IC_TREE_FOREACH(place, table, places, &tree), place, is_member(place));
         GIVES(IC_TREE_FOREACH_SAFE(place, next, table, places, &tree), place, round + 1 >= wanted_count || next == wanted[round + 1]);
