@@ -20,7 +20,7 @@
  * What a call requires: `table` points to `places` links, `keys` to `key_count` keys, `buckets` to `bucket_count` lists, each other pointer
  * to one value of its type, no two of these overlap, and no other thread writes or reads them during the call. Other threads may read what
  * a call takes as const. A call requires nothing else: words, keys, hashes and places may be any. A length that is greater than its array is
- * the one mistake by which a call may leave your memory. One that is less is safe.
+ * the one dangerous number: by it a call may leave your memory. One that is less is safe.
  *
  * What every call does, whatever it is handed:
  *   - It returns one of the statuses below.
