@@ -14,20 +14,17 @@ use Rattle.ic_link_ops.specs.Positions.{HasMember}
 use Rattle.ic_link_ops.specs.RedBlackTree.{Node, Shows}
 use Rattle.ic_link_ops.specs.Sequences.{join, insert, first, last, but_last}
 use Rattle.ic_link_ops.specs.Tables.{Table}
-use Rattle.ic_link_ops.proofs.CollectionLaws.{kept_shown}
 use Rattle.ic_link_ops.proofs.Each.{all_back, all_with, all_without}
 use Rattle.ic_link_ops.proofs.PlacedValues.{stand_beside, vacant_absent}
 use Rattle.ic_link_ops.proofs.SequenceLemmas.{first_is, none_not, some_same, split_last}
-use Rattle.ic_link_ops.proofs.ShownTrees.{shows_nothing}
+use Rattle.ic_link_ops.proofs.ShownTrees.{shows_kept, shows_nothing}
 use Rattle.ic_rbtree.specs.Borders.{Finds, IsBorder, IsLowerBorder, IsSorted, IsSortedFor, at_most_at, equal_at, less_at}
 use Rattle.ic_rbtree.specs.Comparing.{compared, order_of, own_order}
 use Rattle.ic_rbtree.specs.Ordered.{InsertsInOrder}
-use Rattle.ic_rbtree.specs.PlainTrees.{TreeLink, ShowsTree}
 use Rattle.ic_rbtree.specs.Tree.{adapter_of, root_of}
 use Rattle.ic_rbtree.specs.declared.tree.RBTree.{RBTree}
 use Rattle.ic_rbtree.specs.declared.keys.key_adapter.Bound.TheVariants.{Included}
 use Rattle.ic_rbtree.proofs.KeyLaws.{cuts_at_most, found_is, lower_is, sorted_for, stays_sorted, value_there}
-use Rattle.ic_rbtree.proofs.PlainTrees.{plain_trees}
 use Rattle.ic_rbtree.proofs.SortedAnswers.{put_behind}
 use Rattle.ic_rbtree.proofs.SortedValues.{own_order_is}
 use Rattle.ic_plain.specs.SortedTrees.{IsInOrder, ShowsInOrder}
@@ -141,19 +138,19 @@ module _ {T K : Type 0} {cmp : K → K → Ordering} (total : IsTotalOrder cmp) 
       }
 
 -- A TREE IN ORDER
-module _ {D T K : Type 0} (cmp : K → K → Ordering) (key_of : D → T → K) (t : Table TreeLink) (tree : RBTree D (Option Place)) (objects : Objects T) (o : IsInOrder cmp key_of t tree objects) where
+module _ {D T K E : Type 0} (cmp : K → K → Ordering) (key_of : D → T → K) (node : E → Node) (t : Table E) (tree : RBTree D (Option Place)) (objects : Objects T) (o : IsInOrder cmp key_of node t tree objects) where
   -- is shown, with an object at each member,
-  pub in_order_placed : ShowsPlaced (ShowsTree t (root_of tree)) objects
+  pub in_order_placed : ShowsPlaced (Shows node t (root_of tree)) objects
   unfolding IsInOrder
   in_order_placed = o.placed
 
   -- and is so AFTER `Pool::place`: `keeps.entries` and `placed` are clauses of the call
-  pub in_order_grown : (grown : Table TreeLink) {more : Objects T} {p : Place} {v : T} → ((q : Place) → grown.entry q ≡ t.entry q) → Places objects more p v → IsInOrder cmp key_of grown tree more
+  pub in_order_grown : (grown : Table E) {more : Objects T} {p : Place} {v : T} → ((q : Place) → grown.entry q ≡ t.entry q) → Places objects more p v → IsInOrder cmp key_of node grown tree more
   unfolding IsInOrder
   in_order_grown grown {more} {p} entries places =
       let s = o.placed.members in
       let stood = stand_beside objects more p (others_placed places) (vacant_absent objects p places.vacant s o.placed.placed) (record { placed = o.placed.placed; are = refl }) in
       record {
-        placed = record { members = s; shown = kept_shown plain_trees entries o.placed.shown; placed = stood.placed };
+        placed = record { members = s; shown = shows_kept o.placed.shown (λ q m. entries q); placed = stood.placed };
         sorted = subst (λ (l : List T). IsSorted cmp (map (key_of (adapter_of tree)) l)) (sym stood.are) o.sorted;
       }

@@ -1,16 +1,27 @@
 -- Trees whose members stand in the order of their keys.
-use Rattle.std.specs.Prelude.{Option, Bool, not, List, ◌∷◌, ◌++◌, map}
+use Rattle.std.specs.Prelude.{⊤, Option, Bool, not, List, ◌∷◌, ◌++◌, map}
 use Rattle.std.specs.List.{filter}
 use Rattle.std.specs.declared.cmp.Ordering.{Ordering}
 use Rattle.ic_unsafe_ref.specs.declared.place.Place.{Place}
 use Rattle.ic_unsafe_ref.specs.Objects.{Objects}
+use Rattle.ic_link_ops.specs.declared.link.Link.{Link}
+use Rattle.ic_link_ops.specs.declared.three_narrow_words.ThreeNarrowWords.{ThreeNarrowWords}
 use Rattle.ic_link_ops.specs.PlacedObjects.{ShowsPlaced, values_at}
+use Rattle.ic_link_ops.specs.RedBlackTree.{Node, Shows}
 use Rattle.ic_link_ops.specs.Tables.{Table}
+use Rattle.ic_link_ops.specs.ThreeNarrowWords.{node_in}
 use Rattle.ic_rbtree.specs.declared.tree.RBTree.{RBTree}
 use Rattle.ic_rbtree.specs.Borders.{IsSorted, at_most_at, equal_at, less_at}
 use Rattle.ic_rbtree.specs.Comparing.{compared, order_of, own_order}
-use Rattle.ic_rbtree.specs.PlainTrees.{TreeLink, ShowsTree}
+use Rattle.ic_rbtree.specs.PlainTrees.{node_by}
 use Rattle.ic_rbtree.specs.Tree.{adapter_of, root_of}
+
+-- the link of a tree over words of 4 bytes, and what it says of the tree
+abbrev pub NarrowTreeLink : Type 0
+NarrowTreeLink = Link ThreeNarrowWords ⊤
+
+abbrev pub narrow_node_of : NarrowTreeLink → Node
+narrow_node_of = node_by node_in
 
 module _ {T K : Type 0} (cmp : K → K → Ordering) (key : T → K) where
   -- a sequence is shown, an object stands at each of its members, and from one to the next their keys never fall
@@ -20,13 +31,15 @@ module _ {T K : Type 0} (cmp : K → K → Ordering) (key : T → K) where
 
 -- `cmp`: how two keys compare. `key_of`: the key of an object, as an adapter finds it
 module _ {D T K : Type 0} (cmp : K → K → Ordering) (key_of : D → T → K) where
-  -- THE TREE IS IN ORDER: its members stand in the order of their keys, as the table shows them
-  unfoldable pub IsInOrder : Table TreeLink → RBTree D (Option Place) → Objects T → Type 0
-  IsInOrder t tree objects = ShowsInOrder cmp (key_of (adapter_of tree)) (ShowsTree t (root_of tree)) objects
+  -- `node`: what an entry says of a tree
+  module _ {E : Type 0} (node : E → Node) where
+    -- THE TREE IS IN ORDER: its members stand in the order of their keys, as the table shows them
+    unfoldable pub IsInOrder : Table E → RBTree D (Option Place) → Objects T → Type 0
+    IsInOrder t tree objects = ShowsInOrder cmp (key_of (adapter_of tree)) (Shows node t (root_of tree)) objects
 
-  -- THE ORDER STAYS, whatever objects there are
-  abbrev pub StaysInOrder : Table TreeLink → RBTree D (Option Place) → Table TreeLink → RBTree D (Option Place) → Type 0
-  StaysInOrder t old u new = (objects : Objects T) → IsInOrder t old objects → IsInOrder u new objects
+    -- THE ORDER STAYS, whatever objects there are
+    abbrev pub StaysInOrder : Table E → RBTree D (Option Place) → Table E → RBTree D (Option Place) → Type 0
+    StaysInOrder t old u new = (objects : Objects T) → IsInOrder t old objects → IsInOrder u new objects
 
   module _ (tree : RBTree D (Option Place)) (objects : Objects T) where
     -- of a sequence, the members with this key, and those with this key or a greater one

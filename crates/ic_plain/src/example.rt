@@ -4,25 +4,29 @@
 //! example::add(&mut recent, &mut links, object);
 //! example::reuse(&mut recent, &mut links, &other);  // in front of all others
 //! example::requeue(&mut waiting, &mut links, &job); // behind all others
+//! example::slide(&mut window, &mut narrow_links, object); // the first one, which is out of the window now
 //!
 //! example::schedule(&mut timers, &mut links, &objects, timer);
 //! example::first_from(&timers, &links, &objects, 30); // the number of the first that is due at 30 or later
 //! example::reschedule(&mut timers, &mut links, &objects, &timer); // behind those with the same deadline
 //! ```
 
-ghost use Rattle.std.specs.Prelude.{◌≡◌, ◌++◌, ◌∷◌, [], true, List};
+ghost use Rattle.std.specs.Prelude.{◌≡◌, ◌++◌, ◌∷◌, [], true, List, drop};
 ghost use Rattle.std.specs.Ordering.{nat_cmp};
 ghost use Rattle.ic_unsafe_ref.specs.declared.place.Place.{Place};
 ghost use Rattle.ic_unsafe_ref.specs.Objects.{is_placed};
 ghost use Rattle.ic_link_ops.specs.Positions.{HasMember};
 ghost use Rattle.ic_link_ops.specs.Tables.{IsCovered, IsUnlinked};
 ghost use Rattle.ic_link_ops.specs.DoublyEntries.{is_linked, plain_table, PlainShows, PlainShowsSome};
+ghost use Rattle.ic_link_ops.specs.LinkedList.{Shows, ShowsSome};
+ghost use Rattle.ic_link_ops.specs.Sequences.{first};
+ghost use Rattle.ic_link_ops.specs.ThreeWords.{node_of};
 ghost use Rattle.ic_rbtree.specs.PlainTrees as tree;
 ghost use Rattle.ic_rbtree.specs.Tree.{root_of};
 ghost use Rattle.ic_plain.specs.SortedTrees.{IsInOrder};
 
-use crate::{linked_list, rbtree};
-use ic_link_ops::linked_list::LinkOps;
+use crate::{AcceptsUnlinked, linked_list, rbtree};
+use ic_link_ops::linked_list::{LinkOps, LinkedListOps};
 use ic_link_ops::rbtree::LinkOps as TreeLinkOps;
 use ic_linked_list::LinkedList;
 use ic_rbtree::{KeyAdapter, RBTree};
@@ -66,6 +70,25 @@ pub fn requeue<T, A: Allocator>(
     linked_list::push_back(list, links, UnsafeRef::new(object.place()));
 }
 
+/// Adds an object that is not linked, behind all others, and takes the first member off, as a window slides over what comes. The links have
+/// words of 8 bytes or of 4.
+pub fn slide<T, L: LinkedListOps + AcceptsUnlinked>(
+    window: &mut LinkedList<T>,
+    links: &mut L,
+    object: UnsafeRef<T>,
+) -> Option<UnsafeRef<T>>
+    requires covered { IsCovered (L.table links.old) object }
+    requires unlinked { IsUnlinked L.linked (L.table links.old) object }
+    requires shown { ShowsSome L.neighbors (L.table links.old) window.old }
+    ensures first { (s : List Place) → Shows L.neighbors (L.table links.old) window.old s → result ≡ first (s ++ object ∷ []) }
+    ensures left { (s : List Place) → Shows L.neighbors (L.table links.old) window.old s
+        → Shows L.neighbors (L.table links.new) window.new (drop 1 (s ++ object ∷ [])) }
+    ensures shown { ShowsSome L.neighbors (L.table links.new) window.new }
+{
+    linked_list::push_back(window, links, object);
+    linked_list::pop_front(window, links)
+}
+
 /// What waits until it is due.
 #[derive(Drop)]
 pub struct Timer {
@@ -102,8 +125,8 @@ pub fn schedule<A: Allocator, B: Allocator>(
     requires covered { IsCovered (tree.plain_table links.old) timer }
     requires unlinked { IsUnlinked tree.is_linked (tree.plain_table links.old) timer }
     requires object { is_placed objects.now timer ≡ true }
-    requires sorted { IsInOrder nat_cmp ⟦<ByDeadline as KeyAdapter>⟧.key_of (tree.plain_table links.old) timers.old objects.now }
-    ensures sorted { IsInOrder nat_cmp ⟦<ByDeadline as KeyAdapter>⟧.key_of (tree.plain_table links.new) timers.new objects.now }
+    requires sorted { IsInOrder nat_cmp ⟦<ByDeadline as KeyAdapter>⟧.key_of node_of (tree.plain_table links.old) timers.old objects.now }
+    ensures sorted { IsInOrder nat_cmp ⟦<ByDeadline as KeyAdapter>⟧.key_of node_of (tree.plain_table links.new) timers.new objects.now }
 {
     rbtree::insert(timers, links, objects, timer);
 }
@@ -115,7 +138,7 @@ pub fn first_from<A: Allocator, B: Allocator>(
     objects: &Objects<Timer, B>,
     time: u64,
 ) -> Option<u64>
-    requires sorted { IsInOrder nat_cmp ⟦<ByDeadline as KeyAdapter>⟧.key_of (tree.plain_table links.now) timers.now objects.now }
+    requires sorted { IsInOrder nat_cmp ⟦<ByDeadline as KeyAdapter>⟧.key_of node_of (tree.plain_table links.now) timers.now objects.now }
 {
     let place = rbtree::lower_bound(timers, links, objects, &time)?;
     Some(objects.get(place)?.number)
@@ -130,8 +153,8 @@ pub fn reschedule<A: Allocator, B: Allocator>(
 )
     requires member { HasMember (tree.PlainShows links.old (root_of timers.old)) timer.now }
     requires object { is_placed objects.now timer.now ≡ true }
-    requires sorted { IsInOrder nat_cmp ⟦<ByDeadline as KeyAdapter>⟧.key_of (tree.plain_table links.old) timers.old objects.now }
-    ensures sorted { IsInOrder nat_cmp ⟦<ByDeadline as KeyAdapter>⟧.key_of (tree.plain_table links.new) timers.new objects.now }
+    requires sorted { IsInOrder nat_cmp ⟦<ByDeadline as KeyAdapter>⟧.key_of node_of (tree.plain_table links.old) timers.old objects.now }
+    ensures sorted { IsInOrder nat_cmp ⟦<ByDeadline as KeyAdapter>⟧.key_of node_of (tree.plain_table links.new) timers.new objects.now }
 {
     rbtree::remove(timers, links, timer);
     rbtree::insert(timers, links, objects, UnsafeRef::new(timer.place()));

@@ -1,4 +1,4 @@
-//! Doubly linked lists over the plain table of their links.
+//! Doubly linked lists over a plain table of their links, of words of 8 bytes or of 4.
 //!
 //! ```text
 //! let mut list = linked_list::new();
@@ -9,30 +9,29 @@
 ghost use Rattle.std.specs.Prelude.{◌≡◌, ◌↔◌, ◌∷◌, [], None, List, IsTrue, IfSome, IfNone, drop, ◌++◌};
 ghost use Rattle.ic_unsafe_ref.specs.declared.place.Place.{Place};
 ghost use Rattle.ic_link_ops.specs.Sequences.{first, last, but_last};
-ghost use Rattle.ic_link_ops.specs.Tables.{Table, IsCovered, IsUnlinked, LinksAlso, Unlinks, KeepsLinked, KeepsBeside};
+ghost use Rattle.ic_link_ops.specs.Tables.{IsCovered, IsUnlinked, LinksAlso, Unlinks, KeepsLinked, KeepsBeside};
 ghost use Rattle.ic_link_ops.specs.Positions.{HasMember};
-ghost use Rattle.ic_link_ops.specs.LinkedList.{ShowsSome};
-ghost use Rattle.ic_link_ops.specs.DoublyEntries.{DoublyLink, ShowsList, is_linked, neighbors_of, plain_table, PlainShows, PlainShowsSome};
+ghost use Rattle.ic_link_ops.specs.Chains.{no_members};
+ghost use Rattle.ic_link_ops.specs.LinkedList.{Shows, ShowsSome};
 
-use ic_link_ops::linked_list::LinkOps;
+use crate::AcceptsUnlinked;
+use ic_link_ops::linked_list::LinkedListOps;
 use ic_linked_list::LinkedList;
 use ic_unsafe_ref::{Place, UnsafeRef};
-use std::alloc::Allocator;
 
-/// A list with no members. It takes no memory.
+/// A list with no members, for which every table shows the empty sequence. It takes no memory.
 #[inline]
 pub fn new<T>() -> LinkedList<T>
-    ensures empty { (t : Table DoublyLink) → ShowsList t result [] }
-    ensures shows { (t : Table DoublyLink) → ShowsSome neighbors_of t result }
+    ensures empty { result ≡ no_members }
 {
     LinkedList::new()
 }
 
 /// Whether the list has no members. O(1).
 #[inline]
-pub fn is_empty<T, A: Allocator>(list: &LinkedList<T>, links: &LinkOps<A>) -> bool
-    requires shown { PlainShowsSome links.now list.now }
-    ensures empty { (s : List Place) → PlainShows links.now list.now s → IsTrue result ↔ (s ≡ []) }
+pub fn is_empty<T, L: LinkedListOps>(list: &LinkedList<T>, links: &L) -> bool
+    requires shown { ShowsSome L.neighbors (L.table links.now) list.now }
+    ensures empty { (s : List Place) → Shows L.neighbors (L.table links.now) list.now s → IsTrue result ↔ (s ≡ []) }
 {
     let _ = links;
     list.is_empty()
@@ -40,9 +39,9 @@ pub fn is_empty<T, A: Allocator>(list: &LinkedList<T>, links: &LinkOps<A>) -> bo
 
 /// The place of the first member, `None` in an empty list. O(1).
 #[inline]
-pub fn first<T, A: Allocator>(list: &LinkedList<T>, links: &LinkOps<A>) -> Option<Place>
-    requires shown { PlainShowsSome links.now list.now }
-    ensures first { (s : List Place) → PlainShows links.now list.now s → result ≡ first s }
+pub fn first<T, L: LinkedListOps>(list: &LinkedList<T>, links: &L) -> Option<Place>
+    requires shown { ShowsSome L.neighbors (L.table links.now) list.now }
+    ensures first { (s : List Place) → Shows L.neighbors (L.table links.now) list.now s → result ≡ first s }
 {
     let _ = links;
     list.first()
@@ -50,9 +49,9 @@ pub fn first<T, A: Allocator>(list: &LinkedList<T>, links: &LinkOps<A>) -> Optio
 
 /// The place of the last member, `None` in an empty list. O(1).
 #[inline]
-pub fn last<T, A: Allocator>(list: &LinkedList<T>, links: &LinkOps<A>) -> Option<Place>
-    requires shown { PlainShowsSome links.now list.now }
-    ensures last { (s : List Place) → PlainShows links.now list.now s → result ≡ last s }
+pub fn last<T, L: LinkedListOps>(list: &LinkedList<T>, links: &L) -> Option<Place>
+    requires shown { ShowsSome L.neighbors (L.table links.now) list.now }
+    ensures last { (s : List Place) → Shows L.neighbors (L.table links.now) list.now s → result ≡ last s }
 {
     let _ = links;
     list.last()
@@ -60,123 +59,119 @@ pub fn last<T, A: Allocator>(list: &LinkedList<T>, links: &LinkOps<A>) -> Option
 
 /// Puts the object in front of all others. It requires that its place is covered, and that it is not linked. O(1).
 #[inline]
-pub fn push_front<T, A: Allocator>(
+pub fn push_front<T, L: LinkedListOps + AcceptsUnlinked>(
     list: &mut LinkedList<T>,
-    links: &mut LinkOps<A>,
+    links: &mut L,
     object: UnsafeRef<T>,
 )
-    requires covered { IsCovered (plain_table links.old) object }
-    requires unlinked { IsUnlinked is_linked (plain_table links.old) object }
-    requires shown { PlainShowsSome links.old list.old }
-    ensures shown { (s : List Place) → PlainShows links.old list.old s → PlainShows links.new list.new (object ∷ s) }
-    ensures shows { PlainShowsSome links.new list.new }
-    ensures linked { LinksAlso is_linked (plain_table links.old) (plain_table links.new) object }
-    ensures frame { (s : List Place) → PlainShows links.old list.old s
-        → KeepsBeside (plain_table links.old) (plain_table links.new) (object ∷ s) }
+    requires covered { IsCovered (L.table links.old) object }
+    requires unlinked { IsUnlinked L.linked (L.table links.old) object }
+    requires shown { ShowsSome L.neighbors (L.table links.old) list.old }
+    ensures shown { (s : List Place) → Shows L.neighbors (L.table links.old) list.old s → Shows L.neighbors (L.table links.new) list.new (object ∷ s) }
+    ensures shows { ShowsSome L.neighbors (L.table links.new) list.new }
+    ensures linked { LinksAlso L.linked (L.table links.old) (L.table links.new) object }
+    ensures frame { (s : List Place) → Shows L.neighbors (L.table links.old) list.old s
+        → KeepsBeside (L.table links.old) (L.table links.new) (object ∷ s) }
 {
     let _ = list.push_front(links, object); // proved: it is not linked
 }
 
 /// Puts the object behind all others. It requires that its place is covered, and that it is not linked. O(1).
 #[inline]
-pub fn push_back<T, A: Allocator>(
+pub fn push_back<T, L: LinkedListOps + AcceptsUnlinked>(
     list: &mut LinkedList<T>,
-    links: &mut LinkOps<A>,
+    links: &mut L,
     object: UnsafeRef<T>,
 )
-    requires covered { IsCovered (plain_table links.old) object }
-    requires unlinked { IsUnlinked is_linked (plain_table links.old) object }
-    requires shown { PlainShowsSome links.old list.old }
-    ensures shown { (s : List Place) → PlainShows links.old list.old s → PlainShows links.new list.new (s ++ object ∷ []) }
-    ensures shows { PlainShowsSome links.new list.new }
-    ensures linked { LinksAlso is_linked (plain_table links.old) (plain_table links.new) object }
-    ensures frame { (s : List Place) → PlainShows links.old list.old s
-        → KeepsBeside (plain_table links.old) (plain_table links.new) (object ∷ s) }
+    requires covered { IsCovered (L.table links.old) object }
+    requires unlinked { IsUnlinked L.linked (L.table links.old) object }
+    requires shown { ShowsSome L.neighbors (L.table links.old) list.old }
+    ensures shown { (s : List Place) → Shows L.neighbors (L.table links.old) list.old s → Shows L.neighbors (L.table links.new) list.new (s ++ object ∷ []) }
+    ensures shows { ShowsSome L.neighbors (L.table links.new) list.new }
+    ensures linked { LinksAlso L.linked (L.table links.old) (L.table links.new) object }
+    ensures frame { (s : List Place) → Shows L.neighbors (L.table links.old) list.old s
+        → KeepsBeside (L.table links.old) (L.table links.new) (object ∷ s) }
 {
     let _ = list.push_back(links, object); // proved: it is not linked
 }
 
 /// Takes the first member off and returns it, or `None` if the list is empty. O(1).
 #[inline]
-pub fn pop_front<T, A: Allocator>(
+pub fn pop_front<T, L: LinkedListOps>(
     list: &mut LinkedList<T>,
-    links: &mut LinkOps<A>,
+    links: &mut L,
 ) -> Option<UnsafeRef<T>>
-    requires shown { PlainShowsSome links.old list.old }
-    ensures answer { (s : List Place) → PlainShows links.old list.old s → result ≡ first s }
-    ensures shown { (s : List Place) → PlainShows links.old list.old s → PlainShows links.new list.new (drop 1 s) }
-    ensures shows { PlainShowsSome links.new list.new }
-    ensures unlinked { IfSome result (λ object. Unlinks is_linked (plain_table links.old) (plain_table links.new) object) }
+    requires shown { ShowsSome L.neighbors (L.table links.old) list.old }
+    ensures answer { (s : List Place) → Shows L.neighbors (L.table links.old) list.old s → result ≡ first s }
+    ensures shown { (s : List Place) → Shows L.neighbors (L.table links.old) list.old s → Shows L.neighbors (L.table links.new) list.new (drop 1 s) }
+    ensures shows { ShowsSome L.neighbors (L.table links.new) list.new }
+    ensures unlinked { IfSome result (λ object. Unlinks L.linked (L.table links.old) (L.table links.new) object) }
     ensures empty { IfNone result ((list.new ≡ list.old) × (links.new ≡ links.old)) }
-    ensures frame { (s : List Place) → PlainShows links.old list.old s → KeepsBeside (plain_table links.old) (plain_table links.new) s }
+    ensures frame { (s : List Place) → Shows L.neighbors (L.table links.old) list.old s → KeepsBeside (L.table links.old) (L.table links.new) s }
 {
     list.pop_front(links)
 }
 
 /// Takes the last member off and returns it, or `None` if the list is empty. O(1).
 #[inline]
-pub fn pop_back<T, A: Allocator>(
+pub fn pop_back<T, L: LinkedListOps>(
     list: &mut LinkedList<T>,
-    links: &mut LinkOps<A>,
+    links: &mut L,
 ) -> Option<UnsafeRef<T>>
-    requires shown { PlainShowsSome links.old list.old }
-    ensures answer { (s : List Place) → PlainShows links.old list.old s → result ≡ last s }
-    ensures shown { (s : List Place) → PlainShows links.old list.old s → PlainShows links.new list.new (but_last s) }
-    ensures shows { PlainShowsSome links.new list.new }
-    ensures unlinked { IfSome result (λ object. Unlinks is_linked (plain_table links.old) (plain_table links.new) object) }
+    requires shown { ShowsSome L.neighbors (L.table links.old) list.old }
+    ensures answer { (s : List Place) → Shows L.neighbors (L.table links.old) list.old s → result ≡ last s }
+    ensures shown { (s : List Place) → Shows L.neighbors (L.table links.old) list.old s → Shows L.neighbors (L.table links.new) list.new (but_last s) }
+    ensures shows { ShowsSome L.neighbors (L.table links.new) list.new }
+    ensures unlinked { IfSome result (λ object. Unlinks L.linked (L.table links.old) (L.table links.new) object) }
     ensures empty { IfNone result ((list.new ≡ list.old) × (links.new ≡ links.old)) }
-    ensures frame { (s : List Place) → PlainShows links.old list.old s → KeepsBeside (plain_table links.old) (plain_table links.new) s }
+    ensures frame { (s : List Place) → Shows L.neighbors (L.table links.old) list.old s → KeepsBeside (L.table links.old) (L.table links.new) s }
 {
     list.pop_back(links)
 }
 
 /// Takes the object off the list. It requires that it is a member. O(1).
 #[inline]
-pub fn remove<T, A: Allocator>(
-    list: &mut LinkedList<T>,
-    links: &mut LinkOps<A>,
-    object: &UnsafeRef<T>,
-)
-    requires member { HasMember (PlainShows links.old list.old) object.now }
-    ensures shown { (front back : List Place) → PlainShows links.old list.old (front ++ object.now ∷ back)
-        → PlainShows links.new list.new (front ++ back) }
-    ensures shows { PlainShowsSome links.new list.new }
-    ensures unlinked { Unlinks is_linked (plain_table links.old) (plain_table links.new) object.now }
-    ensures frame { (s : List Place) → PlainShows links.old list.old s → KeepsBeside (plain_table links.old) (plain_table links.new) s }
+pub fn remove<T, L: LinkedListOps>(list: &mut LinkedList<T>, links: &mut L, object: &UnsafeRef<T>)
+    requires member { HasMember (Shows L.neighbors (L.table links.old) list.old) object.now }
+    ensures shown { (front back : List Place) → Shows L.neighbors (L.table links.old) list.old (front ++ object.now ∷ back)
+        → Shows L.neighbors (L.table links.new) list.new (front ++ back) }
+    ensures shows { ShowsSome L.neighbors (L.table links.new) list.new }
+    ensures unlinked { Unlinks L.linked (L.table links.old) (L.table links.new) object.now }
+    ensures frame { (s : List Place) → Shows L.neighbors (L.table links.old) list.old s → KeepsBeside (L.table links.old) (L.table links.new) s }
 {
     list.remove(links, object);
 }
 
 /// Puts the object, which stays linked, in front of all others. It requires that it is a member. O(1).
 #[inline]
-pub fn move_to_front<T, A: Allocator>(
+pub fn move_to_front<T, L: LinkedListOps>(
     list: &mut LinkedList<T>,
-    links: &mut LinkOps<A>,
+    links: &mut L,
     object: &UnsafeRef<T>,
 )
-    requires member { HasMember (PlainShows links.old list.old) object.now }
-    ensures shown { (front back : List Place) → PlainShows links.old list.old (front ++ object.now ∷ back)
-        → PlainShows links.new list.new (object.now ∷ (front ++ back)) }
-    ensures shows { PlainShowsSome links.new list.new }
-    ensures linked { KeepsLinked is_linked (plain_table links.old) (plain_table links.new) }
-    ensures frame { (s : List Place) → PlainShows links.old list.old s → KeepsBeside (plain_table links.old) (plain_table links.new) s }
+    requires member { HasMember (Shows L.neighbors (L.table links.old) list.old) object.now }
+    ensures shown { (front back : List Place) → Shows L.neighbors (L.table links.old) list.old (front ++ object.now ∷ back)
+        → Shows L.neighbors (L.table links.new) list.new (object.now ∷ (front ++ back)) }
+    ensures shows { ShowsSome L.neighbors (L.table links.new) list.new }
+    ensures linked { KeepsLinked L.linked (L.table links.old) (L.table links.new) }
+    ensures frame { (s : List Place) → Shows L.neighbors (L.table links.old) list.old s → KeepsBeside (L.table links.old) (L.table links.new) s }
 {
     list.move_to_front(links, object);
 }
 
 /// Puts the object, which stays linked, behind all others. It requires that it is a member. O(1).
 #[inline]
-pub fn move_to_back<T, A: Allocator>(
+pub fn move_to_back<T, L: LinkedListOps>(
     list: &mut LinkedList<T>,
-    links: &mut LinkOps<A>,
+    links: &mut L,
     object: &UnsafeRef<T>,
 )
-    requires member { HasMember (PlainShows links.old list.old) object.now }
-    ensures shown { (front back : List Place) → PlainShows links.old list.old (front ++ object.now ∷ back)
-        → PlainShows links.new list.new ((front ++ back) ++ object.now ∷ []) }
-    ensures shows { PlainShowsSome links.new list.new }
-    ensures linked { KeepsLinked is_linked (plain_table links.old) (plain_table links.new) }
-    ensures frame { (s : List Place) → PlainShows links.old list.old s → KeepsBeside (plain_table links.old) (plain_table links.new) s }
+    requires member { HasMember (Shows L.neighbors (L.table links.old) list.old) object.now }
+    ensures shown { (front back : List Place) → Shows L.neighbors (L.table links.old) list.old (front ++ object.now ∷ back)
+        → Shows L.neighbors (L.table links.new) list.new ((front ++ back) ++ object.now ∷ []) }
+    ensures shows { ShowsSome L.neighbors (L.table links.new) list.new }
+    ensures linked { KeepsLinked L.linked (L.table links.old) (L.table links.new) }
+    ensures frame { (s : List Place) → Shows L.neighbors (L.table links.old) list.old s → KeepsBeside (L.table links.old) (L.table links.new) s }
 {
     list.move_to_back(links, object);
 }

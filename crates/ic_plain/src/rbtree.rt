@@ -1,4 +1,4 @@
-//! Trees over the plain table of their links, whose members stand in the order of their keys.
+//! Trees over a plain table of their links, of words of 8 bytes or of 4, whose members stand in the order of their keys.
 //!
 //! ```text
 //! let mut tree = rbtree::new(ByDeadline);
@@ -11,27 +11,30 @@ ghost use Rattle.std.specs.Prelude.{◌≡◌, ◌↔◌, ◌++◌, ◌∷◌, [
 ghost use Rattle.ic_unsafe_ref.specs.declared.place.Place.{Place};
 ghost use Rattle.ic_unsafe_ref.specs.Objects.{Objects as Placed, is_placed};
 ghost use Rattle.ic_link_ops.specs.Positions.{HasMember};
-ghost use Rattle.ic_link_ops.specs.RedBlackTree.{ShowsSome};
+ghost use Rattle.ic_link_ops.specs.RedBlackTree.{Shows, ShowsSome};
 ghost use Rattle.ic_link_ops.specs.Sequences.{first, last, but_last};
 ghost use Rattle.ic_link_ops.specs.ThreeWords.{node_of};
 ghost use Rattle.ic_link_ops.specs.Tables.{Table, IsCovered, IsUnlinked, LinksAlso, Unlinks, KeepsBeside};
-ghost use Rattle.ic_rbtree.specs.PlainTrees.{TreeLink, ShowsTree, is_linked, plain_table, PlainShows, PlainShowsSome};
+ghost use Rattle.ic_rbtree.specs.PlainTrees.{TreeLink};
 ghost use Rattle.ic_rbtree.specs.Tree.{adapter_of, root_of};
-ghost use Rattle.ic_plain.specs.SortedTrees.{IsInOrder, StaysInOrder, with_key, from_key, put_by_key};
+ghost use Rattle.ic_plain.specs.SortedTrees.{IsInOrder, StaysInOrder, NarrowTreeLink, narrow_node_of, with_key, from_key, put_by_key};
 
+use crate::AcceptsUnlinked;
 use ic_cursors::{Bidirectional, CursorOps};
 use ic_link_ops::PlaceWord;
-use ic_link_ops::rbtree::LinkOps;
+use ic_link_ops::rbtree::RBTreeOps;
 use ic_rbtree::{Bound, KeyAdapter, RBTree};
 use ic_unsafe_ref::{Objects, Place, UnsafeRef};
 use std::alloc::Allocator;
 
-/// A tree with no members, in the order of the keys that the adapter finds. It takes no memory.
+/// A tree with no members, in the order of the keys that the adapter finds, for which every table shows the empty sequence. It takes no
+/// memory.
 #[inline]
 pub fn new<K: KeyAdapter>(adapter: K) -> RBTree<K>
-    ensures empty { (t : Table TreeLink) → ShowsTree t (root_of result) [] }
-    ensures shows { (t : Table TreeLink) → ShowsSome node_of t (root_of result) }
-    ensures sorted { (t : Table TreeLink) (objects : Placed K.Value) → IsInOrder K.Key.cmp K.key_of t result objects }
+    ensures empty { root_of result ≡ None }
+    ensures sorted { (t : Table TreeLink) (objects : Placed K.Value) → IsInOrder K.Key.cmp K.key_of node_of t result objects }
+    ensures narrow_sorted { (t : Table NarrowTreeLink) (objects : Placed K.Value)
+        → IsInOrder K.Key.cmp K.key_of narrow_node_of t result objects }
     ensures adapter { adapter_of result ≡ adapter }
 {
     RBTree::new(adapter)
@@ -39,9 +42,9 @@ pub fn new<K: KeyAdapter>(adapter: K) -> RBTree<K>
 
 /// Whether the tree has no members. O(1).
 #[inline]
-pub fn is_empty<K: KeyAdapter, A: Allocator>(tree: &RBTree<K>, links: &LinkOps<A>) -> bool
-    requires shown { PlainShowsSome links.now (root_of tree.now) }
-    ensures empty { (s : List Place) → PlainShows links.now (root_of tree.now) s → IsTrue result ↔ (s ≡ []) }
+pub fn is_empty<K: KeyAdapter, L: RBTreeOps>(tree: &RBTree<K>, links: &L) -> bool
+    requires shown { ShowsSome L.node (L.table links.now) (root_of tree.now) }
+    ensures empty { (s : List Place) → Shows L.node (L.table links.now) (root_of tree.now) s → IsTrue result ↔ (s ≡ []) }
 {
     let _ = links;
     tree.is_empty()
@@ -49,18 +52,18 @@ pub fn is_empty<K: KeyAdapter, A: Allocator>(tree: &RBTree<K>, links: &LinkOps<A
 
 /// The place of the first member, `None` in an empty tree. In a tree in order this member has the lowest key. O(log n).
 #[inline]
-pub fn first<K: KeyAdapter, A: Allocator>(tree: &RBTree<K>, links: &LinkOps<A>) -> Option<Place>
-    requires shown { PlainShowsSome links.now (root_of tree.now) }
-    ensures first { (s : List Place) → PlainShows links.now (root_of tree.now) s → result ≡ first s }
+pub fn first<K: KeyAdapter, L: RBTreeOps>(tree: &RBTree<K>, links: &L) -> Option<Place>
+    requires shown { ShowsSome L.node (L.table links.now) (root_of tree.now) }
+    ensures first { (s : List Place) → Shows L.node (L.table links.now) (root_of tree.now) s → result ≡ first s }
 {
     tree.first(links)
 }
 
 /// The place of the last member, `None` in an empty tree. In a tree in order this member has the highest key. O(log n).
 #[inline]
-pub fn last<K: KeyAdapter, A: Allocator>(tree: &RBTree<K>, links: &LinkOps<A>) -> Option<Place>
-    requires shown { PlainShowsSome links.now (root_of tree.now) }
-    ensures last { (s : List Place) → PlainShows links.now (root_of tree.now) s → result ≡ last s }
+pub fn last<K: KeyAdapter, L: RBTreeOps>(tree: &RBTree<K>, links: &L) -> Option<Place>
+    requires shown { ShowsSome L.node (L.table links.now) (root_of tree.now) }
+    ensures last { (s : List Place) → Shows L.node (L.table links.now) (root_of tree.now) s → result ≡ last s }
 {
     tree.last(links)
 }
@@ -68,14 +71,14 @@ pub fn last<K: KeyAdapter, A: Allocator>(tree: &RBTree<K>, links: &LinkOps<A>) -
 /// The place of the first member with this key, `None` if no member has it. It requires that the members stand in the order of their keys.
 /// O(log n).
 #[inline]
-pub fn find<K: KeyAdapter, A: Allocator, B: Allocator>(
+pub fn find<K: KeyAdapter, L: RBTreeOps, B: Allocator>(
     tree: &RBTree<K>,
-    links: &LinkOps<A>,
+    links: &L,
     objects: &Objects<K::Value, B>,
     key: &K::Key,
 ) -> Option<Place>
-    requires sorted { IsInOrder K.Key.cmp K.key_of (plain_table links.now) tree.now objects.now }
-    ensures found { (s : List Place) → PlainShows links.now (root_of tree.now) s
+    requires sorted { IsInOrder K.Key.cmp K.key_of L.node (L.table links.now) tree.now objects.now }
+    ensures found { (s : List Place) → Shows L.node (L.table links.now) (root_of tree.now) s
         → result ≡ first (with_key K.Key.cmp K.key_of tree.now objects.now key.now s) }
 {
     tree.find(links, objects, key).get_ptr()
@@ -84,14 +87,14 @@ pub fn find<K: KeyAdapter, A: Allocator, B: Allocator>(
 /// The place of the first member with this key or a greater one, `None` if all keys are less. It requires that the members stand in the
 /// order of their keys. O(log n).
 #[inline]
-pub fn lower_bound<K: KeyAdapter, A: Allocator, B: Allocator>(
+pub fn lower_bound<K: KeyAdapter, L: RBTreeOps, B: Allocator>(
     tree: &RBTree<K>,
-    links: &LinkOps<A>,
+    links: &L,
     objects: &Objects<K::Value, B>,
     key: &K::Key,
 ) -> Option<Place>
-    requires sorted { IsInOrder K.Key.cmp K.key_of (plain_table links.now) tree.now objects.now }
-    ensures found { (s : List Place) → PlainShows links.now (root_of tree.now) s
+    requires sorted { IsInOrder K.Key.cmp K.key_of L.node (L.table links.now) tree.now objects.now }
+    ensures found { (s : List Place) → Shows L.node (L.table links.now) (root_of tree.now) s
         → result ≡ first (from_key K.Key.cmp K.key_of tree.now objects.now key.now s) }
 {
     tree.lower_bound(links, objects, Bound::Included(key))
@@ -101,13 +104,9 @@ pub fn lower_bound<K: KeyAdapter, A: Allocator, B: Allocator>(
 /// The place of the member behind this one, `None` behind the last. It requires that the place is that of a member. O(log n), and O(1) on
 /// average over a walk.
 #[inline]
-pub fn next<K: KeyAdapter, A: Allocator>(
-    tree: &RBTree<K>,
-    links: &LinkOps<A>,
-    place: Place,
-) -> Option<Place>
-    requires member { HasMember (PlainShows links.now (root_of tree.now)) place }
-    ensures next { (front back : List Place) → PlainShows links.now (root_of tree.now) (front ++ place ∷ back) → result ≡ first back }
+pub fn next<K: KeyAdapter, L: RBTreeOps>(tree: &RBTree<K>, links: &L, place: Place) -> Option<Place>
+    requires member { HasMember (Shows L.node (L.table links.now) (root_of tree.now)) place }
+    ensures next { (front back : List Place) → Shows L.node (L.table links.now) (root_of tree.now) (front ++ place ∷ back) → result ≡ first back }
 {
     tree.next_of(links, &PlaceWord::of(Some(place))).get()
 }
@@ -115,13 +114,9 @@ pub fn next<K: KeyAdapter, A: Allocator>(
 /// The place of the member in front of this one, `None` in front of the first. It requires that the place is that of a member. O(log n), and
 /// O(1) on average over a walk.
 #[inline]
-pub fn prev<K: KeyAdapter, A: Allocator>(
-    tree: &RBTree<K>,
-    links: &LinkOps<A>,
-    place: Place,
-) -> Option<Place>
-    requires member { HasMember (PlainShows links.now (root_of tree.now)) place }
-    ensures prev { (front back : List Place) → PlainShows links.now (root_of tree.now) (front ++ place ∷ back) → result ≡ last front }
+pub fn prev<K: KeyAdapter, L: RBTreeOps>(tree: &RBTree<K>, links: &L, place: Place) -> Option<Place>
+    requires member { HasMember (Shows L.node (L.table links.now) (root_of tree.now)) place }
+    ensures prev { (front back : List Place) → Shows L.node (L.table links.now) (root_of tree.now) (front ++ place ∷ back) → result ≡ last front }
 {
     tree.prev_of(links, &PlaceWord::of(Some(place))).get()
 }
@@ -129,43 +124,43 @@ pub fn prev<K: KeyAdapter, A: Allocator>(
 /// Puts the object in by its key, behind the members with the same key or a lower one. It requires that its place is covered, that it is
 /// placed and not linked, and that the members stand in the order of their keys. O(log n).
 #[inline]
-pub fn insert<K: KeyAdapter, A: Allocator, B: Allocator>(
+pub fn insert<K: KeyAdapter, L: RBTreeOps + AcceptsUnlinked, B: Allocator>(
     tree: &mut RBTree<K>,
-    links: &mut LinkOps<A>,
+    links: &mut L,
     objects: &Objects<K::Value, B>,
     object: UnsafeRef<K::Value>,
 )
-    requires covered { IsCovered (plain_table links.old) object }
-    requires unlinked { IsUnlinked is_linked (plain_table links.old) object }
+    requires covered { IsCovered (L.table links.old) object }
+    requires unlinked { IsUnlinked L.linked (L.table links.old) object }
     requires object { is_placed objects.now object ≡ true }
-    requires sorted { IsInOrder K.Key.cmp K.key_of (plain_table links.old) tree.old objects.now }
-    ensures shown { (s : List Place) → PlainShows links.old (root_of tree.old) s → PlainShows links.new (root_of tree.new)
+    requires sorted { IsInOrder K.Key.cmp K.key_of L.node (L.table links.old) tree.old objects.now }
+    ensures shown { (s : List Place) → Shows L.node (L.table links.old) (root_of tree.old) s → Shows L.node (L.table links.new) (root_of tree.new)
         (put_by_key K.Key.cmp K.key_of tree.old objects.now s object) }
-    ensures shows { PlainShowsSome links.new (root_of tree.new) }
-    ensures sorted { IsInOrder K.Key.cmp K.key_of (plain_table links.new) tree.new objects.now }
-    ensures linked { LinksAlso is_linked (plain_table links.old) (plain_table links.new) object }
+    ensures shows { ShowsSome L.node (L.table links.new) (root_of tree.new) }
+    ensures sorted { IsInOrder K.Key.cmp K.key_of L.node (L.table links.new) tree.new objects.now }
+    ensures linked { LinksAlso L.linked (L.table links.old) (L.table links.new) object }
     ensures adapter { adapter_of tree.new ≡ adapter_of tree.old }
-    ensures frame { (s : List Place) → PlainShows links.old (root_of tree.old) s
-        → KeepsBeside (plain_table links.old) (plain_table links.new) (object ∷ s) }
+    ensures frame { (s : List Place) → Shows L.node (L.table links.old) (root_of tree.old) s
+        → KeepsBeside (L.table links.old) (L.table links.new) (object ∷ s) }
 {
     let _ = tree.insert(links, objects, object); // proved: it is not linked
 }
 
 /// Takes the object off the tree. It requires that it is a member. O(log n).
 #[inline]
-pub fn remove<K: KeyAdapter, A: Allocator>(
+pub fn remove<K: KeyAdapter, L: RBTreeOps>(
     tree: &mut RBTree<K>,
-    links: &mut LinkOps<A>,
+    links: &mut L,
     object: &UnsafeRef<K::Value>,
 )
-    requires member { HasMember (PlainShows links.old (root_of tree.old)) object.now }
-    ensures shown { (front back : List Place) → PlainShows links.old (root_of tree.old) (front ++ object.now ∷ back)
-        → PlainShows links.new (root_of tree.new) (front ++ back) }
-    ensures shows { PlainShowsSome links.new (root_of tree.new) }
-    ensures sorted { StaysInOrder K.Key.cmp K.key_of (plain_table links.old) tree.old (plain_table links.new) tree.new }
-    ensures unlinked { Unlinks is_linked (plain_table links.old) (plain_table links.new) object.now }
+    requires member { HasMember (Shows L.node (L.table links.old) (root_of tree.old)) object.now }
+    ensures shown { (front back : List Place) → Shows L.node (L.table links.old) (root_of tree.old) (front ++ object.now ∷ back)
+        → Shows L.node (L.table links.new) (root_of tree.new) (front ++ back) }
+    ensures shows { ShowsSome L.node (L.table links.new) (root_of tree.new) }
+    ensures sorted { StaysInOrder K.Key.cmp K.key_of L.node (L.table links.old) tree.old (L.table links.new) tree.new }
+    ensures unlinked { Unlinks L.linked (L.table links.old) (L.table links.new) object.now }
     ensures adapter { adapter_of tree.new ≡ adapter_of tree.old }
-    ensures frame { (s : List Place) → PlainShows links.old (root_of tree.old) s → KeepsBeside (plain_table links.old) (plain_table links.new) s }
+    ensures frame { (s : List Place) → Shows L.node (L.table links.old) (root_of tree.old) s → KeepsBeside (L.table links.old) (L.table links.new) s }
 {
     tree.remove(links, object);
 }
@@ -173,23 +168,23 @@ pub fn remove<K: KeyAdapter, A: Allocator>(
 /// Takes the first member with this key off and returns it, or `None` if no member has the key. It requires that the members stand in the
 /// order of their keys. O(log n).
 #[inline]
-pub fn remove_key<K: KeyAdapter, A: Allocator, B: Allocator>(
+pub fn remove_key<K: KeyAdapter, L: RBTreeOps, B: Allocator>(
     tree: &mut RBTree<K>,
-    links: &mut LinkOps<A>,
+    links: &mut L,
     objects: &Objects<K::Value, B>,
     key: &K::Key,
 ) -> Option<UnsafeRef<K::Value>>
-    requires sorted { IsInOrder K.Key.cmp K.key_of (plain_table links.old) tree.old objects.now }
-    ensures answer { (s : List Place) → PlainShows links.old (root_of tree.old) s
+    requires sorted { IsInOrder K.Key.cmp K.key_of L.node (L.table links.old) tree.old objects.now }
+    ensures answer { (s : List Place) → Shows L.node (L.table links.old) (root_of tree.old) s
         → result ≡ first (with_key K.Key.cmp K.key_of tree.old objects.now key.now s) }
-    ensures shown { IfSome result (λ object. (front back : List Place) → PlainShows links.old (root_of tree.old) (front ++ object ∷ back)
-        → PlainShows links.new (root_of tree.new) (front ++ back)) }
-    ensures shows { PlainShowsSome links.new (root_of tree.new) }
-    ensures sorted { IsInOrder K.Key.cmp K.key_of (plain_table links.new) tree.new objects.now }
-    ensures unlinked { IfSome result (λ object. Unlinks is_linked (plain_table links.old) (plain_table links.new) object) }
+    ensures shown { IfSome result (λ object. (front back : List Place) → Shows L.node (L.table links.old) (root_of tree.old) (front ++ object ∷ back)
+        → Shows L.node (L.table links.new) (root_of tree.new) (front ++ back)) }
+    ensures shows { ShowsSome L.node (L.table links.new) (root_of tree.new) }
+    ensures sorted { IsInOrder K.Key.cmp K.key_of L.node (L.table links.new) tree.new objects.now }
+    ensures unlinked { IfSome result (λ object. Unlinks L.linked (L.table links.old) (L.table links.new) object) }
     ensures none { IfNone result ((tree.new ≡ tree.old) × (links.new ≡ links.old)) }
     ensures adapter { adapter_of tree.new ≡ adapter_of tree.old }
-    ensures frame { (s : List Place) → PlainShows links.old (root_of tree.old) s → KeepsBeside (plain_table links.old) (plain_table links.new) s }
+    ensures frame { (s : List Place) → Shows L.node (L.table links.old) (root_of tree.old) s → KeepsBeside (L.table links.old) (L.table links.new) s }
 {
     let object = UnsafeRef::new(find(tree, &*links, objects, key)?);
     remove(tree, links, &object);
@@ -198,19 +193,19 @@ pub fn remove_key<K: KeyAdapter, A: Allocator, B: Allocator>(
 
 /// Takes the first member off and returns it, or `None` if the tree is empty. In a tree in order this member has the lowest key. O(log n).
 #[inline]
-pub fn pop_front<K: KeyAdapter, A: Allocator>(
+pub fn pop_front<K: KeyAdapter, L: RBTreeOps>(
     tree: &mut RBTree<K>,
-    links: &mut LinkOps<A>,
+    links: &mut L,
 ) -> Option<UnsafeRef<K::Value>>
-    requires shown { PlainShowsSome links.old (root_of tree.old) }
-    ensures answer { (s : List Place) → PlainShows links.old (root_of tree.old) s → result ≡ first s }
-    ensures shown { (s : List Place) → PlainShows links.old (root_of tree.old) s → PlainShows links.new (root_of tree.new) (drop 1 s) }
-    ensures shows { PlainShowsSome links.new (root_of tree.new) }
-    ensures sorted { StaysInOrder K.Key.cmp K.key_of (plain_table links.old) tree.old (plain_table links.new) tree.new }
-    ensures unlinked { IfSome result (λ object. Unlinks is_linked (plain_table links.old) (plain_table links.new) object) }
+    requires shown { ShowsSome L.node (L.table links.old) (root_of tree.old) }
+    ensures answer { (s : List Place) → Shows L.node (L.table links.old) (root_of tree.old) s → result ≡ first s }
+    ensures shown { (s : List Place) → Shows L.node (L.table links.old) (root_of tree.old) s → Shows L.node (L.table links.new) (root_of tree.new) (drop 1 s) }
+    ensures shows { ShowsSome L.node (L.table links.new) (root_of tree.new) }
+    ensures sorted { StaysInOrder K.Key.cmp K.key_of L.node (L.table links.old) tree.old (L.table links.new) tree.new }
+    ensures unlinked { IfSome result (λ object. Unlinks L.linked (L.table links.old) (L.table links.new) object) }
     ensures empty { IfNone result ((tree.new ≡ tree.old) × (links.new ≡ links.old)) }
     ensures adapter { adapter_of tree.new ≡ adapter_of tree.old }
-    ensures frame { (s : List Place) → PlainShows links.old (root_of tree.old) s → KeepsBeside (plain_table links.old) (plain_table links.new) s }
+    ensures frame { (s : List Place) → Shows L.node (L.table links.old) (root_of tree.old) s → KeepsBeside (L.table links.old) (L.table links.new) s }
 {
     let object = UnsafeRef::new(first(tree, &*links)?);
     remove(tree, links, &object);
@@ -219,19 +214,19 @@ pub fn pop_front<K: KeyAdapter, A: Allocator>(
 
 /// Takes the last member off and returns it, or `None` if the tree is empty. In a tree in order this member has the highest key. O(log n).
 #[inline]
-pub fn pop_back<K: KeyAdapter, A: Allocator>(
+pub fn pop_back<K: KeyAdapter, L: RBTreeOps>(
     tree: &mut RBTree<K>,
-    links: &mut LinkOps<A>,
+    links: &mut L,
 ) -> Option<UnsafeRef<K::Value>>
-    requires shown { PlainShowsSome links.old (root_of tree.old) }
-    ensures answer { (s : List Place) → PlainShows links.old (root_of tree.old) s → result ≡ last s }
-    ensures shown { (s : List Place) → PlainShows links.old (root_of tree.old) s → PlainShows links.new (root_of tree.new) (but_last s) }
-    ensures shows { PlainShowsSome links.new (root_of tree.new) }
-    ensures sorted { StaysInOrder K.Key.cmp K.key_of (plain_table links.old) tree.old (plain_table links.new) tree.new }
-    ensures unlinked { IfSome result (λ object. Unlinks is_linked (plain_table links.old) (plain_table links.new) object) }
+    requires shown { ShowsSome L.node (L.table links.old) (root_of tree.old) }
+    ensures answer { (s : List Place) → Shows L.node (L.table links.old) (root_of tree.old) s → result ≡ last s }
+    ensures shown { (s : List Place) → Shows L.node (L.table links.old) (root_of tree.old) s → Shows L.node (L.table links.new) (root_of tree.new) (but_last s) }
+    ensures shows { ShowsSome L.node (L.table links.new) (root_of tree.new) }
+    ensures sorted { StaysInOrder K.Key.cmp K.key_of L.node (L.table links.old) tree.old (L.table links.new) tree.new }
+    ensures unlinked { IfSome result (λ object. Unlinks L.linked (L.table links.old) (L.table links.new) object) }
     ensures empty { IfNone result ((tree.new ≡ tree.old) × (links.new ≡ links.old)) }
     ensures adapter { adapter_of tree.new ≡ adapter_of tree.old }
-    ensures frame { (s : List Place) → PlainShows links.old (root_of tree.old) s → KeepsBeside (plain_table links.old) (plain_table links.new) s }
+    ensures frame { (s : List Place) → Shows L.node (L.table links.old) (root_of tree.old) s → KeepsBeside (L.table links.old) (L.table links.new) s }
 {
     let object = UnsafeRef::new(last(tree, &*links)?);
     remove(tree, links, &object);

@@ -1,4 +1,4 @@
-//! Singly linked lists over the plain table of their links.
+//! Singly linked lists over a plain table of their links, of words of 8 bytes or of 4.
 //!
 //! ```text
 //! let mut list = singly_linked_list::new();
@@ -9,28 +9,27 @@
 ghost use Rattle.std.specs.Prelude.{◌≡◌, ◌↔◌, ◌∷◌, [], None, List, IsTrue, IfSome, IfNone, drop};
 ghost use Rattle.ic_unsafe_ref.specs.declared.place.Place.{Place};
 ghost use Rattle.ic_link_ops.specs.Sequences.{first};
-ghost use Rattle.ic_link_ops.specs.Tables.{Table, IsCovered, IsUnlinked, LinksAlso, Unlinks, KeepsBeside};
-ghost use Rattle.ic_plain.specs.SinglyEntries.{SinglyLink, ShowsList, ShowsSomeList, is_linked, plain_table, PlainShows, PlainShowsSome};
+ghost use Rattle.ic_link_ops.specs.Tables.{IsCovered, IsUnlinked, LinksAlso, Unlinks, KeepsBeside};
+ghost use Rattle.ic_link_ops.specs.SinglyLinkedList.{list_from, Shows, ShowsSome};
 
-use ic_link_ops::singly_linked_list::LinkOps;
+use crate::AcceptsUnlinked;
+use ic_link_ops::singly_linked_list::SinglyLinkedListOps;
 use ic_singly_linked_list::SinglyLinkedList;
 use ic_unsafe_ref::{Place, UnsafeRef};
-use std::alloc::Allocator;
 
-/// A list with no members. It takes no memory.
+/// A list with no members, for which every table shows the empty sequence. It takes no memory.
 #[inline]
 pub fn new<T>() -> SinglyLinkedList<T>
-    ensures empty { (t : Table SinglyLink) → ShowsList t result [] }
-    ensures shows { (t : Table SinglyLink) → ShowsSomeList t result }
+    ensures empty { result ≡ list_from None }
 {
     SinglyLinkedList::new()
 }
 
 /// Whether the list has no members. O(1).
 #[inline]
-pub fn is_empty<T, A: Allocator>(list: &SinglyLinkedList<T>, links: &LinkOps<A>) -> bool
-    requires shown { PlainShowsSome links.now list.now }
-    ensures empty { (s : List Place) → PlainShows links.now list.now s → IsTrue result ↔ (s ≡ []) }
+pub fn is_empty<T, L: SinglyLinkedListOps>(list: &SinglyLinkedList<T>, links: &L) -> bool
+    requires shown { ShowsSome L.successor (L.table links.now) list.now }
+    ensures empty { (s : List Place) → Shows L.successor (L.table links.now) list.now s → IsTrue result ↔ (s ≡ []) }
 {
     let _ = links;
     list.is_empty()
@@ -38,9 +37,9 @@ pub fn is_empty<T, A: Allocator>(list: &SinglyLinkedList<T>, links: &LinkOps<A>)
 
 /// The place of the first member, `None` in an empty list. O(1).
 #[inline]
-pub fn first<T, A: Allocator>(list: &SinglyLinkedList<T>, links: &LinkOps<A>) -> Option<Place>
-    requires shown { PlainShowsSome links.now list.now }
-    ensures first { (s : List Place) → PlainShows links.now list.now s → result ≡ first s }
+pub fn first<T, L: SinglyLinkedListOps>(list: &SinglyLinkedList<T>, links: &L) -> Option<Place>
+    requires shown { ShowsSome L.successor (L.table links.now) list.now }
+    ensures first { (s : List Place) → Shows L.successor (L.table links.now) list.now s → result ≡ first s }
 {
     let _ = links;
     list.first()
@@ -48,36 +47,36 @@ pub fn first<T, A: Allocator>(list: &SinglyLinkedList<T>, links: &LinkOps<A>) ->
 
 /// Puts the object in front of all others. It requires that its place is covered, and that it is not linked. O(1).
 #[inline]
-pub fn push_front<T, A: Allocator>(
+pub fn push_front<T, L: SinglyLinkedListOps + AcceptsUnlinked>(
     list: &mut SinglyLinkedList<T>,
-    links: &mut LinkOps<A>,
+    links: &mut L,
     object: UnsafeRef<T>,
 )
-    requires covered { IsCovered (plain_table links.old) object }
-    requires unlinked { IsUnlinked is_linked (plain_table links.old) object }
-    requires shown { PlainShowsSome links.old list.old }
-    ensures shown { (s : List Place) → PlainShows links.old list.old s → PlainShows links.new list.new (object ∷ s) }
-    ensures shows { PlainShowsSome links.new list.new }
-    ensures linked { LinksAlso is_linked (plain_table links.old) (plain_table links.new) object }
-    ensures frame { (s : List Place) → PlainShows links.old list.old s
-        → KeepsBeside (plain_table links.old) (plain_table links.new) (object ∷ s) }
+    requires covered { IsCovered (L.table links.old) object }
+    requires unlinked { IsUnlinked L.linked (L.table links.old) object }
+    requires shown { ShowsSome L.successor (L.table links.old) list.old }
+    ensures shown { (s : List Place) → Shows L.successor (L.table links.old) list.old s → Shows L.successor (L.table links.new) list.new (object ∷ s) }
+    ensures shows { ShowsSome L.successor (L.table links.new) list.new }
+    ensures linked { LinksAlso L.linked (L.table links.old) (L.table links.new) object }
+    ensures frame { (s : List Place) → Shows L.successor (L.table links.old) list.old s
+        → KeepsBeside (L.table links.old) (L.table links.new) (object ∷ s) }
 {
     let _ = list.push_front(links, object); // proved: it is not linked
 }
 
 /// Takes the first member off and returns it, or `None` if the list is empty. O(1).
 #[inline]
-pub fn pop_front<T, A: Allocator>(
+pub fn pop_front<T, L: SinglyLinkedListOps>(
     list: &mut SinglyLinkedList<T>,
-    links: &mut LinkOps<A>,
+    links: &mut L,
 ) -> Option<UnsafeRef<T>>
-    requires shown { PlainShowsSome links.old list.old }
-    ensures answer { (s : List Place) → PlainShows links.old list.old s → result ≡ first s }
-    ensures shown { (s : List Place) → PlainShows links.old list.old s → PlainShows links.new list.new (drop 1 s) }
-    ensures shows { PlainShowsSome links.new list.new }
-    ensures unlinked { IfSome result (λ object. Unlinks is_linked (plain_table links.old) (plain_table links.new) object) }
+    requires shown { ShowsSome L.successor (L.table links.old) list.old }
+    ensures answer { (s : List Place) → Shows L.successor (L.table links.old) list.old s → result ≡ first s }
+    ensures shown { (s : List Place) → Shows L.successor (L.table links.old) list.old s → Shows L.successor (L.table links.new) list.new (drop 1 s) }
+    ensures shows { ShowsSome L.successor (L.table links.new) list.new }
+    ensures unlinked { IfSome result (λ object. Unlinks L.linked (L.table links.old) (L.table links.new) object) }
     ensures empty { IfNone result ((list.new ≡ list.old) × (links.new ≡ links.old)) }
-    ensures frame { (s : List Place) → PlainShows links.old list.old s → KeepsBeside (plain_table links.old) (plain_table links.new) s }
+    ensures frame { (s : List Place) → Shows L.successor (L.table links.old) list.old s → KeepsBeside (L.table links.old) (L.table links.new) s }
 {
     list.pop_front(links)
 }

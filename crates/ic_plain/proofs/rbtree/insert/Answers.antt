@@ -1,13 +1,16 @@
-use Rattle.std.proofs.Common.{List, ◌∷◌, subst}
+use Rattle.std.proofs.Common.{◌≡◌, Bool, true, false, Result, Ok, Err, OnOk, OnErr, List, ◌∷◌, ◌∙◌, subst, sym}
 use Rattle.ic_unsafe_ref.specs.declared.place.Place.{Place}
 use Rattle.ic_link_ops.specs.Tables.{KeepsBeside}
-use Rattle.ic_link_ops.proofs.Calling.{accepted}
-use Rattle.ic_rbtree.specs.PlainTrees.{plain_table}
-use Rattle.ic_rbtree.specs.Tree.{adapter_of, root_of}
-use Rattle.ic_rbtree.proofs.PlainTrees.{plain_trees}
+use Rattle.ic_rbtree.specs.Tree.{adapter_of}
+use Rattle.ic_link_ops.proofs.ShownTrees.{one_sequence}
 use Rattle.ic_plain.specs.SortedTrees.{IsInOrder}
 use Rattle.ic_plain.proofs.KeyOrder.{inserted, inserted_in_order}
 use Rattle.ic_plain.proofs.rbtree.insert.Goals as goal
+
+-- what is not linked is accepted
+accepted : {A X P Refused : Type 0} {was : Bool} (r : Result A X) → (Refused → was ≡ true) → was ≡ false → OnErr r Refused → OnOk r P → P
+accepted (Ok a) law off refused holds = holds
+accepted (Err x) law off refused holds = let never : false ≡ true = sym off ∙ law refused in absurd (cc)
 
 pub insert-requires-clause-placed : goal.insert-requires-clause-placed
 unfolding IsInOrder
@@ -17,22 +20,22 @@ pub returns-clause-shown : goal.returns-clause-shown
 unfolding IsInOrder
 returns-clause-shown g c s shown =
     let e = c.insert.ensures in
-    inserted g.met.K.Key.Ord.total (g.K.KeyAdapter.key_of (adapter_of c.args.tree.now)) (plain_trees.one (plain_table c.args.links.now) (root_of c.args.tree.now))
-    c.args.objects.now c.requires.sorted c.requires.object s shown (accepted _ c.insert.result c.requires.unlinked e.refused (e.inserted s shown))
+    inserted g.met.K.Key.Ord.total (g.K.KeyAdapter.key_of (adapter_of c.args.tree.now)) (λ s u. one_sequence)
+    c.args.objects.now c.requires.sorted c.requires.object s shown (accepted c.insert.result (g.met.L.AcceptsUnlinked.refused_is_linked _ _ _) c.requires.unlinked e.refused (e.inserted s shown))
 
 pub returns-clause-sorted : goal.returns-clause-sorted
 unfolding IsInOrder
 returns-clause-sorted g c =
     let e = c.insert.ensures in
     let o = c.requires.sorted in
-    rw e.adapter (inserted_in_order g.met.K.Key.Ord.total (g.K.KeyAdapter.key_of (adapter_of c.args.tree.now)) (plain_trees.one (plain_table c.args.links.now) (root_of c.args.tree.now))
-    c.args.objects.now o c.requires.object (accepted _ c.insert.result c.requires.unlinked e.refused (e.inserted o.placed.members o.placed.shown)))
+    rw e.adapter (inserted_in_order g.met.K.Key.Ord.total (g.K.KeyAdapter.key_of (adapter_of c.args.tree.now)) (λ s u. one_sequence)
+    c.args.objects.now o c.requires.object (accepted c.insert.result (g.met.L.AcceptsUnlinked.refused_is_linked _ _ _) c.requires.unlinked e.refused (e.inserted o.placed.members o.placed.shown)))
 
 pub returns-clause-frame : goal.returns-clause-frame
 returns-clause-frame g c s shown =
     let e = c.insert.ensures in
-    let x = accepted _ c.insert.result c.requires.unlinked e.refused (e.inserted s shown) in
-    subst (λ (u : List Place). KeepsBeside (plain_table c.args.links.now) (plain_table c.insert.new.links) (c.args.object ∷ u)) x.same x.inserted.frame
+    let x = accepted c.insert.result (g.met.L.AcceptsUnlinked.refused_is_linked _ _ _) c.requires.unlinked e.refused (e.inserted s shown) in
+    subst (λ (u : List Place). KeepsBeside (g.L.LinkOps.table c.args.links.now) (g.L.LinkOps.table c.insert.new.links) (c.args.object ∷ u)) x.same x.inserted.frame
 
 pub returns-clause-shows : goal.returns-clause-shows
 unfolding IsInOrder

@@ -1,6 +1,5 @@
-use Rattle.ic_rbtree.specs.PlainTrees.{plain_table}
-use Rattle.ic_rbtree.specs.Tree.{adapter_of, root_of}
-use Rattle.ic_rbtree.proofs.PlainTrees.{plain_trees}
+use Rattle.ic_rbtree.specs.Tree.{adapter_of}
+use Rattle.ic_link_ops.proofs.ShownTrees.{one_sequence}
 use Rattle.ic_plain.specs.SortedTrees.{IsInOrder}
 use Rattle.ic_plain.proofs.KeyOrder.{bounded}
 use Rattle.ic_plain.proofs.rbtree.lower_bound.Goals as goal
@@ -13,6 +12,6 @@ pub returns : goal.returns
 unfolding IsInOrder
 returns g c = record {
   found = λ s shown.
-      rw c.get_ptr.ensures (bounded g.met.K.Key.Ord.total (g.K.KeyAdapter.key_of (adapter_of c.args.tree.now)) (plain_trees.one (plain_table c.args.links.now) (root_of c.args.tree.now))
+      rw c.get_ptr.ensures (bounded g.met.K.Key.Ord.total (g.K.KeyAdapter.key_of (adapter_of c.args.tree.now)) (λ s u. one_sequence)
       c.args.objects.now c.requires.sorted c.args.key.now s shown (c.lower_bound.ensures.border s shown));
 }

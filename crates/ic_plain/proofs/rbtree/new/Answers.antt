@@ -1,16 +1,12 @@
-use Rattle.std.proofs.Common.{[]}
 use Rattle.ic_rbtree.specs.Tree.{adapter_of}
-use Rattle.ic_rbtree.proofs.PlainTrees.{plain_trees}
 use Rattle.ic_plain.specs.SortedTrees.{IsInOrder}
 use Rattle.ic_plain.proofs.KeyOrder.{nothing_in_order}
 use Rattle.ic_plain.proofs.rbtree.new.Goals as goal
-
-pub returns-clause-empty : goal.returns-clause-empty
-returns-clause-empty g c t = rw c.new.ensures.empty (plain_trees.nothing t)
 
 pub returns-clause-sorted : goal.returns-clause-sorted
 unfolding IsInOrder
 returns-clause-sorted g c t objects = nothing_in_order (g.K.KeyAdapter.key_of (adapter_of c.new.result)) t objects c.new.ensures.empty
 
-pub returns-clause-shows : goal.returns-clause-shows
-returns-clause-shows g c t = ([], returns-clause-empty g c t)
+pub returns-clause-narrow_sorted : goal.returns-clause-narrow_sorted
+unfolding IsInOrder
+returns-clause-narrow_sorted g c t objects = nothing_in_order (g.K.KeyAdapter.key_of (adapter_of c.new.result)) t objects c.new.ensures.empty

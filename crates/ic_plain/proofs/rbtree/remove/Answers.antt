@@ -1,7 +1,6 @@
 use Rattle.std.proofs.Common.{◌++◌}
-use Rattle.ic_rbtree.specs.PlainTrees.{plain_table}
-use Rattle.ic_rbtree.specs.Tree.{adapter_of, root_of}
-use Rattle.ic_rbtree.proofs.PlainTrees.{plain_trees}
+use Rattle.ic_rbtree.specs.Tree.{adapter_of}
+use Rattle.ic_link_ops.proofs.ShownTrees.{one_sequence}
 use Rattle.ic_plain.specs.SortedTrees.{IsInOrder}
 use Rattle.ic_plain.proofs.KeyOrder.{removed_in_order}
 use Rattle.ic_plain.proofs.rbtree.remove.Goals as goal
@@ -10,7 +9,7 @@ pub returns-clause-sorted : goal.returns-clause-sorted
 unfolding IsInOrder
 returns-clause-sorted g c objects o =
     let e = c.remove.ensures in
-    rw e.adapter (removed_in_order g.met.K.Key.Ord.total (g.K.KeyAdapter.key_of (adapter_of c.args.tree.now)) (plain_trees.one (plain_table c.args.links.now) (root_of c.args.tree.now))
+    rw e.adapter (removed_in_order g.met.K.Key.Ord.total (g.K.KeyAdapter.key_of (adapter_of c.args.tree.now)) (λ s u. one_sequence)
     c.requires.member e.removed objects o)
 
 pub returns-clause-shows : goal.returns-clause-shows
