@@ -1,43 +1,83 @@
 //! The lists: each plain call once.
 
-ghost use Rattle.ic_link_ops.specs.DoublyEntries.{is_linked, plain_table, PlainShowsSome};
-ghost use Rattle.ic_link_ops.specs.Tables.{IsCovered, IsUnlinked};
+ghost use Rattle.std.specs.Prelude.{[]};
+ghost use Rattle.ic_link_ops.specs.DoublyEntries.{DoublyLink, ShowsList, neighbors_of};
+ghost use Rattle.ic_link_ops.specs.LinkedList.{ShowsSome};
+ghost use Rattle.ic_link_ops.specs.Tables.{Table, IsCovered, IsUnlinked};
+ghost use Rattle.ic_plain.specs.SinglyEntries as singly;
+ghost use Rattle.ic_plain.specs.XorEntries as xor;
 
 use crate::fixtures::{check, covering, index, index_of, unlinked};
-use ic_linked_list::{LinkOps, LinkedList};
-use ic_plain::{linked_list, singly_linked_list, xor_linked_list};
+use ic_link_ops::linked_list::NarrowLinkOps;
+use ic_linked_list::{LinkOps, LinkedList, LinkedListOps};
+use ic_plain::example::slide;
+use ic_plain::{AcceptsUnlinked, linked_list, singly_linked_list, xor_linked_list};
 use ic_singly_linked_list::SinglyLinkedList;
 use ic_unsafe_ref::UnsafeRef;
 use ic_xor_linked_list::XorLinkedList;
 
+// New lists, in the words of the plain tables of 8-byte words.
+fn new_doubly() -> LinkedList<u64>
+    ensures empty { (t : Table DoublyLink) → ShowsList t result [] }
+    ensures shows { (t : Table DoublyLink) → ShowsSome neighbors_of t result }
+{
+    linked_list::new()
+}
+
+fn new_singly() -> SinglyLinkedList<u64>
+    ensures empty { (t : Table singly.SinglyLink) → singly.ShowsList t result [] }
+    ensures shows { (t : Table singly.SinglyLink) → singly.ShowsSomeList t result }
+{
+    singly_linked_list::new()
+}
+
+fn new_xor() -> XorLinkedList<u64>
+    ensures empty { (t : Table xor.XorLink) → xor.ShowsList t result [] }
+    ensures shows { (t : Table xor.XorLink) → xor.ShowsSomeList t result }
+{
+    xor_linked_list::new()
+}
+
 // Puts the object behind all others, and then in front of them.
-fn push_to_front(list: &mut LinkedList<u64>, links: &mut LinkOps, object: UnsafeRef<u64>)
-    requires covered { IsCovered (plain_table links.old) object }
-    requires unlinked { IsUnlinked is_linked (plain_table links.old) object }
-    requires shown { PlainShowsSome links.old list.old }
-    ensures shown { PlainShowsSome links.new list.new }
+fn push_to_front<L: LinkedListOps + AcceptsUnlinked>(
+    list: &mut LinkedList<u64>,
+    links: &mut L,
+    object: UnsafeRef<u64>,
+)
+    requires covered { IsCovered (L.table links.old) object }
+    requires unlinked { IsUnlinked L.linked (L.table links.old) object }
+    requires shown { ShowsSome L.neighbors (L.table links.old) list.old }
+    ensures shown { ShowsSome L.neighbors (L.table links.new) list.new }
 {
     linked_list::push_back(list, links, UnsafeRef::new(object.place()));
     linked_list::move_to_front(list, links, &object);
 }
 
 // Puts the object behind all others, and once more.
-fn push_to_back(list: &mut LinkedList<u64>, links: &mut LinkOps, object: UnsafeRef<u64>)
-    requires covered { IsCovered (plain_table links.old) object }
-    requires unlinked { IsUnlinked is_linked (plain_table links.old) object }
-    requires shown { PlainShowsSome links.old list.old }
-    ensures shown { PlainShowsSome links.new list.new }
+fn push_to_back<L: LinkedListOps + AcceptsUnlinked>(
+    list: &mut LinkedList<u64>,
+    links: &mut L,
+    object: UnsafeRef<u64>,
+)
+    requires covered { IsCovered (L.table links.old) object }
+    requires unlinked { IsUnlinked L.linked (L.table links.old) object }
+    requires shown { ShowsSome L.neighbors (L.table links.old) list.old }
+    ensures shown { ShowsSome L.neighbors (L.table links.new) list.new }
 {
     linked_list::push_back(list, links, UnsafeRef::new(object.place()));
     linked_list::move_to_back(list, links, &object);
 }
 
 // Puts the object behind all others, and takes it off.
-fn push_and_remove(list: &mut LinkedList<u64>, links: &mut LinkOps, object: UnsafeRef<u64>)
-    requires covered { IsCovered (plain_table links.old) object }
-    requires unlinked { IsUnlinked is_linked (plain_table links.old) object }
-    requires shown { PlainShowsSome links.old list.old }
-    ensures shown { PlainShowsSome links.new list.new }
+fn push_and_remove<L: LinkedListOps + AcceptsUnlinked>(
+    list: &mut LinkedList<u64>,
+    links: &mut L,
+    object: UnsafeRef<u64>,
+)
+    requires covered { IsCovered (L.table links.old) object }
+    requires unlinked { IsUnlinked L.linked (L.table links.old) object }
+    requires shown { ShowsSome L.neighbors (L.table links.old) list.old }
+    ensures shown { ShowsSome L.neighbors (L.table links.new) list.new }
 {
     linked_list::push_back(list, links, UnsafeRef::new(object.place()));
     linked_list::remove(list, links, &object);
@@ -46,7 +86,7 @@ fn push_and_remove(list: &mut LinkedList<u64>, links: &mut LinkOps, object: Unsa
 #[test]
 fn doubly_linked(rt: HostRuntime) {
     let mut links: LinkOps = covering(&rt, rt.alloc());
-    let mut list: LinkedList<u64> = linked_list::new();
+    let mut list = new_doubly();
     check(&rt, linked_list::is_empty(&list, &links));
     let object = unlinked(&rt, &links, 1);
     linked_list::push_back(&mut list, &mut links, object);
@@ -73,7 +113,7 @@ fn doubly_linked(rt: HostRuntime) {
 #[test]
 fn xor_linked(rt: HostRuntime) {
     let mut links: ic_xor_linked_list::LinkOps = covering(&rt, rt.alloc());
-    let mut list: XorLinkedList<u64> = xor_linked_list::new();
+    let mut list = new_xor();
     let object = unlinked(&rt, &links, 1);
     xor_linked_list::push_front(&mut list, &mut links, object);
     let object = unlinked(&rt, &links, 2);
@@ -93,7 +133,7 @@ fn xor_linked(rt: HostRuntime) {
 #[test]
 fn singly_linked(rt: HostRuntime) {
     let mut links: ic_singly_linked_list::LinkOps = covering(&rt, rt.alloc());
-    let mut list: SinglyLinkedList<u64> = singly_linked_list::new();
+    let mut list = new_singly();
     let object = unlinked(&rt, &links, 1);
     singly_linked_list::push_front(&mut list, &mut links, object);
     let object = unlinked(&rt, &links, 2);
@@ -105,4 +145,57 @@ fn singly_linked(rt: HostRuntime) {
     ];
     check(&rt, first == 2 && left == [2, 1]);
     check(&rt, singly_linked_list::is_empty(&list, &links));
+}
+
+// Promise: plain calls over 4-byte words.
+#[test]
+fn doubly_linked_over_narrow_links(rt: HostRuntime) {
+    let mut links: NarrowLinkOps = covering(&rt, rt.alloc());
+    let mut list: LinkedList<u64> = linked_list::new();
+    let object = unlinked(&rt, &links, 1);
+    linked_list::push_front(&mut list, &mut links, object);
+    let object = unlinked(&rt, &links, 0);
+    push_and_remove(&mut list, &mut links, object);
+    let object = unlinked(&rt, &links, 2);
+    push_to_back(&mut list, &mut links, object);
+    let object = unlinked(&rt, &links, 3);
+    push_to_front(&mut list, &mut links, object);
+    // they stand as 3, 1, 2
+    let object = unlinked(&rt, &links, 0);
+    let first = index_of(slide(&mut list, &mut links, object));
+    let ends = [
+        index(linked_list::first(&list, &links)),
+        index(linked_list::last(&list, &links)),
+    ];
+    check(&rt, first == 3 && ends == [1, 0]);
+}
+
+#[test]
+fn xor_linked_over_narrow_links(rt: HostRuntime) {
+    let mut links: ic_link_ops::xor_linked_list::NarrowLinkOps = covering(&rt, rt.alloc());
+    let mut list: XorLinkedList<u64> = xor_linked_list::new();
+    let object = unlinked(&rt, &links, 1);
+    xor_linked_list::push_front(&mut list, &mut links, object);
+    let object = unlinked(&rt, &links, 2);
+    xor_linked_list::push_back(&mut list, &mut links, object);
+    let left = [
+        index_of(xor_linked_list::pop_back(&mut list, &mut links)),
+        index_of(xor_linked_list::pop_front(&mut list, &mut links)),
+    ];
+    check(&rt, left == [2, 1]);
+}
+
+#[test]
+fn singly_linked_over_narrow_links(rt: HostRuntime) {
+    let mut links: ic_link_ops::singly_linked_list::NarrowLinkOps = covering(&rt, rt.alloc());
+    let mut list: SinglyLinkedList<u64> = singly_linked_list::new();
+    let object = unlinked(&rt, &links, 1);
+    singly_linked_list::push_front(&mut list, &mut links, object);
+    let object = unlinked(&rt, &links, 2);
+    singly_linked_list::push_front(&mut list, &mut links, object);
+    let left = [
+        index_of(singly_linked_list::pop_front(&mut list, &mut links)),
+        index_of(singly_linked_list::pop_front(&mut list, &mut links)),
+    ];
+    check(&rt, left == [2, 1]);
 }

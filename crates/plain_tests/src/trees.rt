@@ -1,12 +1,16 @@
 //! The tree: each plain call once.
 
 ghost use Rattle.std.specs.Ordering.{nat_cmp};
+ghost use Rattle.ic_link_ops.specs.PlainTables.{table};
+ghost use Rattle.ic_link_ops.specs.RedBlackTree.{ShowsSome};
 ghost use Rattle.ic_link_ops.specs.Tables.{IsCovered};
-ghost use Rattle.ic_rbtree.specs.PlainTrees.{plain_table, PlainShowsSome};
+ghost use Rattle.ic_rbtree.specs.PlainTrees.{node_by, plain_table, PlainShowsSome};
 ghost use Rattle.ic_rbtree.specs.Tree.{root_of};
 ghost use Rattle.ic_plain.specs.SortedTrees.{IsInOrder};
 
 use crate::fixtures::{check, covering, index, index_of, unlinked};
+use ic_link_ops::rbtree::NarrowLinkOps;
+use ic_link_ops::{NodeWords, PlainTable};
 use ic_plain::example::{ByDeadline, Timer, first_from};
 use ic_plain::rbtree;
 use ic_rbtree::{KeyAdapter, LinkOps, RBTree};
@@ -30,17 +34,17 @@ fn timers_at(rt: &impl Abort, alloc: Global, deadlines: &[u64]) -> Objects<Timer
 }
 
 // Puts the timer at the place of this index into the tree.
-fn add(
+fn add<W: NodeWords>(
     rt: &impl Abort,
     tree: &mut RBTree<ByDeadline>,
-    links: &mut LinkOps,
+    links: &mut PlainTable<W>,
     objects: &Objects<Timer>,
     index: usize,
 )
-    requires sorted { IsInOrder nat_cmp ⟦<ByDeadline as KeyAdapter>⟧.key_of (plain_table links.old) tree.old objects.now }
-    requires shown { PlainShowsSome links.old (root_of tree.old) }
-    ensures sorted { IsInOrder nat_cmp ⟦<ByDeadline as KeyAdapter>⟧.key_of (plain_table links.new) tree.new objects.now }
-    ensures shown { PlainShowsSome links.new (root_of tree.new) }
+    requires sorted { IsInOrder nat_cmp ⟦<ByDeadline as KeyAdapter>⟧.key_of (node_by W.node) (table W.width W.unlinked links.old) tree.old objects.now }
+    requires shown { ShowsSome (node_by W.node) (table W.width W.unlinked links.old) (root_of tree.old) }
+    ensures sorted { IsInOrder nat_cmp ⟦<ByDeadline as KeyAdapter>⟧.key_of (node_by W.node) (table W.width W.unlinked links.new) tree.new objects.now }
+    ensures shown { ShowsSome (node_by W.node) (table W.width W.unlinked links.new) (root_of tree.new) }
 {
     let timer = unlinked(rt, &*links, index);
     assert!(rt; objects.is_placed(timer.place()));
@@ -91,4 +95,26 @@ fn tree_in_order(rt: HostRuntime) {
     check(&rt, ends == [1, 0] && found == [1, 9, 2, 9]);
     check(&rt, sides == [1, 2] && left == [1, 0, 3]);
     check(&rt, first_from(&tree, &links, &objects, 20) == Some(7));
+}
+
+#[test]
+fn tree_in_order_over_narrow_links(rt: HostRuntime) {
+    let objects = timers_at(&rt, rt.alloc(), &[30, 10, 20, 10]);
+    let mut links: NarrowLinkOps = covering(&rt, rt.alloc());
+    let mut tree = rbtree::new(ByDeadline);
+    // they stand as 1, 3, 2, 0
+    add(&rt, &mut tree, &mut links, &objects, 0);
+    add(&rt, &mut tree, &mut links, &objects, 1);
+    add(&rt, &mut tree, &mut links, &objects, 2);
+    add(&rt, &mut tree, &mut links, &objects, 3);
+    let found = [
+        index(rbtree::find(&tree, &links, &objects, &10)),
+        index(rbtree::lower_bound(&tree, &links, &objects, &15)),
+    ];
+    let left = [
+        index_of(rbtree::remove_key(&mut tree, &mut links, &objects, &10)),
+        index_of(rbtree::pop_back(&mut tree, &mut links)),
+        index_of(rbtree::pop_front(&mut tree, &mut links)),
+    ];
+    check(&rt, found == [1, 2] && left == [1, 0, 3]);
 }
