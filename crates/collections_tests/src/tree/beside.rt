@@ -9,9 +9,9 @@ ghost use Rattle.ic_rbtree.specs.Tree.{root_of, ends_of};
 
 use crate::notes::assert_words;
 use crate::tree::trees::OwnKey;
-use ic_link_ops::LinkValues;
-use ic_link_ops::rbtree::{LinkOpsWith, RBTreeOps};
-use ic_rbtree::{RBTree, RBTreeCached};
+use ic_link_ops::rbtree::{LinkOpsWith, NarrowLinkOpsWith, RBTreeOps};
+use ic_link_ops::{Link, LinkValues, ThreeNarrowWords};
+use ic_rbtree::{KeyAdapter, RBTree, RBTreeCached};
 use ic_test_support::answers::write_places;
 use ic_test_support::notes::Text;
 use ic_test_support::objects::{place_at, reference};
@@ -34,11 +34,11 @@ fn write_inserted<L: RBTreeOps + LinkValues<u64>>(
 }
 
 // Does so in a tree that keeps its ends, and notes both.
-fn write_inserted_cached<L: RBTreeOps + LinkValues<u64>>(
+fn write_inserted_cached<K: KeyAdapter, L: RBTreeOps + LinkValues<K::Value>>(
     notes: &mut Text,
-    tree: &mut RBTreeCached<OwnKey>,
+    tree: &mut RBTreeCached<K>,
     links: &mut L,
-    object: UnsafeRef<u64>,
+    object: UnsafeRef<K::Value>,
 )
     requires covered { IsCovered (L.table links.old) object }
     requires placed { ShowsPlaced (ShowsWithEnds L.node (L.table links.old) (ends_of tree.old)) (L.values links.old) }
@@ -66,4 +66,56 @@ fn keys_beside_links(rt: HostRuntime) {
     write_inserted_cached(&mut notes, &mut tree, &mut links, reference(2));
     write_inserted_cached(&mut notes, &mut tree, &mut links, reference(3));
     assert_words(&rt, &notes, "0 1 2 2 3 2");
+}
+
+// A link of 4-byte words takes 12 bytes, and 16 with a key of 4 bytes beside it.
+const _: () = prove!(size_of::<Link<ThreeNarrowWords, u32>>() == 16);
+
+/// Says that a number of 4 bytes is its own key.
+#[derive(Clone, Copy)]
+struct OwnNarrowKey;
+
+impl KeyAdapter for OwnNarrowKey {
+    type Value = u32;
+
+    type Key = u32;
+
+    ghost key_of = { λ _ value. value };
+
+    fn get_key<'v>(&self, value: &'v u32) -> &'v u32 {
+        value
+    }
+}
+
+// Puts the objects at the first three places in, whose keys are 20, 10 and 30, and notes the ends each time. Then notes the members with the
+// keys 20 and 30, and that none has the key 0.
+fn write_three<L: RBTreeOps + LinkValues<u32>>(notes: &mut Text, links: &mut L)
+    requires covers { (L.table links.old).extent.places ≡ 4 }
+{
+    links.set_value(place_at(0), 20_u32);
+    links.set_value(place_at(1), 10_u32);
+    links.set_value(place_at(2), 30_u32);
+    let mut tree = RBTree::with_ends(OwnNarrowKey);
+    write_inserted_cached(notes, &mut tree, links, UnsafeRef::new(place_at(0)));
+    write_inserted_cached(notes, &mut tree, links, UnsafeRef::new(place_at(1)));
+    write_inserted_cached(notes, &mut tree, links, UnsafeRef::new(place_at(2)));
+    let own = &*links;
+    let found = [
+        tree.find(own, own, &20_u32).get_ptr(),
+        tree.find(own, own, &30_u32).get_ptr(),
+        tree.find(own, own, &0_u32).get_ptr(),
+    ];
+    write_places(notes, &found);
+}
+
+// A tree over links of 4-byte words, with keys of 4 bytes beside them.
+// Promise: keys beside 4-byte words.
+#[test]
+fn keys_beside_narrow_links(rt: HostRuntime) {
+    let mut notes = Text::new(rt.alloc());
+    let mut links: NarrowLinkOpsWith<u32> = NarrowLinkOpsWith::new(rt.alloc());
+    let _ = links.cover(4);
+    assert!(rt; links.covers() == 4);
+    write_three(&mut notes, &mut links);
+    assert_words(&rt, &notes, "0 0 1 0 1 2 0 2 none");
 }
