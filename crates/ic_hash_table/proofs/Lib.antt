@@ -6,6 +6,7 @@ pub mod EmptiedChains
 pub mod FoundMembers
 pub mod GrownTables
 pub mod HeldTables
+pub mod KeptBuckets
 pub mod NextMembers
 pub mod RemainingMembers
 pub mod RetainedMembers

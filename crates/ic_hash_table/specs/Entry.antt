@@ -14,7 +14,7 @@ use Rattle.ic_hash_table.specs.declared.entry.RefusedInsert.{RefusedInsert}
 use Rattle.ic_hash_table.specs.declared.entry.VacantEntry.{VacantEntry}
 use Rattle.ic_hash_table.specs.declared.table.HashTable.{HashTable}
 use Rattle.ic_hash_table.specs.Chains.{ShowsFrom}
-use Rattle.ic_hash_table.specs.HashTable.{adapter_of, slots_of, front_at, BelongsIn, Holds, HoldsWith}
+use Rattle.ic_hash_table.specs.HashTable.{adapter_of, slots_of, front_at, BelongsIn, Holds, HoldsWith, KeepsBuckets}
 use Rattle.ic_hash_table.specs.Slots.{slot_of}
 
 module _ {A B L : Type 0} where
@@ -61,7 +61,7 @@ module _ {A B L : Type 0} where
       (e.at < (slots_of e.table.now).used) × BelongsIn (slots_of e.table.now) (hash (adapter_of e.table.now)) objects e.at p
 
 -- THE OBJECT IS PUT IN, and the entry of the member is answered; or its link is refused, and it comes back with the entry, of a table as it was
-module _ {E A B L V K : Type 0} (successor : E → Successor) (table : L → Table E) (fronts : B → List (Option Place)) (hash : A → V → ℕ) (Does : L → L → List LinkStep → Type 0) (Refused : L → L → Place → Type 0) where
+module _ {E A B L V K : Type 0} (successor : E → Successor) (table : L → Table E) (fronts : B → List (Option Place)) (Rewrites : B → B → Type 0) (hash : A → V → ℕ) (Does : L → L → List LinkStep → Type 0) (Refused : L → L → Place → Type 0) where
   pub record EntersAt (objects : Objects V) (old : VacantEntry A B L) (object : Place) (result : Result (OccupiedEntry A B L) (RefusedInsert A B L V K)) : Type 0 where
     pub member : IfOk result (λ e. member_of e ≡ object)
     pub inserted : (s : List Place) → Holds successor hash fronts (table old.links.now) old.table.now objects s
@@ -69,6 +69,8 @@ module _ {E A B L V K : Type 0} (successor : E → Successor) (table : L → Tab
     pub can_remove : IfOk result (CanRemove successor table fronts)
     pub acquired : IfOk result (λ e. Does old.links.now e.links.now (acquires object ∷ []))
     pub adapter : IfOk result (λ e. adapter_of e.table.now ≡ adapter_of old.table.now)
+    pub slots : IfOk result (λ e. slots_of e.table.now ≡ slots_of old.table.now)
+    pub buckets : IfOk result (λ e. KeepsBuckets fronts Rewrites old.table.now e.table.now)
     pub borrows : IfOk result (λ e. (e.table.ghost_name ≡ old.table.ghost_name) × (e.links.ghost_name ≡ old.links.ghost_name))
     pub frame : (s : List Place) → Holds successor hash fronts (table old.links.now) old.table.now objects s
         → IfOk result (λ e. KeepsBeside (table old.links.now) (table e.links.now) (object ∷ s))

@@ -31,6 +31,15 @@ module _ {A B : Type 0} where
   abbrev pub front_at : (B → List (Option Place)) → HashTable A B → ℕ → Option Place
   front_at fronts table i = slice_index_or (fronts table.buckets) i None
 
+  -- the row of its buckets
+  abbrev pub buckets_of : HashTable A B → B
+  buckets_of table = table.buckets
+
+  -- IT HAS ITS BUCKETS STILL: as many, in the same memory, and each has the word that it had, or that of its first member now
+  pub record KeepsBuckets (fronts : B → List (Option Place)) (Rewrites : B → B → Type 0) (old new : HashTable A B) : Type 0 where
+    pub count : length (fronts new.buckets) ≡ length (fronts old.buckets)
+    pub rewrites : Rewrites old.buckets new.buckets
+
   -- its chains are empty and within its buckets
   pub record IsNew (fronts : B → List (Option Place)) (table : HashTable A B) : Type 0 where
     pub none : AllByRecursion (λ front. front ≡ None) (fronts table.buckets)

@@ -1,5 +1,7 @@
 pub mod Slots
 pub mod KeyProbe
+pub mod Buckets
+pub mod BucketLaws
 pub mod Chains
 pub mod HashTable
 pub mod Searches

@@ -1,5 +1,5 @@
 -- What a search tells of members, and how many of them it has looked at.
-use Rattle.std.specs.Prelude.{◌≡◌, ℕ, ◌+◌, ◌≤◌, Bool, true, false, nat_eq, Option, None, Some, IfSome, List, ◌∷◌, ◌++◌, length}
+use Rattle.std.specs.Prelude.{◌≡◌, ℕ, ◌+◌, ◌≤◌, Bool, true, false, nat_eq, Option, None, Some, IfSome, Result, Ok, Err, List, ◌∷◌, ◌++◌, length}
 use Rattle.std.specs.List.{AllByRecursion}
 use Rattle.ic_unsafe_ref.specs.declared.place.Place.{Place}
 use Rattle.ic_unsafe_ref.specs.Objects.{Objects, object_at}
@@ -17,6 +17,11 @@ matches equal objects p = passes equal (object_at objects p)
 -- whether the key of the object at a place is this one
 abbrev pub has_key : {V K : Type 0} → (K → K → Bool) → (V → K) → K → Objects V → Place → Bool
 has_key eq key_of key objects p = matches (λ value. eq key (key_of value)) objects p
+
+-- what a call found that its links may refuse: nothing where they did
+abbrev pub found_of : {X : Type 0} → Result (Option Place) X → Option Place
+found_of (Ok found) = found
+found_of (Err refused) = None
 
 -- whether it is this place
 abbrev pub is_place : Place → Place → Bool

@@ -1,26 +1,30 @@
 //! The buckets: the first member of each chain, by the chain's number.
 //!
 //! ```text
-//! let mut buckets = Vec::new(rt.alloc());
-//! for _ in 0..1024 {
-//!     buckets.push(PlaceWord::of(None))?;
-//! }
+//! let buckets = empty_buckets(rt.alloc(), 1024)?;
 //! let table = HashTable::new(ById, buckets);
 //! ```
 
-ghost use Rattle.std.specs.Prelude.{◌≡◌, ◌<◌, None, Option, List, length, map, slice_index_or, set};
+ghost use Rattle.std.specs.Prelude.{◌≡◌, ◌<◌, None, Option, List, length, slice_index_or, set};
 ghost use Rattle.ic_unsafe_ref.specs.declared.place.Place.{Place};
-ghost use Rattle.ic_unsafe_ref.specs.Places.{place_at};
+ghost use Rattle.ic_link_ops.specs.Tables.{IsNameable};
 
-use ic_link_ops::PlaceWord;
+use crate::bucket_word::{BucketWord, WideBucketWord};
+use ic_link_ops::LinkOps;
 use ic_unsafe_ref::Place;
 use std::alloc::Allocator;
 
 /// A row of first members, of fixed length: a `Vec` that the caller has made, an array, or memory that is lent. It has no call that could
 /// take memory.
-pub trait Buckets {
+pub trait BucketRow {
     // The first member of each chain, none where it is empty.
     ghost fronts: { Self → List (Option Place) };
+
+    // The buckets have room for the name of this place.
+    ghost CanKeep: { Place → Type 0 };
+
+    // THE SAME BUCKETS, as many and in the same memory: each has the word that it had, or that of its first member now.
+    ghost Rewrites: { Self → Self → Type 0 };
 
     /// How many there are. O(1).
     fn count(&self) -> usize
@@ -31,14 +35,44 @@ pub trait Buckets {
         requires within { at < length (fronts self.now) }
         ensures { result ≡ slice_index_or (fronts self.now) at None };
 
-    /// Sets the first member of chain `at`, `None` for an empty one. It requires that there is such a bucket. O(1).
+    /// Sets the first member of chain `at`, `None` for an empty one. It requires that there is such a bucket, with room for the name. O(1).
     fn set_front(&mut self, at: usize, front: Option<Place>)
         requires within { at < length (fronts self.old) }
-        ensures { fronts self.new ≡ set (fronts self.old) at front };
+        requires kept { IsNameable CanKeep front }
+        ensures fronts { fronts self.new ≡ set (fronts self.old) at front }
+        ensures rewrites { Rewrites self.old self.new };
+
+    // The laws: what stays is the same; the same of the same is the same; and as many.
+    ghost rewrites_none: { (b : Self) → Rewrites b b };
+
+    ghost rewrites_on: { (a b c : Self) → Rewrites a b → Rewrites b c → Rewrites a c };
+
+    ghost rewrites_count: { (a b : Self) → Rewrites a b → length (fronts b) ≡ length (fronts a) };
 }
 
-impl<A: Allocator> Buckets for Vec<PlaceWord, A> {
-    ghost fronts = { λ v. v.items };
+/// Buckets with room for every place.
+pub trait Buckets: BucketRow {
+    ghost keeps_all: { (place : Place) → Self.CanKeep place };
+}
+
+/// Buckets with room for each place that links of this type can name.
+pub trait BucketsFor<L: LinkOps>: BucketRow {
+    ghost keeps_named: { (place : Place) → L.CanName place → Self.CanKeep place };
+}
+
+impl<B: Buckets, L: LinkOps> BucketsFor<L> for B {
+    ghost keeps_named = { λ place named. B.keeps_all place };
+}
+
+impl<W: BucketWord, A: Allocator> BucketRow for Vec<W, A> {
+    ghost use Rattle.ic_hash_table.specs.Buckets.{AreRewritten};
+    ghost use Rattle.ic_hash_table.specs.BucketLaws.{rewritten_none, rewritten_on, rewritten_count, fronts_alike};
+
+    ghost fronts = { λ v. W.fronts v.items };
+
+    ghost CanKeep = { W.CanKeep };
+
+    ghost Rewrites = { λ old new. AreRewritten W.front_of W.word_for old.items new.items };
 
     #[inline]
     fn count(&self) -> usize {
@@ -52,12 +86,29 @@ impl<A: Allocator> Buckets for Vec<PlaceWord, A> {
 
     #[inline]
     fn set_front(&mut self, at: usize, front: Option<Place>) {
-        self[at] = PlaceWord::of(front);
+        self[at] = W::of(front);
     }
+
+    ghost rewrites_none = { λ b. rewritten_none W.front_of W.word_for b.items };
+
+    ghost rewrites_on = { λ a b c. rewritten_on W.front_of W.word_for a.items b.items c.items };
+
+    ghost rewrites_count = { λ a b r. fronts_alike W.fronts_are _ _ (rewritten_count W.front_of W.word_for a.items b.items r) };
 }
 
-impl<const N: usize> Buckets for [PlaceWord; N] {
-    ghost fronts = { λ a. a };
+impl<W: WideBucketWord, A: Allocator> Buckets for Vec<W, A> {
+    ghost keeps_all = { W.keeps_all };
+}
+
+impl<W: BucketWord, const N: usize> BucketRow for [W; N] {
+    ghost use Rattle.ic_hash_table.specs.Buckets.{AreRewritten};
+    ghost use Rattle.ic_hash_table.specs.BucketLaws.{rewritten_none, rewritten_on, rewritten_count, fronts_alike};
+
+    ghost fronts = { λ a. W.fronts a };
+
+    ghost CanKeep = { W.CanKeep };
+
+    ghost Rewrites = { AreRewritten W.front_of W.word_for };
 
     #[inline]
     fn count(&self) -> usize {
@@ -71,13 +122,31 @@ impl<const N: usize> Buckets for [PlaceWord; N] {
 
     #[inline]
     fn set_front(&mut self, at: usize, front: Option<Place>) {
-        self[at] = PlaceWord::of(front);
+        self[at] = W::of(front);
     }
+
+    ghost rewrites_none = { λ b. rewritten_none W.front_of W.word_for b };
+
+    ghost rewrites_on = { λ a b c. rewritten_on W.front_of W.word_for a b c };
+
+    ghost rewrites_count = { λ a b r. fronts_alike W.fronts_are _ _ (rewritten_count W.front_of W.word_for a b r) };
 }
 
-/// Buckets that stand elsewhere, in memory that is lent. Whoever lends them has them back when the table is gone.
-impl Buckets for &mut [PlaceWord] {
-    ghost fronts = { λ s. s.now };
+impl<W: WideBucketWord, const N: usize> Buckets for [W; N] {
+    ghost keeps_all = { W.keeps_all };
+}
+
+/// Buckets that stand elsewhere, in memory that is lent, as of a file that is mapped. Whoever lends them has them back when the table is
+/// gone.
+impl<W: BucketWord> BucketRow for &mut [W] {
+    ghost use Rattle.ic_hash_table.specs.Buckets.{AreRewrittenIn};
+    ghost use Rattle.ic_hash_table.specs.BucketLaws.{lent_none, lent_on, rewritten_count, fronts_alike};
+
+    ghost fronts = { λ s. W.fronts s.now };
+
+    ghost CanKeep = { W.CanKeep };
+
+    ghost Rewrites = { AreRewrittenIn W.front_of W.word_for };
 
     #[inline]
     fn count(&self) -> usize {
@@ -93,47 +162,16 @@ impl Buckets for &mut [PlaceWord] {
 
     #[inline]
     fn set_front(&mut self, at: usize, front: Option<Place>) {
-        self[at] = PlaceWord::of(front);
+        self[at] = W::of(front);
     }
+
+    ghost rewrites_none = { λ b. lent_none W.front_of W.word_for b };
+
+    ghost rewrites_on = { λ a b c r s. lent_on W.front_of W.word_for a b c r s };
+
+    ghost rewrites_count = { λ a b r. fronts_alike W.fronts_are _ _ (rewritten_count W.front_of W.word_for a.now b.now r.1) };
 }
 
-// The word of a place is a multiple of 8 below this number, 2^36, as `Place::from_word` requires.
-const WORDS_END: u64 = 68_719_476_736;
-
-// The place that a word names, and none where it is no place's word.
-#[inline]
-#[tactic(auto, using(ic_unsafe_ref::proofs::PlaceLemmas::place_at_other))]
-fn place_named_by(word: u64) -> Option<Place>
-    ensures { result ≡ place_at word }
-{
-    if word % 8 != 0 || word >= WORDS_END {
-        return None;
-    }
-    Place::from_word(word)
-}
-
-/// Buckets that are plain words of memory that is lent, as of a file that is mapped: a bucket is the word of its chain's first member,
-/// `8 * (index + 1)`, and 0 where the chain is empty.
-///
-/// Every number is a bucket: one that is no place's word is read as 0 is. [`HashTable::from_buckets`](crate::HashTable::from_buckets)
-/// makes a table of words that were written before.
-impl Buckets for &mut [u64] {
-    ghost fronts = { λ words. map place_at words.now };
-
-    #[inline]
-    fn count(&self) -> usize {
-        let words = &**self;
-        words.len()
-    }
-
-    #[inline]
-    fn front(&self, at: usize) -> Option<Place> {
-        let words = &**self;
-        place_named_by(words[at])
-    }
-
-    #[inline]
-    fn set_front(&mut self, at: usize, front: Option<Place>) {
-        self[at] = Place::to_word(front);
-    }
+impl<W: WideBucketWord> Buckets for &mut [W] {
+    ghost keeps_all = { W.keeps_all };
 }

@@ -35,6 +35,7 @@ fn is_match<V, P: Probe<V>, O: Values<V>>(objects: &O, probe: &mut P, place: Pla
     ensures answer { result ≡ matches (P.equal probe.old) (O.values objects.now) place }
     ensures counted { P.count probe.new ≡ P.count probe.old + 1 }
     ensures same { P.equal probe.new ≡ P.equal probe.old }
+    ensures hash { P.hash probe.new ≡ P.hash probe.old }
 {
     probe.is_equal(objects.value(place))
 }
@@ -53,6 +54,7 @@ pub(crate) fn find_in_chain<V, L: SinglyLinkedListOps, P: Probe<V>, O: Values<V>
         → StopsAt (matches (P.equal probe.old) (O.values objects.now)) s result.0 result.1 }
     ensures looks { (s : List Place) → ShowsFrom L.successor (L.table links.now) front s
         → Looks P.equal P.count probe.old probe.new s }
+    ensures hash { P.hash probe.new ≡ P.hash probe.old }
 {
     let mut before = None;
     let mut current = front;

@@ -14,10 +14,10 @@ ghost use Rattle.ic_unsafe_ref.specs.Objects.{is_placed};
 ghost use Rattle.ic_link_ops.specs.LinkSteps.{acquires, releases};
 ghost use Rattle.ic_link_ops.specs.Tables.{IsCovered, KeepsBeside};
 ghost use Rattle.ic_hash_table.specs.Entry.{IfOccupied, IfVacant, member_of, CanRemove, CanInsert, IsChainFor, IsFoundIn, IsVacantIn, EntersAt};
-ghost use Rattle.ic_hash_table.specs.HashTable.{adapter_of, number, Holds, HoldsSome, HoldsWith};
+ghost use Rattle.ic_hash_table.specs.HashTable.{adapter_of, slots_of, number, Holds, HoldsSome, HoldsWith, KeepsBuckets};
 ghost use Rattle.ic_hash_table.specs.Searches.{has_key, Finds};
 
-use crate::{Buckets, HashAdapter, HashTable};
+use crate::{BucketRow, BucketsFor, HashAdapter, HashTable};
 use ic_link_ops::singly_linked_list::SinglyLinkedListOps;
 use ic_link_ops::{AlreadyLinked, LinkOps, PlaceWord};
 use ic_unsafe_ref::{UnsafeRef, Values};
@@ -84,7 +84,7 @@ pub enum Entry<'a, A, B, L> {
     Vacant(VacantEntry<'a, A, B, L>),
 }
 
-impl<A: HashAdapter, B: Buckets> HashTable<A, B> {
+impl<A: HashAdapter, B: BucketRow> HashTable<A, B> {
     /// The first member with this key, or the chain where an object with it belongs.
     ///
     /// It requires that all members are placed, with the keys that they were put in by. It looks as [`find`](HashTable::find), and takes no
@@ -124,7 +124,7 @@ impl<A: HashAdapter, B: Buckets> HashTable<A, B> {
     }
 }
 
-impl<A: HashAdapter, B: Buckets, L: SinglyLinkedListOps> OccupiedEntry<'_, A, B, L> {
+impl<A: HashAdapter, B: BucketsFor<L>, L: SinglyLinkedListOps> OccupiedEntry<'_, A, B, L> {
     /// The member. O(1).
     #[inline]
     pub fn get(&self) -> UnsafeRef<A::Value>
@@ -146,6 +146,8 @@ impl<A: HashAdapter, B: Buckets, L: SinglyLinkedListOps> OccupiedEntry<'_, A, B,
             → Holds L.successor (number A.key_of A.hash_of) B.fronts (L.table self.exit.1.0.now) self.exit.0.now (O.values objects.now) (front ++ back) }
         ensures released { L.Does self.entry.links.now self.exit.1.0.now (releases result ∷ []) }
         ensures adapter { adapter_of self.exit.0.now ≡ adapter_of self.entry.table.now }
+        ensures slots { slots_of self.exit.0.now ≡ slots_of self.entry.table.now }
+        ensures buckets { KeepsBuckets B.fronts B.Rewrites self.entry.table.now self.exit.0.now }
         ensures frame { (s : List Place)
             → Holds L.successor (number A.key_of A.hash_of) B.fronts (L.table self.entry.links.now) self.entry.table.now (O.values objects.now) s
             → KeepsBeside (L.table self.entry.links.now) (L.table self.exit.1.0.now) s }
@@ -163,7 +165,7 @@ impl<A: HashAdapter, B: Buckets, L: SinglyLinkedListOps> OccupiedEntry<'_, A, B,
     }
 }
 
-impl<'a, A: HashAdapter, B: Buckets, L: SinglyLinkedListOps> VacantEntry<'a, A, B, L> {
+impl<'a, A: HashAdapter, B: BucketsFor<L>, L: SinglyLinkedListOps> VacantEntry<'a, A, B, L> {
     /// Puts the object in, unless its link is refused. O(1): no hash, no look, and no memory.
     ///
     /// It requires that the object is placed, that its place is covered, and that the chain is the one of its key, as it is if its key
@@ -183,6 +185,8 @@ impl<'a, A: HashAdapter, B: Buckets, L: SinglyLinkedListOps> VacantEntry<'a, A, 
             → OnOk result (HoldsWith L.successor (number A.key_of A.hash_of) B.fronts (L.table self.exit.1.0.now) self.exit.0.now (O.values objects.now) s object) }
         ensures acquired { OnOk result (L.Does self.entry.links.now self.exit.1.0.now (acquires object ∷ [])) }
         ensures adapter { adapter_of self.exit.0.now ≡ adapter_of self.entry.table.now }
+        ensures slots { slots_of self.exit.0.now ≡ slots_of self.entry.table.now }
+        ensures buckets { KeepsBuckets B.fronts B.Rewrites self.entry.table.now self.exit.0.now }
         ensures refused { OnErr result (L.Refused self.entry.links.now self.exit.1.0.now object) }
         ensures unchanged { IfErr result (λ refused. (refused.0 ≡ object) × (self.exit.0.now ≡ self.entry.table.now)) }
         ensures frame { (s : List Place)
@@ -206,7 +210,7 @@ impl<'a, A: HashAdapter, B: Buckets, L: SinglyLinkedListOps> VacantEntry<'a, A, 
         requires placed { is_placed (O.values objects.now) object ≡ true }
         requires held { HoldsSome L.successor (number A.key_of A.hash_of) B.fronts (L.table self.links.now) self.table.now (O.values objects.now) }
         requires belongs { CanInsert (number A.key_of A.hash_of) (O.values objects.now) self object }
-        ensures entered { EntersAt L.successor L.table B.fronts (number A.key_of A.hash_of) L.Does L.Refused (O.values objects.now) self.entry object result }
+        ensures entered { EntersAt L.successor L.table B.fronts B.Rewrites (number A.key_of A.hash_of) L.Does L.Refused (O.values objects.now) self.entry object result }
     {
         let VacantEntry { table, links, at } = self;
         let front = table.buckets.front(at);
@@ -226,7 +230,7 @@ impl<'a, A: HashAdapter, B: Buckets, L: SinglyLinkedListOps> VacantEntry<'a, A, 
     }
 }
 
-impl<'a, A: HashAdapter, B: Buckets, L: SinglyLinkedListOps> Entry<'a, A, B, L> {
+impl<'a, A: HashAdapter, B: BucketsFor<L>, L: SinglyLinkedListOps> Entry<'a, A, B, L> {
     /// The entry of the member that has the key, or of the object, which is put in where none has it.
     ///
     /// Where the entry is vacant, it requires what [`VacantEntry::insert`] does, and a refused object comes back with the entry, the table as
@@ -242,7 +246,7 @@ impl<'a, A: HashAdapter, B: Buckets, L: SinglyLinkedListOps> Entry<'a, A, B, L> 
         requires held { IfVacant self (λ v. HoldsSome L.successor (number A.key_of A.hash_of) B.fronts (L.table v.links.now) v.table.now (O.values objects.now)) }
         requires belongs { IfVacant self (λ v. CanInsert (number A.key_of A.hash_of) (O.values objects.now) v object) }
         ensures occupied { IfOccupied self.entry (λ e. result ≡ Ok e) }
-        ensures vacant { IfVacant self.entry (λ v. EntersAt L.successor L.table B.fronts (number A.key_of A.hash_of) L.Does L.Refused (O.values objects.now) v object result) }
+        ensures vacant { IfVacant self.entry (λ v. EntersAt L.successor L.table B.fronts B.Rewrites (number A.key_of A.hash_of) L.Does L.Refused (O.values objects.now) v object result) }
     {
         match self {
             Entry::Occupied(found) => Ok(found),

@@ -15,17 +15,17 @@ ghost use Rattle.ic_link_ops.specs.LinkSteps.{acquires};
 ghost use Rattle.ic_link_ops.specs.Positions.{HasMember};
 ghost use Rattle.ic_link_ops.specs.Sequences.{first};
 ghost use Rattle.ic_link_ops.specs.Tables.{IsCovered, KeepsBeside};
-ghost use Rattle.ic_hash_table.specs.HashTable.{adapter_of, slots_of, number, Holds, HoldsSome, HoldsInFront};
+ghost use Rattle.ic_hash_table.specs.HashTable.{adapter_of, slots_of, number, Holds, HoldsSome, HoldsInFront, KeepsBuckets};
 ghost use Rattle.ic_hash_table.specs.SideBySide.{AreSideBySide, HoldsSideBySide, same_key};
 ghost use Rattle.ic_hash_table.specs.Searches.{has_key, Finds};
 
 use crate::chain_search::{find_in_chain, reference};
-use crate::{Buckets, HashAdapter, HashTable, KeyProbe};
+use crate::{BucketRow, BucketsFor, HashAdapter, HashTable, KeyProbe};
 use ic_link_ops::singly_linked_list::SinglyLinkedListOps;
 use ic_link_ops::{AlreadyLinked, LinkOps};
 use ic_unsafe_ref::{UnsafeRef, Values};
 
-impl<A: HashAdapter, B: Buckets> HashTable<A, B> {
+impl<A: HashAdapter, B: BucketRow> HashTable<A, B> {
     /// The next member behind this one that has an equal key, or `None` if none follows.
     ///
     /// It requires that the object is a member, with the key that it was put in by. From the one that [`find`](HashTable::find) returns on,
@@ -53,7 +53,9 @@ impl<A: HashAdapter, B: Buckets> HashTable<A, B> {
         let (_, found) = find_in_chain(links, objects, &mut probe, links.next(place));
         reference(found)
     }
+}
 
+impl<A: HashAdapter, B> HashTable<A, B> {
     /// Puts the object in, directly in front of the first member with an equal key where there is one, unless its link is refused.
     ///
     /// Then it is the first one with its key, and [`next_equal`](HashTable::next_equal) finds the others right behind it, where they stand
@@ -65,6 +67,8 @@ impl<A: HashAdapter, B: Buckets> HashTable<A, B> {
         objects: &O,
         object: UnsafeRef<A::Value>,
     ) -> Result<(), AlreadyLinked<A::Value>>
+    where
+        B: BucketsFor<L>,
         requires covered { IsCovered (L.table links.old) object }
         requires placed { is_placed (O.values objects.now) object ≡ true }
         requires held { HoldsSome L.successor (number A.key_of A.hash_of) B.fronts (L.table links.old) self.old (O.values objects.now) }
@@ -77,6 +81,7 @@ impl<A: HashAdapter, B: Buckets> HashTable<A, B> {
         ensures acquired { OnOk result (L.Does links.old links.new (acquires object ∷ [])) }
         ensures adapter { adapter_of self.new ≡ adapter_of self.old }
         ensures slots { slots_of self.new ≡ slots_of self.old }
+        ensures buckets { KeepsBuckets B.fronts B.Rewrites self.old self.new }
         ensures refused { OnErr result (L.Refused links.old links.new object) }
         ensures unchanged { IfErr result (λ refused. (refused.0 ≡ object) × (self.new ≡ self.old)) }
         ensures frame { (s : List Place) → Holds L.successor (number A.key_of A.hash_of) B.fronts (L.table links.old) self.old (O.values objects.now) s

@@ -22,7 +22,7 @@ ghost use Rattle.ic_hash_table.specs.Growth.{belongs_at, IsParted};
 ghost use Rattle.ic_hash_table.specs.Chains.{ShowsFrom};
 
 use crate::chain_edits::{join_chains, link_front};
-use crate::{Buckets, HashAdapter, HashTable, Slots};
+use crate::{BucketsFor, HashAdapter, HashTable, Slots};
 use ic_link_ops::LinkOps;
 use ic_link_ops::singly_linked_list::SinglyLinkedListOps;
 use ic_unsafe_ref::{Place, Values};
@@ -98,8 +98,8 @@ pub(crate) fn part_chain<A: HashAdapter, L: SinglyLinkedListOps, O: Values<A::Va
     halves
 }
 
-impl<A: HashAdapter, B: Buckets> HashTable<A, B> {
-    ghost use Rattle.ic_hash_table.specs.HashTable.{adapter_of, slots_of, fronts_of, Holds, HoldsSome, IsShown};
+impl<A: HashAdapter, B> HashTable<A, B> {
+    ghost use Rattle.ic_hash_table.specs.HashTable.{adapter_of, slots_of, fronts_of, Holds, HoldsSome, IsShown, KeepsBuckets};
     ghost use Rattle.ic_unsafe_ref.specs.Objects.{Objects};
     ghost use Rattle.ic_hash_table.specs.Growth.{HoldsSameMembers};
     ghost use Rattle.ic_hash_table.specs.SideBySide.{HoldsSideBySide};
@@ -115,6 +115,8 @@ impl<A: HashAdapter, B: Buckets> HashTable<A, B> {
         links: &mut L,
         objects: &O,
     ) -> bool
+    where
+        B: BucketsFor<L>,
         requires held { HoldsSome L.successor (number A.key_of A.hash_of) B.fronts (L.table links.old) self.old (O.values objects.now) }
         ensures holds { (s : List Place) → Holds L.successor (number A.key_of A.hash_of) B.fronts (L.table links.old) self.old (O.values objects.now) s
             → OnTrue result (HoldsSameMembers L.successor (number A.key_of A.hash_of) B.fronts (L.table links.new) self.new (O.values objects.now) s) }
@@ -125,6 +127,7 @@ impl<A: HashAdapter, B: Buckets> HashTable<A, B> {
         ensures full { OnFalse result ((self.new ≡ self.old) × (links.new ≡ links.old)) }
         ensures no_step { L.Does links.old links.new [] }
         ensures adapter { adapter_of self.new ≡ adapter_of self.old }
+        ensures buckets { KeepsBuckets B.fronts B.Rewrites self.old self.new }
         ensures frame { (s : List Place) → Holds L.successor (number A.key_of A.hash_of) B.fronts (L.table links.old) self.old (O.values objects.now) s
             → KeepsBeside (L.table links.old) (L.table links.new) s }
     {
@@ -154,6 +157,8 @@ impl<A: HashAdapter, B: Buckets> HashTable<A, B> {
     /// It requires that the links show its chains, and reads no object. All members stay, in some order, and where those with equal keys
     /// stood side by side, they still do. O(members of that chain): no hash, no look, no link is acquired or released, and it takes no memory.
     pub fn shrink_one<L: SinglyLinkedListOps>(&mut self, links: &mut L) -> bool
+    where
+        B: BucketsFor<L>,
         requires shown { (s : List Place) × IsShown L.successor B.fronts (L.table links.old) self.old s }
         ensures holds { (objects : Objects A.Value) (s : List Place) → Holds L.successor (number A.key_of A.hash_of) B.fronts (L.table links.old) self.old objects s
             → OnTrue result (HoldsSameMembers L.successor (number A.key_of A.hash_of) B.fronts (L.table links.new) self.new objects s) }
@@ -164,6 +169,7 @@ impl<A: HashAdapter, B: Buckets> HashTable<A, B> {
         ensures last { OnFalse result ((self.new ≡ self.old) × (links.new ≡ links.old)) }
         ensures no_step { L.Does links.old links.new [] }
         ensures adapter { adapter_of self.new ≡ adapter_of self.old }
+        ensures buckets { KeepsBuckets B.fronts B.Rewrites self.old self.new }
         ensures frame { (s : List Place) → IsShown L.successor B.fronts (L.table links.old) self.old s
             → KeepsBeside (L.table links.old) (L.table links.new) s }
     {

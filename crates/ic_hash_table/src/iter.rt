@@ -13,7 +13,7 @@ ghost use Rattle.ic_link_ops.specs.PlacedObjects.{values_at};
 ghost use Rattle.ic_link_ops.specs.Walk.{GivesFirst};
 ghost use Rattle.ic_hash_table.specs.HashTable.{number, Holds, HoldsSome};
 
-use crate::{Buckets, HashAdapter, HashTable};
+use crate::{BucketRow, HashAdapter, HashTable};
 use ic_cursors::Listing;
 use ic_link_ops::LinkOps;
 use ic_link_ops::singly_linked_list::SinglyLinkedListOps;
@@ -47,7 +47,7 @@ impl<A: HashAdapter, B, L, O> Drop for Iter<'_, A, B, L, O> {
     }
 }
 
-impl<'a, A: HashAdapter, B: Buckets, L: SinglyLinkedListOps, O: Values<A::Value>> Iterator
+impl<'a, A: HashAdapter, B: BucketRow, L: SinglyLinkedListOps, O: Values<A::Value>> Iterator
     for Iter<'a, A, B, L, O> {
     type Item = &'a A::Value;
 
@@ -87,7 +87,7 @@ impl<A: HashAdapter, B, L, O> Clone for Iter<'_, A, B, L, O> {
     }
 }
 
-impl<A: HashAdapter, B: Buckets> HashTable<A, B> {
+impl<A: HashAdapter, B: BucketRow> HashTable<A, B> {
     ghost use Rattle.ic_hash_table.specs.Iter.{objects_left, CanWalk};
 
     /// A walk over the objects of the table, chain by chain. It requires that all members are placed, with the keys that they were put in

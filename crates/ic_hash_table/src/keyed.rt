@@ -14,15 +14,15 @@ ghost use Rattle.ic_unsafe_ref.specs.Objects.{is_placed};
 ghost use Rattle.ic_link_ops.specs.LinkSteps.{acquires, releases};
 ghost use Rattle.ic_link_ops.specs.Sequences.{IsMember};
 ghost use Rattle.ic_link_ops.specs.Tables.{IsCovered, KeepsBeside};
-ghost use Rattle.ic_hash_table.specs.HashTable.{adapter_of, slots_of, number, Holds, HoldsSome, HoldsWith};
+ghost use Rattle.ic_hash_table.specs.HashTable.{adapter_of, slots_of, number, Holds, HoldsSome, HoldsWith, KeepsBuckets};
 ghost use Rattle.ic_hash_table.specs.Searches.{has_key, Finds};
 
-use crate::{Buckets, HashAdapter, HashTable};
+use crate::{BucketsFor, HashAdapter, HashTable};
 use ic_link_ops::singly_linked_list::SinglyLinkedListOps;
 use ic_link_ops::{AlreadyLinked, LinkOps, LinkValues};
 use ic_unsafe_ref::UnsafeRef;
 
-impl<A: HashAdapter, B: Buckets> HashTable<A, B> {
+impl<A: HashAdapter, B> HashTable<A, B> {
     /// Puts the object in, unless its link is refused: [`insert`](HashTable::insert) where the table of links keeps the values. O(1).
     ///
     /// It requires that the object's place is covered, and that the members and the object are placed. A refused object comes back, and the
@@ -33,6 +33,8 @@ impl<A: HashAdapter, B: Buckets> HashTable<A, B> {
         links: &mut L,
         object: UnsafeRef<A::Value>,
     ) -> Result<(), AlreadyLinked<A::Value>>
+    where
+        B: BucketsFor<L>,
         requires covered { IsCovered (L.table links.old) object }
         requires placed { is_placed (L.values links.old) object ≡ true }
         requires held { HoldsSome L.successor (number A.key_of A.hash_of) B.fronts (L.table links.old) self.old (L.values links.old) }
@@ -42,6 +44,7 @@ impl<A: HashAdapter, B: Buckets> HashTable<A, B> {
         ensures acquired { OnOk result (L.Does links.old links.new (acquires object ∷ [])) }
         ensures adapter { adapter_of self.new ≡ adapter_of self.old }
         ensures slots { slots_of self.new ≡ slots_of self.old }
+        ensures buckets { KeepsBuckets B.fronts B.Rewrites self.old self.new }
         ensures refused { OnErr result (L.Refused links.old links.new object) }
         ensures unchanged { IfErr result (λ refused. (refused.0 ≡ object) × (self.new ≡ self.old)) }
         ensures frame { (s : List Place) → Holds L.successor (number A.key_of A.hash_of) B.fronts (L.table links.old) self.old (L.values links.old) s
@@ -61,6 +64,8 @@ impl<A: HashAdapter, B: Buckets> HashTable<A, B> {
         links: &mut L,
         object: &UnsafeRef<A::Value>,
     ) -> bool
+    where
+        B: BucketsFor<L>,
         requires placed { is_placed (L.values links.old) object.now ≡ true }
         requires held { HoldsSome L.successor (number A.key_of A.hash_of) B.fronts (L.table links.old) self.old (L.values links.old) }
         ensures answer { (s : List Place) → Holds L.successor (number A.key_of A.hash_of) B.fronts (L.table links.old) self.old (L.values links.old) s
@@ -73,6 +78,7 @@ impl<A: HashAdapter, B: Buckets> HashTable<A, B> {
         ensures nothing { OnFalse result ((self.new ≡ self.old) × (links.new ≡ links.old)) }
         ensures adapter { adapter_of self.new ≡ adapter_of self.old }
         ensures slots { slots_of self.new ≡ slots_of self.old }
+        ensures buckets { KeepsBuckets B.fronts B.Rewrites self.old self.new }
         ensures frame { (s : List Place) → Holds L.successor (number A.key_of A.hash_of) B.fronts (L.table links.old) self.old (L.values links.old) s
             → KeepsBeside (L.table links.old) (L.table links.new) s }
     {
@@ -92,6 +98,8 @@ impl<A: HashAdapter, B: Buckets> HashTable<A, B> {
         links: &mut L,
         key: &A::Key,
     ) -> Option<UnsafeRef<A::Value>>
+    where
+        B: BucketsFor<L>,
         requires held { HoldsSome L.successor (number A.key_of A.hash_of) B.fronts (L.table links.old) self.old (L.values links.old) }
         ensures found { (s : List Place) → Holds L.successor (number A.key_of A.hash_of) B.fronts (L.table links.old) self.old (L.values links.old) s
             → Finds (has_key A.Key.eq (A.key_of (adapter_of self.old)) key.now (L.values links.old)) s result }
@@ -103,6 +111,7 @@ impl<A: HashAdapter, B: Buckets> HashTable<A, B> {
         ensures nothing { IfNone result ((self.new ≡ self.old) × (links.new ≡ links.old)) }
         ensures adapter { adapter_of self.new ≡ adapter_of self.old }
         ensures slots { slots_of self.new ≡ slots_of self.old }
+        ensures buckets { KeepsBuckets B.fronts B.Rewrites self.old self.new }
         ensures frame { (s : List Place) → Holds L.successor (number A.key_of A.hash_of) B.fronts (L.table links.old) self.old (L.values links.old) s
             → KeepsBeside (L.table links.old) (L.table links.new) s }
     {

@@ -16,6 +16,7 @@
 #![tactic(auto)]
 
 mod adapter;
+mod bucket_word;
 mod buckets;
 mod chain_edits;
 mod chain_search;
@@ -24,6 +25,8 @@ mod equal;
 mod growth;
 mod iter;
 mod keyed;
+mod narrow_buckets;
+mod new_buckets;
 mod probe;
 mod slots;
 mod std_hash;
@@ -32,9 +35,12 @@ mod table;
 mod whole;
 
 pub use adapter::HashAdapter;
-pub use buckets::Buckets;
+pub use bucket_word::{BucketWord, WideBucketWord};
+pub use buckets::{BucketRow, Buckets, BucketsFor};
 pub use entry::{Entry, OccupiedEntry, RefusedInsert, VacantEntry};
 pub use iter::Iter;
+pub use narrow_buckets::{NarrowLinks, NarrowWords};
+pub use new_buckets::{empty_buckets, empty_narrow_buckets};
 pub use probe::{KeyProbe, Probe};
 pub use slots::Slots;
 pub use std_hash::{KeyOf, StdHash};

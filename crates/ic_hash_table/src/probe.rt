@@ -30,12 +30,14 @@ pub trait Probe<V> {
 
     /// Whether what is searched equals `value`: a look.
     ///
-    /// It requires that the count of looks is below `u64::MAX`. It counts one more, and compares as before.
+    /// It requires that the count of looks is below `u64::MAX`. It counts one more, compares as before, and has
+    /// the same hash.
     fn is_equal(&mut self, value: &V) -> bool
         requires room { count self.old < 18446744073709551615 }
         ensures answer { result ≡ equal self.old value.now }
         ensures counted { count self.new ≡ count self.old + 1 }
-        ensures same { equal self.new ≡ equal self.old };
+        ensures same { equal self.new ≡ equal self.old }
+        ensures hash { hash self.new ≡ hash self.old };
 }
 
 /// A search for a key, by the adapter of a table.

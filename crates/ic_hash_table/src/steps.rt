@@ -14,13 +14,13 @@ ghost use Rattle.ic_link_ops.specs.Sequences.{Cut, join, first, IsAfter, IsBefor
 ghost use Rattle.ic_hash_table.specs.Chains.{AreChained};
 ghost use Rattle.ic_hash_table.specs.HashTable.{number};
 
-use crate::{Buckets, HashAdapter, HashTable};
+use crate::{BucketRow, HashAdapter, HashTable};
 use ic_link_ops::LinkOps;
 use ic_link_ops::singly_linked_list::SinglyLinkedListOps;
 use ic_unsafe_ref::{Place, Values};
 
 // The first member of the first chain that has one, from number `from` on.
-fn first_from<L: SinglyLinkedListOps, B: Buckets>(
+fn first_from<L: SinglyLinkedListOps, B: BucketRow>(
     links: &L,
     buckets: &B,
     from: usize,
@@ -40,7 +40,7 @@ fn first_from<L: SinglyLinkedListOps, B: Buckets>(
     None
 }
 
-impl<A: HashAdapter, B: Buckets> HashTable<A, B> {
+impl<A: HashAdapter, B: BucketRow> HashTable<A, B> {
     ghost use Rattle.ic_hash_table.specs.HashTable.{HoldsSome, Holds};
 
     /// The member behind this one, through all chains; behind `None` the first one. `None` where nothing follows.

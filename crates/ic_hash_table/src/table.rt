@@ -16,12 +16,12 @@ ghost use Rattle.ic_link_ops.specs.PlacedObjects.{ShowsPlaced};
 ghost use Rattle.ic_link_ops.specs.Tables.{IsCovered, KeepsBeside};
 ghost use Rattle.ic_link_ops.specs.SinglyLinkedList.{list_from, Shows};
 ghost use Rattle.ic_hash_table.specs.Slots.{slot_of};
-ghost use Rattle.ic_hash_table.specs.Searches.{matches, has_key, Finds, StopsAt, HasRoom, Looks};
+ghost use Rattle.ic_hash_table.specs.Searches.{found_of, matches, has_key, Finds, StopsAt, HasRoom, Looks};
 ghost use Rattle.ic_hash_table.specs.Chains.{ShowsFrom};
 
 use crate::chain_edits::unlink_behind;
 use crate::chain_search::{find_in_chain, find_place_in_chain};
-use crate::{Buckets, HashAdapter, KeyProbe, Probe, Slots};
+use crate::{BucketRow, BucketsFor, HashAdapter, KeyProbe, Probe, Slots};
 use ic_link_ops::singly_linked_list::SinglyLinkedListOps;
 use ic_link_ops::{AlreadyLinked, LinkOps};
 use ic_singly_linked_list::SinglyLinkedList;
@@ -75,8 +75,8 @@ impl<A, B> HashTable<A, B> {
     }
 }
 
-impl<A: HashAdapter, B: Buckets> HashTable<A, B> {
-    ghost use Rattle.ic_hash_table.specs.HashTable.{adapter_of, len_of, slots_of, fronts_of, front_at, number, Holds, HoldsSome, HoldsWith, IsNew};
+impl<A: HashAdapter, B: BucketRow> HashTable<A, B> {
+    ghost use Rattle.ic_hash_table.specs.HashTable.{adapter_of, buckets_of, len_of, slots_of, fronts_of, front_at, number, Holds, HoldsSome, IsNew};
     ghost use Rattle.ic_hash_table.specs.Slots.{IsWellFormed};
     ghost use Rattle.ic_hash_table.specs.declared.slots.Slots.{Slots};
 
@@ -90,6 +90,7 @@ impl<A: HashAdapter, B: Buckets> HashTable<A, B> {
         ensures adapter { adapter_of result ≡ adapter }
         ensures empty { IsNew B.fronts result }
         ensures used { (slots_of result).used ≡ length (B.fronts buckets) }
+        ensures buckets { buckets_of result ≡ buckets }
     {
         let used = buckets.count();
         HashTable::with_used(adapter, buckets, used)
@@ -106,6 +107,7 @@ impl<A: HashAdapter, B: Buckets> HashTable<A, B> {
         ensures adapter { adapter_of result ≡ adapter }
         ensures empty { IsNew B.fronts result }
         ensures used { (slots_of result).used ≡ used }
+        ensures buckets { buckets_of result ≡ buckets }
     {
         HashTable {
             adapter,
@@ -125,6 +127,7 @@ impl<A: HashAdapter, B: Buckets> HashTable<A, B> {
         requires few { used ≤ 4294967296 }
         ensures adapter { adapter_of result ≡ adapter }
         ensures fronts { fronts_of B.fronts result ≡ B.fronts buckets }
+        ensures buckets { buckets_of result ≡ buckets }
         ensures len { len_of result ≡ len }
         ensures used { (slots_of result).used ≡ used }
         ensures slots { (slots : Slots) → IsWellFormed slots → slots.used ≡ used → slots_of result ≡ slots }
@@ -139,7 +142,7 @@ impl<A: HashAdapter, B: Buckets> HashTable<A, B> {
 
     /// The buckets, with the first members that they have. [`from_buckets`](HashTable::from_buckets) makes the same table of them again. O(1).
     pub fn into_buckets(self) -> B
-        ensures { B.fronts result ≡ fronts_of B.fronts self }
+        ensures { result ≡ buckets_of self }
     {
         let HashTable {
             adapter: _,
@@ -167,35 +170,6 @@ impl<A: HashAdapter, B: Buckets> HashTable<A, B> {
         SinglyLinkedList::from_front(first)
     }
 
-    /// Puts the object in, unless its link is refused. O(1): one hash, no look, and no memory.
-    ///
-    /// It requires that the object is placed, and its place covered. A refused object comes back, and the table is as it was: over a plain
-    /// table of links that is so exactly if the object is linked in this field. Members with an equal key stay.
-    #[inline]
-    pub fn insert<L: SinglyLinkedListOps, O: Values<A::Value>>(
-        &mut self,
-        links: &mut L,
-        objects: &O,
-        object: UnsafeRef<A::Value>,
-    ) -> Result<(), AlreadyLinked<A::Value>>
-        requires covered { IsCovered (L.table links.old) object }
-        requires placed { is_placed (O.values objects.now) object ≡ true }
-        requires held { HoldsSome L.successor (number A.key_of A.hash_of) B.fronts (L.table links.old) self.old (O.values objects.now) }
-        ensures inserted { (s : List Place) → Holds L.successor (number A.key_of A.hash_of) B.fronts (L.table links.old) self.old (O.values objects.now) s
-            → OnOk result (HoldsWith L.successor (number A.key_of A.hash_of) B.fronts (L.table links.new) self.new (O.values objects.now) s object) }
-        ensures acquired { OnOk result (L.Does links.old links.new (acquires object ∷ [])) }
-        ensures adapter { adapter_of self.new ≡ adapter_of self.old }
-        ensures slots { slots_of self.new ≡ slots_of self.old }
-        ensures refused { OnErr result (L.Refused links.old links.new object) }
-        ensures unchanged { IfErr result (λ refused. (refused.0 ≡ object) × (self.new ≡ self.old)) }
-        ensures frame { (s : List Place) → Holds L.successor (number A.key_of A.hash_of) B.fronts (L.table links.old) self.old (O.values objects.now) s
-            → KeepsBeside (L.table links.old) (L.table links.new) (object ∷ s) }
-    {
-        let at = self.slot_of_object(objects, object.place());
-        let front = self.buckets.front(at);
-        self.insert_at(links, at, (None, front), object)
-    }
-
     /// The first member that equals what is searched, or `None` if there is none.
     ///
     /// It requires that each value which equals what is searched has its hash, and that the probe's count leaves room. It makes no more
@@ -216,6 +190,7 @@ impl<A: HashAdapter, B: Buckets> HashTable<A, B> {
         ensures looks { (chain : List Place)
             → ShowsFrom L.successor (L.table links.now) (front_at B.fronts self.now (slot_of (slots_of self.now) (P.hash probe.old))) chain
             → Looks P.equal P.count probe.old probe.new chain }
+        ensures hash { P.hash probe.new ≡ P.hash probe.old }
     {
         let at = self.slots.slot(probe.hash());
         let (_, found) = find_in_chain(links, objects, probe, self.buckets.front(at));
@@ -241,6 +216,42 @@ impl<A: HashAdapter, B: Buckets> HashTable<A, B> {
     {
         self.find_by(links, objects, &mut KeyProbe::new(self.adapter, key))
     }
+}
+
+impl<A: HashAdapter, B> HashTable<A, B> {
+    ghost use Rattle.ic_hash_table.specs.HashTable.{adapter_of, slots_of, number, Holds, HoldsSome, HoldsWith, KeepsBuckets};
+
+    /// Puts the object in, unless its link is refused. O(1): one hash, no look, and no memory.
+    ///
+    /// It requires that the object is placed, and its place covered. A refused object comes back, and the table is as it was: over a plain
+    /// table of links that is so exactly if the object is linked in this field. Members with an equal key stay.
+    #[inline]
+    pub fn insert<L: SinglyLinkedListOps, O: Values<A::Value>>(
+        &mut self,
+        links: &mut L,
+        objects: &O,
+        object: UnsafeRef<A::Value>,
+    ) -> Result<(), AlreadyLinked<A::Value>>
+    where
+        B: BucketsFor<L>,
+        requires covered { IsCovered (L.table links.old) object }
+        requires placed { is_placed (O.values objects.now) object ≡ true }
+        requires held { HoldsSome L.successor (number A.key_of A.hash_of) B.fronts (L.table links.old) self.old (O.values objects.now) }
+        ensures inserted { (s : List Place) → Holds L.successor (number A.key_of A.hash_of) B.fronts (L.table links.old) self.old (O.values objects.now) s
+            → OnOk result (HoldsWith L.successor (number A.key_of A.hash_of) B.fronts (L.table links.new) self.new (O.values objects.now) s object) }
+        ensures acquired { OnOk result (L.Does links.old links.new (acquires object ∷ [])) }
+        ensures adapter { adapter_of self.new ≡ adapter_of self.old }
+        ensures slots { slots_of self.new ≡ slots_of self.old }
+        ensures buckets { KeepsBuckets B.fronts B.Rewrites self.old self.new }
+        ensures refused { OnErr result (L.Refused links.old links.new object) }
+        ensures unchanged { IfErr result (λ refused. (refused.0 ≡ object) × (self.new ≡ self.old)) }
+        ensures frame { (s : List Place) → Holds L.successor (number A.key_of A.hash_of) B.fronts (L.table links.old) self.old (O.values objects.now) s
+            → KeepsBeside (L.table links.old) (L.table links.new) (object ∷ s) }
+    {
+        let at = self.slot_of_object(objects, object.place());
+        let front = self.buckets.front(at);
+        self.insert_at(links, at, (None, front), object)
+    }
 
     /// Takes the object out, and says whether it was a member. Where it was none, nothing has changed.
     ///
@@ -251,6 +262,8 @@ impl<A: HashAdapter, B: Buckets> HashTable<A, B> {
         objects: &O,
         object: &UnsafeRef<A::Value>,
     ) -> bool
+    where
+        B: BucketsFor<L>,
         requires placed { is_placed (O.values objects.now) object.now ≡ true }
         requires held { HoldsSome L.successor (number A.key_of A.hash_of) B.fronts (L.table links.old) self.old (O.values objects.now) }
         ensures answer { (s : List Place) → Holds L.successor (number A.key_of A.hash_of) B.fronts (L.table links.old) self.old (O.values objects.now) s
@@ -262,6 +275,7 @@ impl<A: HashAdapter, B: Buckets> HashTable<A, B> {
         ensures nothing { OnFalse result ((self.new ≡ self.old) × (links.new ≡ links.old)) }
         ensures adapter { adapter_of self.new ≡ adapter_of self.old }
         ensures slots { slots_of self.new ≡ slots_of self.old }
+        ensures buckets { KeepsBuckets B.fronts B.Rewrites self.old self.new }
         ensures frame { (s : List Place) → Holds L.successor (number A.key_of A.hash_of) B.fronts (L.table links.old) self.old (O.values objects.now) s
             → KeepsBeside (L.table links.old) (L.table links.new) s }
     {
@@ -275,7 +289,8 @@ impl<A: HashAdapter, B: Buckets> HashTable<A, B> {
     /// Puts the object in, unless a member has an equal key or its link is refused.
     ///
     /// It returns `Some` of the first member with an equal key, where there is one, and nothing has changed then. Else it does what
-    /// [`insert`](HashTable::insert) does, and returns `None`. It looks as `find`, and takes no memory.
+    /// [`insert`](HashTable::insert) does, and returns `None`; so a link is refused only if no member has an equal key. It looks as `find`,
+    /// and takes no memory.
     #[inline]
     pub fn insert_unique<L: SinglyLinkedListOps, O: Values<A::Value>>(
         &mut self,
@@ -283,20 +298,22 @@ impl<A: HashAdapter, B: Buckets> HashTable<A, B> {
         objects: &O,
         object: UnsafeRef<A::Value>,
     ) -> Result<Option<UnsafeRef<A::Value>>, AlreadyLinked<A::Value>>
+    where
+        B: BucketsFor<L>,
         requires covered { IsCovered (L.table links.old) object }
         requires placed { is_placed (O.values objects.now) object ≡ true }
         requires held { HoldsSome L.successor (number A.key_of A.hash_of) B.fronts (L.table links.old) self.old (O.values objects.now) }
         ensures found { (value : A.Value) → object_at (O.values objects.now) object ≡ Some value
             → (s : List Place) → Holds L.successor (number A.key_of A.hash_of) B.fronts (L.table links.old) self.old (O.values objects.now) s
-            → IfOk result (Finds (has_key A.Key.eq (A.key_of (adapter_of self.old)) (A.key_of (adapter_of self.old) value) (O.values objects.now)) s) }
+            → Finds (has_key A.Key.eq (A.key_of (adapter_of self.old)) (A.key_of (adapter_of self.old) value) (O.values objects.now)) s (found_of result) }
         ensures same { IfOk result (λ found. IfSome found (λ member. (self.new ≡ self.old) × (links.new ≡ links.old))) }
         ensures inserted { (s : List Place) → Holds L.successor (number A.key_of A.hash_of) B.fronts (L.table links.old) self.old (O.values objects.now) s
             → IfOk result (λ found. IfNone found (HoldsWith L.successor (number A.key_of A.hash_of) B.fronts (L.table links.new) self.new (O.values objects.now) s object)) }
         ensures acquired { IfOk result (λ found. IfNone found (L.Does links.old links.new (acquires object ∷ []))) }
         ensures adapter { adapter_of self.new ≡ adapter_of self.old }
         ensures slots { slots_of self.new ≡ slots_of self.old }
-        ensures refused { OnErr result (L.Refused links.old links.new object) }
-        ensures unchanged { IfErr result (λ refused. (refused.0 ≡ object) × (self.new ≡ self.old)) }
+        ensures buckets { KeepsBuckets B.fronts B.Rewrites self.old self.new }
+        ensures refused { IfErr result (λ refused. (refused.0 ≡ object) × (self.new ≡ self.old) × L.Refused links.old links.new object) }
         ensures frame { (s : List Place) → Holds L.successor (number A.key_of A.hash_of) B.fronts (L.table links.old) self.old (O.values objects.now) s
             → KeepsBeside (L.table links.old) (L.table links.new) (object ∷ s) }
     {
@@ -318,6 +335,8 @@ impl<A: HashAdapter, B: Buckets> HashTable<A, B> {
         objects: &O,
         key: &A::Key,
     ) -> Option<UnsafeRef<A::Value>>
+    where
+        B: BucketsFor<L>,
         requires held { HoldsSome L.successor (number A.key_of A.hash_of) B.fronts (L.table links.old) self.old (O.values objects.now) }
         ensures found { (s : List Place) → Holds L.successor (number A.key_of A.hash_of) B.fronts (L.table links.old) self.old (O.values objects.now) s
             → Finds (has_key A.Key.eq (A.key_of (adapter_of self.old)) key.now (O.values objects.now)) s result }
@@ -328,6 +347,7 @@ impl<A: HashAdapter, B: Buckets> HashTable<A, B> {
         ensures nothing { IfNone result ((self.new ≡ self.old) × (links.new ≡ links.old)) }
         ensures adapter { adapter_of self.new ≡ adapter_of self.old }
         ensures slots { slots_of self.new ≡ slots_of self.old }
+        ensures buckets { KeepsBuckets B.fronts B.Rewrites self.old self.new }
         ensures frame { (s : List Place) → Holds L.successor (number A.key_of A.hash_of) B.fronts (L.table links.old) self.old (O.values objects.now) s
             → KeepsBeside (L.table links.old) (L.table links.new) s }
     {
@@ -340,7 +360,7 @@ impl<A: HashAdapter, B: Buckets> HashTable<A, B> {
     }
 }
 
-impl<A: HashAdapter, B: Buckets> HashTable<A, B> {
+impl<A: HashAdapter, B: BucketRow> HashTable<A, B> {
     ghost use Rattle.ic_hash_table.specs.Slots.{IsWellFormed};
     ghost use Rattle.ic_hash_table.specs.HashTable.{adapter_of, len_of, slots_of, fronts_of, front_at, number, BelongsIn, Holds, HoldsAt, HoldsSome};
 
@@ -405,6 +425,10 @@ impl<A: HashAdapter, B: Buckets> HashTable<A, B> {
         }
         Some((at, before))
     }
+}
+
+impl<A: HashAdapter, B> HashTable<A, B> {
+    ghost use Rattle.ic_hash_table.specs.HashTable.{adapter_of, slots_of, front_at, number, BelongsIn, Holds, HoldsAt, HoldsSome, KeepsBuckets};
 
     // Puts the object between two neighbors of chain `at`. It reads no object.
     #[inline]
@@ -415,6 +439,8 @@ impl<A: HashAdapter, B: Buckets> HashTable<A, B> {
         neighbors: (Option<Place>, Option<Place>),
         object: UnsafeRef<A::Value>,
     ) -> Result<(), AlreadyLinked<A::Value>>
+    where
+        B: BucketsFor<L>,
         requires covered { IsCovered (L.table links.old) object }
         requires held { (objects : Objects A.Value) × HoldsSome L.successor (number A.key_of A.hash_of) B.fronts (L.table links.old) self.old objects }
         requires within { at < (slots_of self.old).used }
@@ -431,6 +457,7 @@ impl<A: HashAdapter, B: Buckets> HashTable<A, B> {
         ensures acquired { OnOk result (L.Does links.old links.new (acquires object ∷ [])) }
         ensures adapter { adapter_of self.new ≡ adapter_of self.old }
         ensures slots { slots_of self.new ≡ slots_of self.old }
+        ensures buckets { KeepsBuckets B.fronts B.Rewrites self.old self.new }
         ensures refused { OnErr result (L.Refused links.old links.new object) }
         ensures unchanged { IfErr result (λ refused. (refused.0 ≡ object) × (self.new ≡ self.old)) }
         ensures frame { (objects : Objects A.Value) (s : List Place)
@@ -458,6 +485,8 @@ impl<A: HashAdapter, B: Buckets> HashTable<A, B> {
         before: Option<Place>,
         place: Place,
     )
+    where
+        B: BucketsFor<L>,
         requires held { (objects : Objects A.Value) × HoldsSome L.successor (number A.key_of A.hash_of) B.fronts (L.table links.old) self.old objects }
         requires within { at < (slots_of self.old).used }
         requires member { (ahead back : List Place)
@@ -468,6 +497,7 @@ impl<A: HashAdapter, B: Buckets> HashTable<A, B> {
         ensures released { L.Does links.old links.new (releases place ∷ []) }
         ensures adapter { adapter_of self.new ≡ adapter_of self.old }
         ensures slots { slots_of self.new ≡ slots_of self.old }
+        ensures buckets { KeepsBuckets B.fronts B.Rewrites self.old self.new }
         ensures frame { (objects : Objects A.Value) (s : List Place)
             → Holds L.successor (number A.key_of A.hash_of) B.fronts (L.table links.old) self.old objects s
             → KeepsBeside (L.table links.old) (L.table links.new) s }

@@ -11,17 +11,18 @@ ghost use Rattle.ic_link_ops.specs.LinkSteps.{releases_each};
 ghost use Rattle.ic_link_ops.specs.Tables.{KeepsBeside};
 ghost use Rattle.ic_hash_table.specs.Chains.{ShowsFrom, ShowsFromSome};
 
-use crate::{Buckets, HashAdapter, HashTable};
+use crate::{BucketsFor, HashAdapter, HashTable};
 use ic_link_ops::LinkOps;
 use ic_link_ops::singly_linked_list::SinglyLinkedListOps;
 use ic_singly_linked_list::SinglyLinkedList;
 use ic_unsafe_ref::{UnsafeRef, Values};
 
 // Unlinks the members of one chain, and empties it.
-fn clear_chain<L: SinglyLinkedListOps, B: Buckets>(buckets: &mut B, links: &mut L, at: usize)
+fn clear_chain<L: SinglyLinkedListOps, B: BucketsFor<L>>(buckets: &mut B, links: &mut L, at: usize)
     requires within { at < length (B.fronts buckets.old) }
     requires shown { ShowsFromSome L.successor (L.table links.old) (slice_index_or (B.fronts buckets.old) at None) }
     ensures empty { B.fronts buckets.new ≡ slice_set (B.fronts buckets.old) at None }
+    ensures rewrites { B.Rewrites buckets.old buckets.new }
     ensures released { (chain : List Place) → ShowsFrom L.successor (L.table links.old) (slice_index_or (B.fronts buckets.old) at None) chain
         → L.Does links.old links.new (releases_each chain) }
     ensures frame { (chain : List Place) → ShowsFrom L.successor (L.table links.old) (slice_index_or (B.fronts buckets.old) at None) chain
@@ -32,17 +33,21 @@ fn clear_chain<L: SinglyLinkedListOps, B: Buckets>(buckets: &mut B, links: &mut 
     buckets.set_front(at, None);
 }
 
-impl<A, B: Buckets> HashTable<A, B> {
-    ghost use Rattle.ic_hash_table.specs.HashTable.{adapter_of, IsNew, IsShown};
+impl<A, B> HashTable<A, B> {
+    ghost use Rattle.ic_hash_table.specs.HashTable.{adapter_of, slots_of, IsNew, IsShown, KeepsBuckets};
 
     /// Takes all members out: each is unlinked, and the table is empty.
     ///
     /// It requires that the links show its chains, whatever keys the members have now: they need not be placed. One step for each
     /// member and each bucket, no look, and no memory.
     pub fn clear<L: SinglyLinkedListOps>(&mut self, links: &mut L)
+    where
+        B: BucketsFor<L>,
         requires shown { (s : List Place) × IsShown L.successor B.fronts (L.table links.old) self.old s }
         ensures empty { IsNew B.fronts self.new }
         ensures adapter { adapter_of self.new ≡ adapter_of self.old }
+        ensures slots { slots_of self.new ≡ slots_of self.old }
+        ensures buckets { KeepsBuckets B.fronts B.Rewrites self.old self.new }
         ensures released { (s : List Place) → IsShown L.successor B.fronts (L.table links.old) self.old s
             → L.Does links.old links.new (releases_each s) }
         ensures frame { (s : List Place) → IsShown L.successor B.fronts (L.table links.old) self.old s
@@ -58,9 +63,9 @@ impl<A, B: Buckets> HashTable<A, B> {
     }
 }
 
-impl<A: HashAdapter, B: Buckets> HashTable<A, B> {
+impl<A: HashAdapter, B> HashTable<A, B> {
     ghost use Rattle.std.specs.Fn.{FnReturnsAt};
-    ghost use Rattle.ic_hash_table.specs.HashTable.{adapter_of, number, Holds, HoldsSome};
+    ghost use Rattle.ic_hash_table.specs.HashTable.{adapter_of, slots_of, number, Holds, HoldsSome, KeepsBuckets};
     ghost use Rattle.ic_hash_table.specs.Retained.{Keeps};
 
     /// Takes each member out whose object fails the test. The others stay, in their order.
@@ -74,6 +79,8 @@ impl<A: HashAdapter, B: Buckets> HashTable<A, B> {
         objects: &O,
         keeps: F,
     )
+    where
+        B: BucketsFor<L>,
         requires held { HoldsSome L.successor (number A.key_of A.hash_of) B.fronts (L.table links.old) self.old (O.values objects.now) }
         requires callable { F.IsAlwaysCallable keeps }
         ensures retained { (s : List Place) → Holds L.successor (number A.key_of A.hash_of) B.fronts (L.table links.old) self.old (O.values objects.now) s
@@ -81,6 +88,8 @@ impl<A: HashAdapter, B: Buckets> HashTable<A, B> {
             × Holds L.successor (number A.key_of A.hash_of) B.fronts (L.table links.new) self.new (O.values objects.now) kept
             × L.Does links.old links.new (releases_each gone) }
         ensures adapter { adapter_of self.new ≡ adapter_of self.old }
+        ensures slots { slots_of self.new ≡ slots_of self.old }
+        ensures buckets { KeepsBuckets B.fronts B.Rewrites self.old self.new }
         ensures frame { (s : List Place) → Holds L.successor (number A.key_of A.hash_of) B.fronts (L.table links.old) self.old (O.values objects.now) s
             → KeepsBeside (L.table links.old) (L.table links.new) s }
     {

@@ -10,6 +10,7 @@ pub loop-current-init : goal.loop-current-init
 loop-current-init g c = record {
   passed = λ s shown. let k = passed_none shown.chain shown.head in (k.0, omega (arith, k.1));
   same = refl;
+  hash = refl;
 }
 
 pub is_match-requires-clause-placed : goal.is_match-requires-clause-placed
@@ -59,6 +60,7 @@ loop-current-preserved g c = record {
       let more = passed_more shown.distinct k.0 fails (c.next-current.ensures ∙ (next_between k.0.walk).next) in
       (more.0, omega (arith, c.is_match.ensures.counted, k.1, more.2));
   same = c.is_match.ensures.same ∙ c.loop-current.invariant.same;
+  hash = c.is_match.ensures.hash ∙ c.loop-current.invariant.hash;
 }
 
 pub returns-clause-stops : goal.returns-clause-stops

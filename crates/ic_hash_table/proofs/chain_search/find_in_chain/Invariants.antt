@@ -13,6 +13,7 @@ invariant-loop-current g l = record {
       → (k : HasPassed (IsFollowed g.L.SinglyLinkedListOps.successor) (matches (g.P.Probe.equal l.fn.probe) (g.O.Values.values l.fn.objects)) (g.L.LinkOps.table l.fn.links) s l.before l.current)
       × (g.P.Probe.count l.probe ≡ g.P.Probe.count l.fn.probe + length k.walk.done);
   same : g.P.Probe.equal l.probe ≡ g.P.Probe.equal l.fn.probe;
+  hash : g.P.Probe.hash l.probe ≡ g.P.Probe.hash l.fn.probe;
 }
 
 abbrev pub decreases-loop-current : goal.decreases-loop-current

@@ -28,6 +28,8 @@ returns g c =
             (rw c.insert_at.ensures.slots c.requires.belongs.0, ([], k.chain, rw member shows, c.of.ensures));
         acquired = c.in_default.ensures.acquired;
         adapter = c.insert_at.ensures.adapter;
+        slots = c.insert_at.ensures.slots;
+        buckets = c.insert_at.ensures.buckets;
         borrows = (refl, refl);
         frame = λ s held. c.insert_at.ensures.frame objects s held;
         refused = tt;

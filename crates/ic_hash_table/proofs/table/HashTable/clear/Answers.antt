@@ -2,6 +2,7 @@ use Rattle.std.proofs.Common.{◌<◌, None, length, refl, sym, ap, ◌∙◌, s
 use Rattle.std.proofs.lemmas.List.{length-set}
 use Rattle.ic_hash_table.specs.Slots.{IsWellFormed}
 use Rattle.ic_hash_table.proofs.EmptiedChains.{empties_none, next_chain, empties_more, none_below, all_none, all_done}
+use Rattle.ic_hash_table.proofs.KeptBuckets.{keeps_buckets}
 use Rattle.ic_hash_table.proofs.table.HashTable.clear.Goals as goal
 
 pub loop-at-init : goal.loop-at-init
@@ -10,28 +11,30 @@ loop-at-init g c = record {
   slots = refl;
   count = sym c.count-count.ensures;
   was = sym c.count-count.ensures;
+  rewrites = g.met.B.BucketRow.rewrites_none c.args.self.now.buckets;
   within = omega arith;
   none = λ j less. absurd (omega (arith, less));
-  each = λ s shown. empties_none g.L.SinglyLinkedListOps.successor g.L.LinkOps.table g.L.LinkOps.Does g.met.L.LinkOps.does_nothing c.args.links.now (g.B.Buckets.fronts c.args.self.now.buckets) s shown.chained;
+  each = λ s shown. empties_none g.L.SinglyLinkedListOps.successor g.L.LinkOps.table g.L.LinkOps.Does g.met.L.LinkOps.does_nothing c.args.links.now (g.B.BucketRow.fronts c.args.self.now.buckets) s shown.chained;
 }
 
 pub clear_chain-requires-clause-shown : goal.clear_chain-requires-clause-shown
 clear_chain-requires-clause-shown g c =
-    let within : c.loop-at.at < length (g.B.Buckets.fronts c.loop-at.self.buckets) = omega (arith, c.loop-at-test.true, c.loop-at.invariant.count) in
+    let within : c.loop-at.at < length (g.B.BucketRow.fronts c.loop-at.self.buckets) = omega (arith, c.loop-at-test.true, c.loop-at.invariant.count) in
     let k = next_chain g.L.SinglyLinkedListOps.successor g.L.LinkOps.table g.L.LinkOps.Does within (c.loop-at.invariant.each c.requires.shown.0 c.requires.shown.1) in
     (k.chain, k.shown)
 
 pub loop-at-preserved : goal.loop-at-preserved
 loop-at-preserved g c =
     let i = c.loop-at.invariant in
-    let within : c.loop-at.at < length (g.B.Buckets.fronts c.loop-at.self.buckets) = omega (arith, c.loop-at-test.true, i.count) in
+    let within : c.loop-at.at < length (g.B.BucketRow.fronts c.loop-at.self.buckets) = omega (arith, c.loop-at-test.true, i.count) in
     record {
       adapter = i.adapter;
       slots = i.slots;
-      count = ap length c.clear_chain.ensures.empty ∙ length-set (g.B.Buckets.fronts c.loop-at.self.buckets) c.loop-at.at None ∙ i.count;
+      count = ap length c.clear_chain.ensures.empty ∙ length-set (g.B.BucketRow.fronts c.loop-at.self.buckets) c.loop-at.at None ∙ i.count;
       was = i.was;
+      rewrites = g.met.B.BucketRow.rewrites_on _ _ _ i.rewrites c.clear_chain.ensures.rewrites;
       within = omega (arith, c.loop-at-test.true);
-      none = rw c.clear_chain.ensures.empty (none_below c.loop-at.at (g.B.Buckets.fronts c.loop-at.self.buckets) within i.none);
+      none = rw c.clear_chain.ensures.empty (none_below c.loop-at.at (g.B.BucketRow.fronts c.loop-at.self.buckets) within i.none);
       each = λ s shown.
           let k = i.each s shown in
           let n = next_chain g.L.SinglyLinkedListOps.successor g.L.LinkOps.table g.L.LinkOps.Does within k in
@@ -45,7 +48,7 @@ returns-clause-empty g c =
     let i = c.loop-at.invariant in
     let shown = c.requires.shown.1 in
     record {
-      none = all_none (g.B.Buckets.fronts c.loop-at.self.buckets) (λ j less. i.none j (omega (arith, less, i.count, c.loop-at-test.false)));
+      none = all_none (g.B.BucketRow.fronts c.loop-at.self.buckets) (λ j less. i.none j (omega (arith, less, i.count, c.loop-at-test.false)));
       counted = refl;
       well_formed = subst IsWellFormed (sym i.slots) shown.well_formed;
       enough = omega (arith, shown.enough, ap (λ s. s.used) i.slots, i.count, i.was);
@@ -54,4 +57,7 @@ returns-clause-empty g c =
 pub returns-clause-released : goal.returns-clause-released
 returns-clause-released g c s shown =
     let i = c.loop-at.invariant in
-    all_done (i.each s shown) (all_none (g.B.Buckets.fronts c.loop-at.self.buckets) (λ j less. i.none j (omega (arith, less, i.count, c.loop-at-test.false))))
+    all_done (i.each s shown) (all_none (g.B.BucketRow.fronts c.loop-at.self.buckets) (λ j less. i.none j (omega (arith, less, i.count, c.loop-at-test.false))))
+
+pub returns-clause-buckets : goal.returns-clause-buckets
+returns-clause-buckets g c = keeps_buckets g.met.B.BucketRow.rewrites_count c.loop-at.invariant.rewrites

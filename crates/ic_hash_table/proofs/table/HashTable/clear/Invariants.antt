@@ -8,12 +8,13 @@ abbrev pub invariant-loop-at : goal.invariant-loop-at
 invariant-loop-at g l = record {
   adapter : l.self.adapter ≡ l.fn.self.adapter;
   slots : l.self.slots ≡ l.fn.self.slots;
-  count : length (g.B.Buckets.fronts l.self.buckets) ≡ l.count;
-  was : length (g.B.Buckets.fronts l.fn.self.buckets) ≡ l.count;
+  count : length (g.B.BucketRow.fronts l.self.buckets) ≡ l.count;
+  was : length (g.B.BucketRow.fronts l.fn.self.buckets) ≡ l.count;
+  rewrites : g.B.BucketRow.Rewrites l.fn.self.buckets l.self.buckets;
   within : l.at ≤ l.count;
-  none : (j : ℕ) → j < l.at → slice_index_or (g.B.Buckets.fronts l.self.buckets) j None ≡ None;
-  each : (s : List Place) → IsShown g.L.SinglyLinkedListOps.successor g.B.Buckets.fronts (g.L.LinkOps.table l.fn.links) l.fn.self s
-      → Empties g.L.SinglyLinkedListOps.successor g.L.LinkOps.table g.L.LinkOps.Does l.fn.links l.links l.at (g.B.Buckets.fronts l.self.buckets) s;
+  none : (j : ℕ) → j < l.at → slice_index_or (g.B.BucketRow.fronts l.self.buckets) j None ≡ None;
+  each : (s : List Place) → IsShown g.L.SinglyLinkedListOps.successor g.B.BucketRow.fronts (g.L.LinkOps.table l.fn.links) l.fn.self s
+      → Empties g.L.SinglyLinkedListOps.successor g.L.LinkOps.table g.L.LinkOps.Does l.fn.links l.links l.at (g.B.BucketRow.fronts l.self.buckets) s;
 }
 
 abbrev pub decreases-loop-at : goal.decreases-loop-at

@@ -36,5 +36,5 @@ returns g c gap held at_gap =
     let used = c.slot_of_object-chain.ensures.within in
     let b = stands_in gap held c.in-Some.place after k used c.slot_of_object-chain.ensures.belongs in
     let next : suc k ≡ k + 1 = omega arith in
-    c.first_from-2.ensures _ (subst (λ n. AreChained g.L.SinglyLinkedListOps.successor (λ i p. ⊤) (g.L.LinkOps.table c.args.links.now) n (drop n (g.B.Buckets.fronts c.args.self.now.buckets)) (chain_of held k used).behind) next (behind_chained held k used))
+    c.first_from-2.ensures _ (subst (λ n. AreChained g.L.SinglyLinkedListOps.successor (λ i p. ⊤) (g.L.LinkOps.table c.args.links.now) n (drop n (g.B.BucketRow.fronts c.args.self.now.buckets)) (chain_of held k used).behind) next (behind_chained held k used))
     ∙ first_is_others c.next-behind.result b.0 (chain_of held k used).behind (c.next-behind.ensures ∙ b.1.next) (sym c.is_some.ensures ∙ c.if-is_some.false) ∙ ap first (sym b.2)

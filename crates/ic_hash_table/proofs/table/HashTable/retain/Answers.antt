@@ -8,6 +8,7 @@ use Rattle.ic_link_ops.proofs.SinglyLists.{successors_covered}
 use Rattle.ic_hash_table.specs.HashTable.{number, Holds}
 use Rattle.ic_hash_table.specs.Retained.{TellsAt}
 use Rattle.ic_hash_table.proofs.RetainedMembers.{Retains, retains_none, turn_less, ahead_first, holds_there, holds_behind, retains_kept, retains_gone, retains_all}
+use Rattle.ic_hash_table.proofs.KeptBuckets.{keeps_buckets}
 use Rattle.ic_hash_table.proofs.table.HashTable.retain.Goals as goal
 use Rattle.ic_hash_table.proofs.table.HashTable.retain.Given.{Over}
 
@@ -17,6 +18,8 @@ next-at-requires g c = let h = c.requires.held in record { stands = (record { fr
 pub loop-at-init : goal.loop-at-init
 loop-at-init g c = record {
   adapter = refl;
+  slots = refl;
+  rewrites = g.met.B.BucketRow.rewrites_none c.args.self.now.buckets;
   each = λ s held. retains_none g.met.L.LinkOps.does_nothing held (c.next-at.ensures (record { front = []; back = s }) held refl);
 }
 
@@ -32,10 +35,10 @@ value-requires g c =
 
 -- the turn that kept the member, and the one that took it out
 kept : (g : Over) (c : goal.Else-not-keeps g) (s : List Place)
-    → Holds g.L.SinglyLinkedListOps.successor (number g.A.HashAdapter.key_of g.A.HashAdapter.hash_of) g.B.Buckets.fronts (g.L.LinkOps.table c.args.links.now) c.args.self.now (g.O.Values.values c.args.objects.now) s
-    → (r : Retains g.L.SinglyLinkedListOps.successor g.L.LinkOps.table g.L.LinkOps.Does (number g.A.HashAdapter.key_of g.A.HashAdapter.hash_of) g.B.Buckets.fronts (g.O.Values.values c.args.objects.now) (FnReturnsAt g.F.Fn c.args.keeps)
+    → Holds g.L.SinglyLinkedListOps.successor (number g.A.HashAdapter.key_of g.A.HashAdapter.hash_of) g.B.BucketRow.fronts (g.L.LinkOps.table c.args.links.now) c.args.self.now (g.O.Values.values c.args.objects.now) s
+    → (r : Retains g.L.SinglyLinkedListOps.successor g.L.LinkOps.table g.L.LinkOps.Does (number g.A.HashAdapter.key_of g.A.HashAdapter.hash_of) g.B.BucketRow.fronts (g.O.Values.values c.args.objects.now) (FnReturnsAt g.F.Fn c.args.keeps)
     c.args.links.now c.loop-at.links c.loop-at.self s (Some c.in-Some.place))
-    × (more : Retains g.L.SinglyLinkedListOps.successor g.L.LinkOps.table g.L.LinkOps.Does (number g.A.HashAdapter.key_of g.A.HashAdapter.hash_of) g.B.Buckets.fronts (g.O.Values.values c.args.objects.now) (FnReturnsAt g.F.Fn c.args.keeps)
+    × (more : Retains g.L.SinglyLinkedListOps.successor g.L.LinkOps.table g.L.LinkOps.Does (number g.A.HashAdapter.key_of g.A.HashAdapter.hash_of) g.B.BucketRow.fronts (g.O.Values.values c.args.objects.now) (FnReturnsAt g.F.Fn c.args.keeps)
     c.args.links.now c.loop-at.links c.loop-at.self s c.next-at-in-Some.result) × (more.ahead ≡ drop 1 r.ahead)
 kept g c s held =
     let r = rw c.in-Some.is at (c.loop-at.invariant.each s held) in
@@ -47,10 +50,10 @@ kept g c s held =
     (r, more.0, more.1)
 
 gone : (g : Over) (c : goal.After-drop-new g) (s : List Place)
-    → Holds g.L.SinglyLinkedListOps.successor (number g.A.HashAdapter.key_of g.A.HashAdapter.hash_of) g.B.Buckets.fronts (g.L.LinkOps.table c.args.links.now) c.args.self.now (g.O.Values.values c.args.objects.now) s
-    → (r : Retains g.L.SinglyLinkedListOps.successor g.L.LinkOps.table g.L.LinkOps.Does (number g.A.HashAdapter.key_of g.A.HashAdapter.hash_of) g.B.Buckets.fronts (g.O.Values.values c.args.objects.now) (FnReturnsAt g.F.Fn c.args.keeps)
+    → Holds g.L.SinglyLinkedListOps.successor (number g.A.HashAdapter.key_of g.A.HashAdapter.hash_of) g.B.BucketRow.fronts (g.L.LinkOps.table c.args.links.now) c.args.self.now (g.O.Values.values c.args.objects.now) s
+    → (r : Retains g.L.SinglyLinkedListOps.successor g.L.LinkOps.table g.L.LinkOps.Does (number g.A.HashAdapter.key_of g.A.HashAdapter.hash_of) g.B.BucketRow.fronts (g.O.Values.values c.args.objects.now) (FnReturnsAt g.F.Fn c.args.keeps)
     c.args.links.now c.loop-at.links c.loop-at.self s (Some c.in-Some.place))
-    × (more : Retains g.L.SinglyLinkedListOps.successor g.L.LinkOps.table g.L.LinkOps.Does (number g.A.HashAdapter.key_of g.A.HashAdapter.hash_of) g.B.Buckets.fronts (g.O.Values.values c.args.objects.now) (FnReturnsAt g.F.Fn c.args.keeps)
+    × (more : Retains g.L.SinglyLinkedListOps.successor g.L.LinkOps.table g.L.LinkOps.Does (number g.A.HashAdapter.key_of g.A.HashAdapter.hash_of) g.B.BucketRow.fronts (g.O.Values.values c.args.objects.now) (FnReturnsAt g.F.Fn c.args.keeps)
     c.args.links.now c.remove.new.links c.remove.new.self s c.next-at-in-Some.result) × (more.ahead ≡ drop 1 r.ahead)
 gone g c s held =
     let r = rw c.in-Some.is at (c.loop-at.invariant.each s held) in
@@ -71,7 +74,12 @@ loop-at-smaller-then-not-keeps g c =
     (turn_less (successors_covered g.L.SinglyLinkedListOps.successor g.L.LinkOps.table g.met.L.LinkOps.linked_is_covered g.met.L.SinglyLinkedListOps.linked_alike) turn.0 (ahead_first turn.0) turn.1 turn.2)
 
 pub loop-at-preserved-then-not-keeps : goal.loop-at-preserved-then-not-keeps
-loop-at-preserved-then-not-keeps g c = record { adapter = c.remove.ensures.adapter ∙ c.loop-at.invariant.adapter; each = λ s held. (gone g c s held).1 }
+loop-at-preserved-then-not-keeps g c = record {
+  adapter = c.remove.ensures.adapter ∙ c.loop-at.invariant.adapter;
+  slots = c.remove.ensures.slots ∙ c.loop-at.invariant.slots;
+  rewrites = g.met.B.BucketRow.rewrites_on _ _ _ c.loop-at.invariant.rewrites c.remove.ensures.buckets.rewrites;
+  each = λ s held. (gone g c s held).1;
+}
 
 pub loop-at-smaller : goal.loop-at-smaller
 loop-at-smaller g c =
@@ -80,7 +88,15 @@ loop-at-smaller g c =
     (turn_less (successors_covered g.L.SinglyLinkedListOps.successor g.L.LinkOps.table g.met.L.LinkOps.linked_is_covered g.met.L.SinglyLinkedListOps.linked_alike) turn.0 (ahead_first turn.0) turn.1 turn.2)
 
 pub loop-at-preserved : goal.loop-at-preserved
-loop-at-preserved g c = record { adapter = c.loop-at.invariant.adapter; each = λ s held. (kept g c s held).1 }
+loop-at-preserved g c = record {
+  adapter = c.loop-at.invariant.adapter;
+  slots = c.loop-at.invariant.slots;
+  rewrites = c.loop-at.invariant.rewrites;
+  each = λ s held. (kept g c s held).1;
+}
 
 pub returns-clause-retained : goal.returns-clause-retained
 returns-clause-retained g c s held = retains_all (rw c.in_default.is at (c.loop-at.invariant.each s held))
+
+pub returns-clause-buckets : goal.returns-clause-buckets
+returns-clause-buckets g c = keeps_buckets g.met.B.BucketRow.rewrites_count c.loop-at.invariant.rewrites

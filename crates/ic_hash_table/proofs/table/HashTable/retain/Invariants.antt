@@ -10,10 +10,12 @@ use Rattle.ic_hash_table.proofs.table.HashTable.retain.Given as goal
 abbrev pub invariant-loop-at : goal.invariant-loop-at
 invariant-loop-at g l = record {
   adapter : l.self.adapter ≡ l.fn.self.adapter;
-  each : (s : List Place) → Holds g.L.SinglyLinkedListOps.successor (number g.A.HashAdapter.key_of g.A.HashAdapter.hash_of) g.B.Buckets.fronts (g.L.LinkOps.table l.fn.links) l.fn.self (g.O.Values.values l.fn.objects) s
-      → Retains g.L.SinglyLinkedListOps.successor g.L.LinkOps.table g.L.LinkOps.Does (number g.A.HashAdapter.key_of g.A.HashAdapter.hash_of) g.B.Buckets.fronts (g.O.Values.values l.fn.objects) (FnReturnsAt g.F.Fn l.fn.keeps)
+  slots : l.self.slots ≡ l.fn.self.slots;
+  rewrites : g.B.BucketRow.Rewrites l.fn.self.buckets l.self.buckets;
+  each : (s : List Place) → Holds g.L.SinglyLinkedListOps.successor (number g.A.HashAdapter.key_of g.A.HashAdapter.hash_of) g.B.BucketRow.fronts (g.L.LinkOps.table l.fn.links) l.fn.self (g.O.Values.values l.fn.objects) s
+      → Retains g.L.SinglyLinkedListOps.successor g.L.LinkOps.table g.L.LinkOps.Does (number g.A.HashAdapter.key_of g.A.HashAdapter.hash_of) g.B.BucketRow.fronts (g.O.Values.values l.fn.objects) (FnReturnsAt g.F.Fn l.fn.keeps)
       l.fn.links l.links l.self s l.at;
 }
 
 abbrev pub decreases-loop-at : goal.decreases-loop-at
-decreases-loop-at g l = length (ahead_of l.at (members_of g.L.SinglyLinkedListOps.successor (g.L.LinkOps.table l.links) (g.B.Buckets.fronts l.self.buckets)))
+decreases-loop-at g l = length (ahead_of l.at (members_of g.L.SinglyLinkedListOps.successor (g.L.LinkOps.table l.links) (g.B.BucketRow.fronts l.self.buckets)))

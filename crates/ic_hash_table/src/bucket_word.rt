@@ -1,0 +1,183 @@
+//! The word of one bucket.
+//!
+//! ```text
+//! let bucket: NarrowPlaceWord = BucketWord::of(None); // an empty bucket of 4 bytes
+//! ```
+
+ghost use Rattle.std.specs.Prelude.{◌≡◌, List, Option, map, ⊤};
+ghost use Rattle.ic_unsafe_ref.specs.declared.place.Place.{Place};
+ghost use Rattle.ic_unsafe_ref.specs.Places.{place_at, word_of};
+ghost use Rattle.ic_link_ops.specs.Tables.{IsNameable};
+ghost use Rattle.ic_link_ops.specs.Widths.{HasRoom, narrow};
+
+use ic_link_ops::{NarrowPlaceWord, PlaceWord};
+use ic_unsafe_ref::Place;
+
+/// A word that keeps the first member of a chain, or none: a bucket.
+pub trait BucketWord: Drop {
+    // The place that a word names, none where it names no place.
+    ghost front_of: { Self → Option Place };
+
+    // The places that a row of words names.
+    ghost fronts: { List Self → List (Option Place) };
+
+    // The word of a place or none.
+    ghost word_for: { Option Place → Self };
+
+    // The words have room for the name of this place.
+    ghost CanKeep: { Place → Type 0 };
+
+    /// The word of a place, or of none. It requires that the word has room for its name. O(1).
+    fn of(front: Option<Place>) -> Self
+        requires kept { IsNameable CanKeep front }
+        ensures { result ≡ word_for front };
+
+    /// The place, or none where the word names no place. O(1).
+    fn get(&self) -> Option<Place>
+        ensures { result ≡ front_of self.now };
+
+    // The laws: a row names what each of its words names, and a word that has room for a place names it.
+    ghost fronts_are: { (words : List Self) → fronts words ≡ map front_of words };
+
+    ghost word_names: { (front : Option Place) → IsNameable CanKeep front → front_of (word_for front) ≡ front };
+}
+
+/// A word that has room for every place.
+pub trait WideBucketWord: BucketWord {
+    ghost keeps_all: { (place : Place) → Self.CanKeep place };
+}
+
+impl BucketWord for PlaceWord {
+    ghost use Rattle.std.specs.Prelude.{refl};
+    ghost use Rattle.ic_hash_table.specs.BucketLaws.{own_fronts};
+
+    ghost front_of = { λ word. word };
+
+    ghost fronts = { λ words. words };
+
+    ghost word_for = { λ front. front };
+
+    ghost CanKeep = { λ _. ⊤ };
+
+    #[inline]
+    fn of(front: Option<Place>) -> PlaceWord {
+        PlaceWord::of(front)
+    }
+
+    #[inline]
+    fn get(&self) -> Option<Place> {
+        PlaceWord::get(self)
+    }
+
+    ghost fronts_are = { own_fronts };
+
+    ghost word_names = { λ front room. refl };
+}
+
+impl WideBucketWord for PlaceWord {
+    ghost keeps_all = { λ place. tt };
+}
+
+impl BucketWord for NarrowPlaceWord {
+    ghost use Rattle.std.specs.Prelude.{refl};
+    ghost use Rattle.ic_hash_table.specs.BucketLaws.{own_fronts};
+
+    ghost front_of = { λ word. word };
+
+    ghost fronts = { λ words. words };
+
+    ghost word_for = { λ front. front };
+
+    ghost CanKeep = { HasRoom narrow };
+
+    #[inline]
+    fn of(front: Option<Place>) -> NarrowPlaceWord {
+        NarrowPlaceWord::of(front)
+    }
+
+    #[inline]
+    fn get(&self) -> Option<Place> {
+        NarrowPlaceWord::get(self)
+    }
+
+    ghost fronts_are = { own_fronts };
+
+    ghost word_names = { λ front room. refl };
+}
+
+// The word of a place is a multiple of 8 below this number, 2^36, as `Place::from_word` requires.
+const WORDS_END: u64 = 68_719_476_736;
+
+// The place that a word names, and none where it is no place's word.
+#[inline]
+#[tactic(auto, using(ic_unsafe_ref::proofs::PlaceLemmas::place_at_other))]
+fn place_named_by(word: u64) -> Option<Place>
+    ensures { result ≡ place_at word }
+{
+    if word % 8 != 0 || word >= WORDS_END {
+        return None;
+    }
+    Place::from_word(word)
+}
+
+/// A plain word: `8 * (index + 1)` of the first member, and 0 for none. A number that is no place's word is read as 0 is.
+impl BucketWord for u64 {
+    ghost use Rattle.std.specs.Prelude.{refl};
+    ghost use Rattle.ic_unsafe_ref.proofs.PlaceLemmas.{place_at_word};
+
+    ghost front_of = { place_at };
+
+    ghost fronts = { λ words. map place_at words };
+
+    ghost word_for = { word_of };
+
+    ghost CanKeep = { λ _. ⊤ };
+
+    #[inline]
+    fn of(front: Option<Place>) -> u64 {
+        Place::to_word(front)
+    }
+
+    #[inline]
+    fn get(&self) -> Option<Place> {
+        place_named_by(*self)
+    }
+
+    ghost fronts_are = { λ words. refl };
+
+    ghost word_names = { λ front room. place_at_word front };
+}
+
+impl WideBucketWord for u64 {
+    ghost keeps_all = { λ place. tt };
+}
+
+/// A plain word of 4 bytes, with the numbers of one of 8.
+impl BucketWord for u32 {
+    ghost use Rattle.std.specs.Prelude.{refl};
+    ghost use Rattle.ic_unsafe_ref.proofs.PlaceLemmas.{place_at_word};
+
+    ghost front_of = { place_at };
+
+    ghost fronts = { λ words. map place_at words };
+
+    ghost word_for = { word_of };
+
+    ghost CanKeep = { HasRoom narrow };
+
+    #[inline]
+    #[tactic(auto, using(ic_link_ops::proofs::WidthLemmas::word_kept))]
+    fn of(front: Option<Place>) -> u32 {
+        let word = Place::to_word(front);
+        word as u32
+    }
+
+    #[inline]
+    fn get(&self) -> Option<Place> {
+        place_named_by(u64::from(*self))
+    }
+
+    ghost fronts_are = { λ words. refl };
+
+    ghost word_names = { λ front room. place_at_word front };
+}

@@ -1,0 +1,68 @@
+//! Buckets of 4 bytes, over links whose words have 4 bytes.
+
+ghost use Rattle.std.specs.Prelude.{◌≡◌};
+ghost use Rattle.ic_unsafe_ref.specs.declared.place.Place.{Place};
+ghost use Rattle.ic_link_ops.specs.Widths.{HasRoom, narrow};
+
+use crate::buckets::BucketsFor;
+use ic_link_ops::{
+    LentTable, LinkOps, LinkValue, NarrowPlaceWord, OneNarrowWord, PlainTable, ThreeNarrowWords,
+    TwoNarrowWords, Words,
+};
+use std::alloc::Allocator;
+
+/// Words of 4 bytes.
+pub trait NarrowWords: Words {
+    ghost is_narrow: { Self.width ≡ narrow };
+}
+
+impl<K> NarrowWords for OneNarrowWord<K> {
+    ghost use Rattle.std.specs.Prelude.{refl};
+
+    ghost is_narrow = { refl };
+}
+
+impl NarrowWords for TwoNarrowWords {
+    ghost use Rattle.std.specs.Prelude.{refl};
+
+    ghost is_narrow = { refl };
+}
+
+impl NarrowWords for ThreeNarrowWords {
+    ghost use Rattle.std.specs.Prelude.{refl};
+
+    ghost is_narrow = { refl };
+}
+
+/// A table of links whose words can name no place that 4 bytes have no room for.
+pub trait NarrowLinks: LinkOps {
+    ghost named_has_room: { (place : Place) → Self.CanName place → HasRoom narrow place };
+}
+
+impl<W: NarrowWords, A: Allocator, V: LinkValue> NarrowLinks for PlainTable<W, A, V> {
+    ghost use Rattle.std.proofs.Common.{subst};
+
+    ghost named_has_room = { λ place named. subst (λ w. HasRoom w place) W.is_narrow named };
+}
+
+impl<W: NarrowWords, V: LinkValue> NarrowLinks for LentTable<'_, W, V> {
+    ghost use Rattle.std.proofs.Common.{subst};
+
+    ghost named_has_room = { λ place named. subst (λ w. HasRoom w place) W.is_narrow named };
+}
+
+impl<L: NarrowLinks, A: Allocator> BucketsFor<L> for Vec<NarrowPlaceWord, A> {
+    ghost keeps_named = { L.named_has_room };
+}
+
+impl<L: NarrowLinks, const N: usize> BucketsFor<L> for [NarrowPlaceWord; N] {
+    ghost keeps_named = { L.named_has_room };
+}
+
+impl<L: NarrowLinks> BucketsFor<L> for &mut [NarrowPlaceWord] {
+    ghost keeps_named = { L.named_has_room };
+}
+
+impl<L: NarrowLinks> BucketsFor<L> for &mut [u32] {
+    ghost keeps_named = { L.named_has_room };
+}
