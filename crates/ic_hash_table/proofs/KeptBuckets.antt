@@ -1,12 +1,16 @@
 -- The buckets of a table: what they have room for, and that they stay.
-use Rattle.std.proofs.Common.{◌≡◌, Bool, true, Option, None, List, [], length, refl, sym, ◌∙◌}
+use Rattle.std.proofs.Common.{◌≡◌, ℕ, Bool, Option, None, List, [], ◌∷◌, length, map, inl, inr, sym, ap, ◌∙◌}
+use Rattle.std.specs.List.{AllByRecursion}
+use Rattle.ic_unsafe_ref.specs.Places.{place_at, word_of}
 use Rattle.ic_unsafe_ref.specs.declared.place.Place.{Place}
+use Rattle.ic_unsafe_ref.proofs.PlaceLemmas.{place_at_word}
 use Rattle.ic_link_ops.specs.Tables.{Table, IsLinked, IsNameable}
 use Rattle.ic_link_ops.specs.SinglyLinkedList.{Successor}
 use Rattle.ic_link_ops.proofs.Naming.{end_named}
 use Rattle.ic_link_ops.proofs.ShownLists.{gap_behind_linked}
 use Rattle.ic_link_ops.proofs.SinglyLists.{followed_linked}
 use Rattle.ic_hash_table.specs.declared.table.HashTable.{HashTable}
+use Rattle.ic_hash_table.specs.Buckets.{AreRewritten}
 use Rattle.ic_hash_table.specs.Chains.{ShowsFrom}
 use Rattle.ic_hash_table.specs.HashTable.{KeepsBuckets}
 
@@ -20,3 +24,22 @@ module _ {A B : Type 0} {fronts : B → List (Option Place)} {Rewrites : B → B
   -- a table with these buckets keeps those of another one
   pub keeps_buckets : {old new : HashTable A B} → Rewrites old.buckets new.buckets → KeepsBuckets fronts Rewrites old new
   keeps_buckets {old} {new} r = record { count = count old.buckets new.buckets r; rewrites = r }
+
+-- PLAIN WORDS that were 0 are 0 again where no chain has a member
+pub emptied_words : (vs ws : List ℕ) → AreRewritten place_at word_of vs ws → AllByRecursion (λ word. word ≡ 0) vs → AllByRecursion (λ front. front ≡ None) (map place_at ws)
+    → AllByRecursion (λ word. word ≡ 0) ws
+emptied_words [] [] r zero none = tt
+emptied_words [] (w ∷ ws) r zero none = absurd r
+emptied_words (v ∷ vs) [] r zero none = tt
+emptied_words (v ∷ vs) (w ∷ ws) r zero none = (
+  elim r.0 [
+    | inl same ↦ same ∙ zero.0
+    | inr new ↦ new ∙ ap word_of none.0
+  ],
+  emptied_words vs ws r.1 zero.1 none.1,
+)
+
+-- and words that are 0 name no place
+pub zero_fronts : (ws : List ℕ) → AllByRecursion (λ word. word ≡ 0) ws → AllByRecursion (λ front. front ≡ None) (map place_at ws)
+zero_fronts [] zero = tt
+zero_fronts (w ∷ ws) zero = (ap place_at zero.0 ∙ place_at_word None, zero_fronts ws zero.1)

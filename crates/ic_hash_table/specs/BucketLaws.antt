@@ -1,5 +1,5 @@
 -- The laws of rows of words.
-use Rattle.std.specs.Prelude.{◌≡◌, ◌⊎◌, ◌<◌, ℕ, zero, suc, Option, None, List, [], ◌∷◌, map, length, set}
+use Rattle.std.specs.Prelude.{◌≡◌, ℕ, zero, suc, Option, None, List, [], ◌∷◌, map, length, set}
 use Rattle.std.specs.Borrow.{MutBor}
 use Rattle.std.specs.List.{AllByRecursion}
 use Rattle.std.proofs.Common.{inl, inr, refl, sym, ap, ◌∙◌, subst}

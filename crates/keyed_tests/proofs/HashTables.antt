@@ -1,5 +1,5 @@
 -- Hash tables after a call of a test: they hold some sequence still.
-use Rattle.std.proofs.Common.{◌≡◌, ◌↔◌, ℕ, IsTrue, Bool, true, false, Option, Some, None, List, [], ◌∷◌, ◌++◌, Result, Ok, Err, OnErr, IfOk, IfErr, IfSome, IfNone, refl, subst}
+use Rattle.std.proofs.Common.{◌≡◌, ◌↔◌, ℕ, IsTrue, Bool, true, false, Option, Some, None, List, [], ◌∷◌, ◌++◌, Result, Ok, Err, IfOk, IfErr, IfSome, IfNone, refl, subst}
 use Rattle.std.specs.Bool.{OnTrue, OnFalse}
 use Rattle.ic_unsafe_ref.specs.declared.place.Place.{Place}
 use Rattle.ic_link_ops.specs.Sequences.{Cut, join, first, IsAfter, IsMember}
@@ -16,11 +16,11 @@ use Rattle.ic_hash_table.proofs.SideBySideSequences.{take_beside}
 use Rattle.ic_hash_table.specs.Searches.{Finds}
 
 -- WHATEVER AN INSERT OF A NEW KEY ANSWERED
-pub unique_either : {Y X P Q R S Goal : Type 0} (W : X → Type 0) (r : Result (Option Y) X) → IfOk r (λ found. IfSome found (λ member. Q)) → IfOk r (λ found. IfNone found P) → OnErr r R
-    → IfErr r (λ e. W e × S) → (P → Goal) → (Q → Goal) → (R → S → Goal) → Goal
-unique_either W (Ok None) same inserted refused unchanged puts keeps refuses = puts inserted
-unique_either W (Ok (Some y)) same inserted refused unchanged puts keeps refuses = keeps same
-unique_either W (Err e) same inserted refused unchanged puts keeps refuses = refuses refused unchanged.1
+pub unique_either : {Y X P Q R S Goal : Type 0} (W : X → Type 0) (r : Result (Option Y) X) → IfOk r (λ found. IfSome found (λ member. Q)) → IfOk r (λ found. IfNone found P)
+    → IfErr r (λ e. W e × S × R) → (P → Goal) → (Q → Goal) → (R → S → Goal) → Goal
+unique_either W (Ok None) same inserted refused puts keeps refuses = puts inserted
+unique_either W (Ok (Some y)) same inserted refused puts keeps refuses = keeps same
+unique_either W (Err e) same inserted refused puts keeps refuses = refuses refused.2 refused.1
 
 -- whatever a removal by a key answered: H is held before, and J after
 pub taken_either : (H J : List Place → Type 0) (is : Place → Bool) {Same : Type 0} (r : Option Place) (s : List Place) → H s → Finds is s r

@@ -1,6 +1,6 @@
 //! Hash tables of numbers that are their own keys and their own hashes, so that the low bits of a number say in which chain it is.
 
-ghost use Rattle.std.specs.Prelude.{◌≡◌, ◌<◌, None, IfOk, length, true};
+ghost use Rattle.std.specs.Prelude.{◌≡◌, ◌<◌, None, length, true};
 ghost use Rattle.std.specs.List.{AllByRecursion};
 ghost use Rattle.ic_unsafe_ref.specs.declared.place.Place.{Place};
 ghost use Rattle.ic_unsafe_ref.specs.Objects.{is_placed};
@@ -9,16 +9,19 @@ ghost use Rattle.ic_link_ops.specs.OneWord.{no_word};
 ghost use Rattle.ic_link_ops.specs.PlainTables.{table};
 ghost use Rattle.ic_link_ops.specs.Widths.{wide};
 ghost use Rattle.ic_link_ops.specs.Tables.{IsCovered};
-ghost use Rattle.ic_hash_table.specs.HashTable.{adapter_of, slots_of, number, HoldsSome, IsNew};
+ghost use Rattle.ic_hash_table.specs.HashTable.{adapter_of, slots_of, number, HoldsSome, IsNew, KeepsBuckets};
 
 mod equals;
 mod keyed;
+mod narrow;
 mod words;
 
 use crate::asserts::assert_true;
 use crate::hash_table::equals::{grow_beside, put_all, shrink_beside, take_beside};
 use crate::hash_table::keyed::{put_keyed, take_by_keyed, take_keyed};
-use ic_hash_table::{Buckets, Entry, HashAdapter, HashTable, KeyOf, KeyProbe, StdHash};
+use ic_hash_table::{
+    BucketRow, BucketsFor, Entry, HashAdapter, HashTable, KeyOf, KeyProbe, StdHash, empty_buckets,
+};
 use ic_link_ops::singly_linked_list::{LinkOps, LinkOpsWith, SinglyLinkedListOps};
 use ic_link_ops::{LinkOps as _, LinkValues, PlaceWord};
 use ic_test_support::answers::{object, write_places};
@@ -71,18 +74,6 @@ impl KeyOf for ByNumber {
     }
 }
 
-// So many empty buckets.
-fn empty_buckets(alloc: Global, count: usize) -> Result<Vec<PlaceWord>, AllocError>
-    ensures none { IfOk result (λ buckets. AllByRecursion (λ front. front ≡ None) buckets.items) }
-    ensures count { IfOk result (λ buckets. length buckets.items ≡ count) }
-{
-    let mut buckets = Vec::new(alloc);
-    for _bucket in 0..count {
-        buckets.push(PlaceWord::of(None))?;
-    }
-    Ok(buckets)
-}
-
 // The numbers of these tests, of which 10 and 20 stand there twice.
 const NUMBERS: [u64; 8] = [10, 20, 10, 30, 20, 40, 50, 60];
 
@@ -99,7 +90,7 @@ fn fixture(rt: &impl Abort, alloc: Global) -> (Text, Objects<u64>, LinkOps, Vec<
 }
 
 // Puts the object in.
-fn put<A: HashAdapter<Value = u64>, L: SinglyLinkedListOps, B: Buckets>(
+fn put<A: HashAdapter<Value = u64>, L: SinglyLinkedListOps, B: BucketsFor<L>>(
     table: &mut HashTable<A, B>,
     links: &mut L,
     objects: &Objects<u64>,
@@ -113,12 +104,13 @@ fn put<A: HashAdapter<Value = u64>, L: SinglyLinkedListOps, B: Buckets>(
     ensures held { HoldsSome L.successor (number A.key_of A.hash_of) B.fronts (L.table links.new) table.new objects.now }
     ensures adapter { adapter_of table.new ≡ adapter_of table.old }
     ensures slots { slots_of table.new ≡ slots_of table.old }
+    ensures buckets { KeepsBuckets B.fronts B.Rewrites table.old table.new }
 {
     let _ = table.insert(links, objects, reference(index));
 }
 
 // Puts the object in unless a member has its key, and notes which has it.
-fn put_unique<A: HashAdapter<Value = u64>, L: SinglyLinkedListOps, B: Buckets>(
+fn put_unique<A: HashAdapter<Value = u64>, L: SinglyLinkedListOps, B: BucketsFor<L>>(
     notes: &mut Text,
     table: &mut HashTable<A, B>,
     links: &mut L,
@@ -137,7 +129,7 @@ fn put_unique<A: HashAdapter<Value = u64>, L: SinglyLinkedListOps, B: Buckets>(
 }
 
 // The member with the object's key, if there is one. Else the object is put in, with no second search.
-fn enter<A: HashAdapter<Value = u64>, L: SinglyLinkedListOps, B: Buckets>(
+fn enter<A: HashAdapter<Value = u64>, L: SinglyLinkedListOps, B: BucketsFor<L>>(
     adapter: A,
     table: &mut HashTable<A, B>,
     links: &mut L,
@@ -162,7 +154,7 @@ fn enter<A: HashAdapter<Value = u64>, L: SinglyLinkedListOps, B: Buckets>(
 }
 
 // The member with the object's key, or the object, which is put in where none has it.
-fn enter_or_find<A: HashAdapter<Value = u64>, L: SinglyLinkedListOps, B: Buckets>(
+fn enter_or_find<A: HashAdapter<Value = u64>, L: SinglyLinkedListOps, B: BucketsFor<L>>(
     adapter: A,
     table: &mut HashTable<A, B>,
     links: &mut L,
@@ -187,7 +179,7 @@ fn enter_or_find<A: HashAdapter<Value = u64>, L: SinglyLinkedListOps, B: Buckets
 }
 
 // Takes the first member with this key out, if there is one.
-fn leave<A: HashAdapter<Value = u64>, L: SinglyLinkedListOps, B: Buckets>(
+fn leave<A: HashAdapter<Value = u64>, L: SinglyLinkedListOps, B: BucketsFor<L>>(
     table: &mut HashTable<A, B>,
     links: &mut L,
     objects: &Objects<u64>,
@@ -203,7 +195,7 @@ fn leave<A: HashAdapter<Value = u64>, L: SinglyLinkedListOps, B: Buckets>(
 }
 
 // Notes the first member with this key, and the next one.
-fn write_equals<A: HashAdapter<Value = u64>, L: SinglyLinkedListOps, B: Buckets>(
+fn write_equals<A: HashAdapter<Value = u64>, L: SinglyLinkedListOps, B: BucketsFor<L>>(
     notes: &mut Text,
     table: &HashTable<A, B>,
     links: &L,
@@ -220,7 +212,7 @@ fn write_equals<A: HashAdapter<Value = u64>, L: SinglyLinkedListOps, B: Buckets>
 }
 
 // Notes the first member with this key, and how many looks the search took.
-fn write_looks<A: HashAdapter<Value = u64>, L: SinglyLinkedListOps, B: Buckets>(
+fn write_looks<A: HashAdapter<Value = u64>, L: SinglyLinkedListOps, B: BucketsFor<L>>(
     notes: &mut Text,
     adapter: A,
     table: &HashTable<A, B>,
@@ -237,7 +229,7 @@ fn write_looks<A: HashAdapter<Value = u64>, L: SinglyLinkedListOps, B: Buckets>(
 }
 
 // Takes the object out, and notes whether it was a member.
-fn take<A: HashAdapter<Value = u64>, L: SinglyLinkedListOps, B: Buckets>(
+fn take<A: HashAdapter<Value = u64>, L: SinglyLinkedListOps, B: BucketsFor<L>>(
     notes: &mut Text,
     table: &mut HashTable<A, B>,
     links: &mut L,
@@ -256,7 +248,7 @@ fn take<A: HashAdapter<Value = u64>, L: SinglyLinkedListOps, B: Buckets>(
 }
 
 // Takes the first member with this key out, and notes it.
-fn take_by<A: HashAdapter<Value = u64>, L: SinglyLinkedListOps, B: Buckets>(
+fn take_by<A: HashAdapter<Value = u64>, L: SinglyLinkedListOps, B: BucketsFor<L>>(
     notes: &mut Text,
     table: &mut HashTable<A, B>,
     links: &mut L,
@@ -273,7 +265,7 @@ fn take_by<A: HashAdapter<Value = u64>, L: SinglyLinkedListOps, B: Buckets>(
 }
 
 // Keeps the objects below 40.
-fn keep_small<A: HashAdapter<Value = u64>, L: SinglyLinkedListOps, B: Buckets>(
+fn keep_small<A: HashAdapter<Value = u64>, L: SinglyLinkedListOps, B: BucketsFor<L>>(
     table: &mut HashTable<A, B>,
     links: &mut L,
     objects: &Objects<u64>,
@@ -287,7 +279,7 @@ fn keep_small<A: HashAdapter<Value = u64>, L: SinglyLinkedListOps, B: Buckets>(
 }
 
 // Takes one bucket more into use, and notes whether it could.
-fn grow<A: HashAdapter<Value = u64>, L: SinglyLinkedListOps, B: Buckets>(
+fn grow<A: HashAdapter<Value = u64>, L: SinglyLinkedListOps, B: BucketsFor<L>>(
     notes: &mut Text,
     table: &mut HashTable<A, B>,
     links: &mut L,
@@ -303,7 +295,7 @@ fn grow<A: HashAdapter<Value = u64>, L: SinglyLinkedListOps, B: Buckets>(
 }
 
 // Takes the last bucket out of use, and notes whether it could.
-fn shrink<A: HashAdapter<Value = u64>, L: SinglyLinkedListOps, B: Buckets>(
+fn shrink<A: HashAdapter<Value = u64>, L: SinglyLinkedListOps, B: BucketsFor<L>>(
     notes: &mut Text,
     table: &mut HashTable<A, B>,
     links: &mut L,
@@ -319,7 +311,7 @@ fn shrink<A: HashAdapter<Value = u64>, L: SinglyLinkedListOps, B: Buckets>(
 }
 
 // Takes all members out.
-fn empty<A: HashAdapter<Value = u64>, L: SinglyLinkedListOps, B: Buckets>(
+fn empty<A: HashAdapter<Value = u64>, L: SinglyLinkedListOps, B: BucketsFor<L>>(
     table: &mut HashTable<A, B>,
     links: &mut L,
     objects: &Objects<u64>,
@@ -332,7 +324,7 @@ fn empty<A: HashAdapter<Value = u64>, L: SinglyLinkedListOps, B: Buckets>(
 }
 
 // Notes how many members and chains there are, and whether the table is empty.
-fn write_counts<A: HashAdapter<Value = u64>, B: Buckets>(
+fn write_counts<A: HashAdapter<Value = u64>, B: BucketRow>(
     notes: &mut Text,
     table: &HashTable<A, B>,
 ) {
@@ -342,7 +334,7 @@ fn write_counts<A: HashAdapter<Value = u64>, B: Buckets>(
 }
 
 // Notes the objects, chain by chain.
-fn write_members<A: HashAdapter<Value = u64>, L: SinglyLinkedListOps, B: Buckets>(
+fn write_members<A: HashAdapter<Value = u64>, L: SinglyLinkedListOps, B: BucketsFor<L>>(
     notes: &mut Text,
     table: &HashTable<A, B>,
     links: &L,
@@ -356,7 +348,7 @@ fn write_members<A: HashAdapter<Value = u64>, L: SinglyLinkedListOps, B: Buckets
 }
 
 // Notes the first member of all, the one behind it, and the first of a chain.
-fn write_steps<A: HashAdapter<Value = u64>, L: SinglyLinkedListOps, B: Buckets>(
+fn write_steps<A: HashAdapter<Value = u64>, L: SinglyLinkedListOps, B: BucketsFor<L>>(
     notes: &mut Text,
     table: &HashTable<A, B>,
     links: &L,
@@ -373,7 +365,7 @@ fn write_steps<A: HashAdapter<Value = u64>, L: SinglyLinkedListOps, B: Buckets>(
 }
 
 // Notes the first member of the chain where this key belongs.
-fn write_chain_of<A: HashAdapter<Value = u64>, L: SinglyLinkedListOps, B: Buckets>(
+fn write_chain_of<A: HashAdapter<Value = u64>, L: SinglyLinkedListOps, B: BucketsFor<L>>(
     notes: &mut Text,
     adapter: A,
     table: &HashTable<A, B>,
@@ -388,7 +380,7 @@ fn write_chain_of<A: HashAdapter<Value = u64>, L: SinglyLinkedListOps, B: Bucket
 }
 
 // What the table prints.
-fn printed<A: HashAdapter<Value = u64, Key = u64>, L: SinglyLinkedListOps, B: Buckets>(
+fn printed<A: HashAdapter<Value = u64, Key = u64>, L: SinglyLinkedListOps, B: BucketsFor<L>>(
     alloc: Global,
     table: &HashTable<A, B>,
     links: &L,
@@ -401,7 +393,7 @@ fn printed<A: HashAdapter<Value = u64, Key = u64>, L: SinglyLinkedListOps, B: Bu
 }
 
 // Notes what a new table is after each edit, with the key of the objects at 0 and 2.
-fn write_edits<A: HashAdapter<Value = u64>, L: SinglyLinkedListOps, B: Buckets>(
+fn write_edits<A: HashAdapter<Value = u64>, L: SinglyLinkedListOps, B: BucketsFor<L>>(
     notes: &mut Text,
     table: &mut HashTable<A, B>,
     links: &mut L,
@@ -453,7 +445,11 @@ fn a_table_over_an_array(rt: HostRuntime) {
 }
 
 // Notes the looks of a search in a new table, and what the table prints.
-fn write_search<A: HashAdapter<Value = u64, Key = u64>, L: SinglyLinkedListOps, B: Buckets + Drop>(
+fn write_search<
+    A: HashAdapter<Value = u64, Key = u64>,
+    L: SinglyLinkedListOps,
+    B: BucketsFor<L> + Drop,
+>(
     alloc: Global,
     notes: &mut Text,
     adapter: A,
@@ -492,7 +488,7 @@ fn a_search_is_counted(rt: HostRuntime) {
 }
 
 // Notes what a new table is where an object goes in and another comes out, each by one search.
-fn write_entries<A: HashAdapter<Value = u64>, L: SinglyLinkedListOps, B: Buckets + Drop>(
+fn write_entries<A: HashAdapter<Value = u64>, L: SinglyLinkedListOps, B: BucketsFor<L> + Drop>(
     notes: &mut Text,
     adapter: A,
     buckets: B,
@@ -526,7 +522,7 @@ fn entries(rt: HostRuntime) {
 }
 
 // Notes whether a new table with one chain in use can grow and shrink, and what it holds then.
-fn write_growth<A: HashAdapter<Value = u64>, L: SinglyLinkedListOps, B: Buckets + Drop>(
+fn write_growth<A: HashAdapter<Value = u64>, L: SinglyLinkedListOps, B: BucketsFor<L> + Drop>(
     notes: &mut Text,
     adapter: A,
     buckets: B,
@@ -590,7 +586,7 @@ fn a_table_by_stds_hash(rt: HostRuntime) {
 }
 
 // Notes which member has this key in a new table of two, and whether it has it once it is taken out.
-fn write_found<A: HashAdapter<Value = u64>, L: SinglyLinkedListOps, B: Buckets + Drop>(
+fn write_found<A: HashAdapter<Value = u64>, L: SinglyLinkedListOps, B: BucketsFor<L> + Drop>(
     notes: &mut Text,
     adapter: A,
     buckets: B,
@@ -613,7 +609,7 @@ fn write_found<A: HashAdapter<Value = u64>, L: SinglyLinkedListOps, B: Buckets +
 }
 
 // Notes what a new table is where several objects have one key.
-fn write_equal_keys<A: HashAdapter<Value = u64>, L: SinglyLinkedListOps, B: Buckets + Drop>(
+fn write_equal_keys<A: HashAdapter<Value = u64>, L: SinglyLinkedListOps, B: BucketsFor<L> + Drop>(
     notes: &mut Text,
     adapter: A,
     buckets: B,
@@ -651,7 +647,7 @@ fn equal_keys_stand_side_by_side(rt: HostRuntime) {
 fn write_keyed<
     A: HashAdapter<Value = u64>,
     L: SinglyLinkedListOps + LinkValues<u64>,
-    B: Buckets + Drop,
+    B: BucketsFor<L> + Drop,
 >(notes: &mut Text, adapter: A, buckets: B, links: &mut L, key: &A::Key)
     requires covers { (L.table links.old).extent.places ≡ 8 }
     requires count { length (B.fronts buckets) ≡ 4 }
@@ -684,7 +680,7 @@ fn keys_beside_the_links(rt: HostRuntime) {
 }
 
 // Notes which member has the key of the object at 2, or 1, in a new table with the object at 0: the one at 0, or the object itself.
-fn write_entered<A: HashAdapter<Value = u64>, L: SinglyLinkedListOps, B: Buckets + Drop>(
+fn write_entered<A: HashAdapter<Value = u64>, L: SinglyLinkedListOps, B: BucketsFor<L> + Drop>(
     notes: &mut Text,
     adapter: A,
     buckets: B,

@@ -7,14 +7,14 @@ ghost use Rattle.ic_unsafe_ref.specs.Places.{index_of};
 ghost use Rattle.ic_hash_table.specs.HashTable.{number};
 ghost use Rattle.ic_hash_table.specs.SideBySide.{HoldsSideBySide};
 
-use ic_hash_table::{Buckets, HashAdapter, HashTable};
+use ic_hash_table::{BucketsFor, HashAdapter, HashTable};
 use ic_link_ops::LinkOps as _;
 use ic_link_ops::singly_linked_list::SinglyLinkedListOps;
 use ic_test_support::objects::reference;
 use ic_unsafe_ref::Objects;
 
 /// Puts the object in, beside those that have its key.
-fn put_beside<A: HashAdapter<Value = u64>, L: SinglyLinkedListOps, B: Buckets>(
+fn put_beside<A: HashAdapter<Value = u64>, L: SinglyLinkedListOps, B: BucketsFor<L>>(
     table: &mut HashTable<A, B>,
     links: &mut L,
     objects: &Objects<u64>,
@@ -31,7 +31,7 @@ fn put_beside<A: HashAdapter<Value = u64>, L: SinglyLinkedListOps, B: Buckets>(
 }
 
 /// Takes the object out. The others stand as they stood.
-pub(super) fn take_beside<A: HashAdapter<Value = u64>, L: SinglyLinkedListOps, B: Buckets>(
+pub(super) fn take_beside<A: HashAdapter<Value = u64>, L: SinglyLinkedListOps, B: BucketsFor<L>>(
     table: &mut HashTable<A, B>,
     links: &mut L,
     objects: &Objects<u64>,
@@ -48,7 +48,7 @@ pub(super) fn take_beside<A: HashAdapter<Value = u64>, L: SinglyLinkedListOps, B
 }
 
 /// Takes one bucket more into use, if there is one. Objects with equal keys stand side by side still.
-pub(super) fn grow_beside<A: HashAdapter<Value = u64>, L: SinglyLinkedListOps, B: Buckets>(
+pub(super) fn grow_beside<A: HashAdapter<Value = u64>, L: SinglyLinkedListOps, B: BucketsFor<L>>(
     table: &mut HashTable<A, B>,
     links: &mut L,
     objects: &Objects<u64>,
@@ -60,7 +60,7 @@ pub(super) fn grow_beside<A: HashAdapter<Value = u64>, L: SinglyLinkedListOps, B
 }
 
 /// Takes the last bucket out of use, unless it is the only one. Objects with equal keys stand side by side still.
-pub(super) fn shrink_beside<A: HashAdapter<Value = u64>, L: SinglyLinkedListOps, B: Buckets>(
+pub(super) fn shrink_beside<A: HashAdapter<Value = u64>, L: SinglyLinkedListOps, B: BucketsFor<L>>(
     table: &mut HashTable<A, B>,
     links: &mut L,
     objects: &Objects<u64>,
@@ -73,7 +73,7 @@ pub(super) fn shrink_beside<A: HashAdapter<Value = u64>, L: SinglyLinkedListOps,
 }
 
 /// Puts these objects in, one after the other: those with equal keys stand side by side, however many there are.
-pub(super) fn put_all<A: HashAdapter<Value = u64>, L: SinglyLinkedListOps, B: Buckets>(
+pub(super) fn put_all<A: HashAdapter<Value = u64>, L: SinglyLinkedListOps, B: BucketsFor<L>>(
     table: &mut HashTable<A, B>,
     links: &mut L,
     objects: &Objects<u64>,

@@ -4,7 +4,7 @@ ghost use Rattle.std.specs.Prelude.{◌≡◌, ◌<◌};
 ghost use Rattle.ic_link_ops.specs.Tables.{IsCovered};
 ghost use Rattle.ic_hash_table.specs.HashTable.{adapter_of, number, HoldsSome};
 
-use ic_hash_table::{Buckets, HashAdapter, HashTable};
+use ic_hash_table::{BucketsFor, HashAdapter, HashTable};
 use ic_link_ops::singly_linked_list::SinglyLinkedListOps;
 use ic_link_ops::{LinkOps as _, LinkValues};
 use ic_test_support::objects::reference;
@@ -14,7 +14,7 @@ use ic_unsafe_ref::UnsafeRef;
 pub(super) fn put_keyed<
     A: HashAdapter<Value = u64>,
     L: SinglyLinkedListOps + LinkValues<u64>,
-    B: Buckets,
+    B: BucketsFor<L>,
 >(table: &mut HashTable<A, B>, links: &mut L, index: usize)
     requires few { index < 8 }
     requires covers { (L.table links.old).extent.places ≡ 8 }
@@ -29,7 +29,7 @@ pub(super) fn put_keyed<
 pub(super) fn take_keyed<
     A: HashAdapter<Value = u64>,
     L: SinglyLinkedListOps + LinkValues<u64>,
-    B: Buckets,
+    B: BucketsFor<L>,
 >(table: &mut HashTable<A, B>, links: &mut L, index: usize) -> bool
     requires few { index < 8 }
     requires covers { (L.table links.old).extent.places ≡ 8 }
@@ -44,7 +44,7 @@ pub(super) fn take_keyed<
 pub(super) fn take_by_keyed<
     A: HashAdapter<Value = u64>,
     L: SinglyLinkedListOps + LinkValues<u64>,
-    B: Buckets,
+    B: BucketsFor<L>,
 >(table: &mut HashTable<A, B>, links: &mut L, key: &A::Key) -> Option<UnsafeRef<u64>>
     requires held { HoldsSome L.successor (number A.key_of A.hash_of) B.fronts (L.table links.old) table.old (L.values links.old) }
     ensures held { HoldsSome L.successor (number A.key_of A.hash_of) B.fronts (L.table links.new) table.new (L.values links.new) }

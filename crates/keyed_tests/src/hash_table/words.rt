@@ -1,6 +1,6 @@
 //! A hash table whose buckets are plain words, as of a file that is mapped: it is closed, and made again of its words.
 
-ghost use Rattle.std.specs.Prelude.{◌≡◌, ◌<◌, None, length, true};
+ghost use Rattle.std.specs.Prelude.{◌≡◌, ◌<◌, ◌≤◌, None, length, true};
 ghost use Rattle.std.specs.List.{AllByRecursion};
 ghost use Rattle.ic_unsafe_ref.specs.declared.place.Place.{Place};
 ghost use Rattle.ic_unsafe_ref.specs.Objects.{is_placed};
@@ -8,7 +8,7 @@ ghost use Rattle.ic_unsafe_ref.specs.Places.{index_of};
 
 use crate::asserts::assert_true;
 use crate::hash_table::{NUMBERS, OwnKey, put};
-use ic_hash_table::{Buckets, HashAdapter, HashTable};
+use ic_hash_table::{BucketsFor, HashAdapter, HashTable};
 use ic_link_ops::LinkOps as _;
 use ic_link_ops::singly_linked_list::{LinkOps, SinglyLinkedListOps};
 use ic_test_support::answers::write_places;
@@ -17,7 +17,7 @@ use ic_test_support::objects::eight_objects;
 use ic_unsafe_ref::{Objects, UnsafeRef};
 
 // Puts two objects into a new table over these buckets, closes it, and makes it again: the member that it finds by this key then.
-fn found_again<A: HashAdapter<Value = u64>, L: SinglyLinkedListOps, B: Buckets + Drop>(
+fn found_again<A: HashAdapter<Value = u64>, L: SinglyLinkedListOps, B: BucketsFor<L> + Drop>(
     adapter: A,
     buckets: B,
     links: &mut L,
@@ -38,6 +38,28 @@ fn found_again<A: HashAdapter<Value = u64>, L: SinglyLinkedListOps, B: Buckets +
     again.find(&*links, objects, key)
 }
 
+// Puts an object into a table over lent words of which one chain is in use, takes one chain more into use, which it always can, and empties the
+// table. The lent words come back, and are 0 again.
+fn grown_and_cleared<'a, L: SinglyLinkedListOps>(
+    words: &'a mut [u64],
+    links: &mut L,
+    objects: &Objects<u64>,
+) -> (bool, &'a mut [u64])
+    requires covers { (L.table links.old).extent.places ≡ 8 }
+    requires placed { (q : Place) → index_of q < 8 → is_placed objects.now q ≡ true }
+    requires some { 2 ≤ length words.old }
+    requires zero { AllByRecursion (λ word. word ≡ 0) words.old }
+    ensures grown { result.0 ≡ true }
+    ensures zero { AllByRecursion (λ word. word ≡ 0) result.1.now }
+    ensures lent { result.1.ghost_name ≡ words.entry.ghost_name }
+{
+    let mut table = HashTable::with_used(OwnKey, words, 1);
+    put(&mut table, links, objects, 0);
+    let is_grown = table.grow_one(links, objects);
+    table.clear(links);
+    (is_grown, table.into_buckets())
+}
+
 // The words name no place at first. 10 and 30 belong in chain 2, whose first member is the object at 3 then.
 #[test]
 fn a_table_over_words(rt: HostRuntime) {
@@ -53,4 +75,14 @@ fn a_table_over_words(rt: HostRuntime) {
         notes.add(Answer::Number(word), " ");
     }
     assert_true(&rt, notes.has_words("0  0 7 32 1099511627776"));
+}
+
+#[test]
+fn lent_words_come_back(rt: HostRuntime) {
+    let alloc = rt.alloc();
+    let (objects, mut links): (_, LinkOps) = eight_objects(alloc, NUMBERS).expect(&rt, "memory");
+    let mut words: [u64; 2] = [0, 0];
+    let (is_grown, _) = grown_and_cleared(&mut words[..], &mut links, &objects);
+    assert_true(&rt, is_grown);
+    assert_true(&rt, words[0] == 0 && words[1] == 0);
 }

@@ -6,4 +6,4 @@ pub clear-requires : goal.clear-requires
 clear-requires g c = let q = c.requires.held in record { shown = (q.0, held_shown q.1) }
 
 pub returns : goal.returns
-returns g c = record { held = new_held g.L.SinglyLinkedListOps.successor (number g.A.HashAdapter.key_of g.A.HashAdapter.hash_of) g.B.Buckets.fronts (g.L.LinkOps.table c.clear.new.links) c.clear.new.self c.args.objects.now c.clear.ensures.empty }
+returns g c = record { held = new_held g.L.SinglyLinkedListOps.successor (number g.A.HashAdapter.key_of g.A.HashAdapter.hash_of) g.B.BucketRow.fronts (g.L.LinkOps.table c.clear.new.links) c.clear.new.self c.args.objects.now c.clear.ensures.empty }

@@ -10,5 +10,5 @@ pub returns-clause-held : goal.returns-clause-held
 returns-clause-held g c =
     let e = c.insert_unique-found.ensures in
     let q = c.requires.held in
-    unique_either _ c.insert_unique-found.result e.same (e.inserted q.0 q.1) e.refused e.unchanged (λ also. (insert also.0 c.reference.result, also.2)) (λ same. (q.0, rw (same.0, same.1) q.1))
+    unique_either _ c.insert_unique-found.result e.same (e.inserted q.0 q.1) e.refused (λ also. (insert also.0 c.reference.result, also.2)) (λ same. (q.0, rw (same.0, same.1) q.1))
     (λ refused same. (q.0, rw (g.met.L.LinkOps.refused_keeps _ _ _ refused, same) q.1))

@@ -1,4 +1,4 @@
-use Rattle.std.proofs.Common.{refl, sym, ap, ◌∙◌}
+use Rattle.std.proofs.Common.{sym, ap, ◌∙◌}
 use Rattle.ic_hash_table.specs.BucketLaws.{fronts_set, rewritten_at}
 use Rattle.ic_hash_table.proofs.buckets.ArrayBucketRow.set_front.Goals as goal
 

@@ -6,5 +6,5 @@ use Rattle.keyed_tests.proofs.hash_table.equals.put_all.Given as goal
 abbrev pub invariant-loop-index : goal.invariant-loop-index
 invariant-loop-index g l = record {
   covers : (g.L.LinkOps.table l.links).extent.places ≡ 8;
-  beside : HoldsSideBySide g.L.SinglyLinkedListOps.successor (number g.A.HashAdapter.key_of g.A.HashAdapter.hash_of) g.B.Buckets.fronts g.A.Key.PartialEq.eq g.A.HashAdapter.key_of (g.L.LinkOps.table l.links) l.table l.objects;
+  beside : HoldsSideBySide g.L.SinglyLinkedListOps.successor (number g.A.HashAdapter.key_of g.A.HashAdapter.hash_of) g.B.BucketRow.fronts g.A.Key.PartialEq.eq g.A.HashAdapter.key_of (g.L.LinkOps.table l.links) l.table l.objects;
 }

@@ -19,9 +19,9 @@ returns-clause-beside g c =
     let q = c.requires.beside in
     let hash = number g.A.HashAdapter.key_of g.A.HashAdapter.hash_of in
     let key_of = g.A.HashAdapter.key_of c.args.table.now.adapter in
-    subst (λ a. (u : List Place) × Holds g.L.SinglyLinkedListOps.successor hash g.B.Buckets.fronts (g.L.LinkOps.table c.remove.new.links) c.remove.new.self c.args.objects.now u
+    subst (λ a. (u : List Place) × Holds g.L.SinglyLinkedListOps.successor hash g.B.BucketRow.fronts (g.L.LinkOps.table c.remove.new.links) c.remove.new.self c.args.objects.now u
     × AreSideBySide (same_key g.A.Key.PartialEq.eq (g.A.HashAdapter.key_of a) c.args.objects.now) u) (sym e.adapter)
     (removed_beside (same_key g.A.Key.PartialEq.eq key_of c.args.objects.now) (keys_alike g.met.A.Key.Eq.laws key_of c.args.objects.now)
-    (Holds g.L.SinglyLinkedListOps.successor hash g.B.Buckets.fronts (g.L.LinkOps.table c.args.links.now) c.args.table.now c.args.objects.now)
-    (Holds g.L.SinglyLinkedListOps.successor hash g.B.Buckets.fronts (g.L.LinkOps.table c.remove.new.links) c.remove.new.self c.args.objects.now)
+    (Holds g.L.SinglyLinkedListOps.successor hash g.B.BucketRow.fronts (g.L.LinkOps.table c.args.links.now) c.args.table.now c.args.objects.now)
+    (Holds g.L.SinglyLinkedListOps.successor hash g.B.BucketRow.fronts (g.L.LinkOps.table c.remove.new.links) c.remove.new.self c.args.objects.now)
     c.remove.result q.0 q.1 q.2 (e.answer q.0 q.1) e.removed e.nothing (λ same. rw (same.0, same.1) q.1))

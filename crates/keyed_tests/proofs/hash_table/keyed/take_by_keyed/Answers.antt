@@ -10,8 +10,8 @@ returns g c =
     let hash = number g.A.HashAdapter.key_of g.A.HashAdapter.hash_of in
     record {
       held = rw e.values
-          (taken_either (Holds g.L.SinglyLinkedListOps.successor hash g.B.Buckets.fronts (g.L.LinkOps.table c.args.links.now) c.args.table.now (g.L.Values.values c.args.links.now))
-          (Holds g.L.SinglyLinkedListOps.successor hash g.B.Buckets.fronts (g.L.LinkOps.table c.remove_by_keyed.new.links) c.remove_by_keyed.new.self (g.L.Values.values c.args.links.now))
+          (taken_either (Holds g.L.SinglyLinkedListOps.successor hash g.B.BucketRow.fronts (g.L.LinkOps.table c.args.links.now) c.args.table.now (g.L.Values.values c.args.links.now))
+          (Holds g.L.SinglyLinkedListOps.successor hash g.B.BucketRow.fronts (g.L.LinkOps.table c.remove_by_keyed.new.links) c.remove_by_keyed.new.self (g.L.Values.values c.args.links.now))
           (has_key g.A.Key.PartialEq.eq (g.A.HashAdapter.key_of c.args.table.now.adapter) c.args.key.now (g.L.Values.values c.args.links.now)) c.remove_by_keyed.result q.0 q.1 (e.found q.0 q.1) e.removed e.nothing
           (λ same. rw (same.0, same.1) q.1));
     }

@@ -16,6 +16,6 @@ returns-clause-held g c =
     let q = c.requires.held in
     let hash = number g.A.HashAdapter.key_of g.A.HashAdapter.hash_of in
     rw e.values
-    (removed_some (Holds g.L.SinglyLinkedListOps.successor hash g.B.Buckets.fronts (g.L.LinkOps.table c.args.links.now) c.args.table.now (g.L.Values.values c.args.links.now))
-    (Holds g.L.SinglyLinkedListOps.successor hash g.B.Buckets.fronts (g.L.LinkOps.table c.remove_keyed.new.links) c.remove_keyed.new.self (g.L.Values.values c.args.links.now))
+    (removed_some (Holds g.L.SinglyLinkedListOps.successor hash g.B.BucketRow.fronts (g.L.LinkOps.table c.args.links.now) c.args.table.now (g.L.Values.values c.args.links.now))
+    (Holds g.L.SinglyLinkedListOps.successor hash g.B.BucketRow.fronts (g.L.LinkOps.table c.remove_keyed.new.links) c.remove_keyed.new.self (g.L.Values.values c.args.links.now))
     c.remove_keyed.result q.0 q.1 (e.answer q.0 q.1) e.removed e.nothing (λ same. rw (same.0, same.1) q.1))

@@ -1,0 +1,36 @@
+//! A hash table over links of 4-byte words, with buckets of 4 bytes: the edits leave what they leave over words of 8 bytes.
+
+use crate::asserts::assert_true;
+use crate::hash_table::{EDITS, NUMBERS, OwnKey, write_edits};
+use ic_hash_table::{HashTable, empty_narrow_buckets};
+use ic_link_ops::singly_linked_list::NarrowLinkOps;
+use ic_test_support::notes::Text;
+use ic_test_support::objects::eight_objects;
+
+// Promise: edits of a hash table over 4-byte words.
+#[test]
+fn a_table_of_narrow_buckets(rt: HostRuntime) {
+    let alloc = rt.alloc();
+    let mut notes = Text::new(alloc);
+    let (objects, mut links): (_, NarrowLinkOps) = eight_objects(alloc, NUMBERS).expect(
+        &rt, "memory",
+    );
+    let buckets = empty_narrow_buckets(alloc, 4).expect(&rt, "memory for buckets");
+    let mut table = HashTable::new(OwnKey, buckets);
+    write_edits(&mut notes, &mut table, &mut links, &objects, &10);
+    assert_true(&rt, notes.has_words(EDITS));
+}
+
+// Words of 4 bytes that are lent, as of a file that is mapped.
+#[test]
+fn a_table_of_lent_narrow_words(rt: HostRuntime) {
+    let alloc = rt.alloc();
+    let mut notes = Text::new(alloc);
+    let (objects, mut links): (_, NarrowLinkOps) = eight_objects(alloc, NUMBERS).expect(
+        &rt, "memory",
+    );
+    let mut words: [u32; 4] = [0, 7, 20, 0];
+    let mut table = HashTable::new(OwnKey, &mut words[..]);
+    write_edits(&mut notes, &mut table, &mut links, &objects, &10);
+    assert_true(&rt, notes.has_words(EDITS));
+}
