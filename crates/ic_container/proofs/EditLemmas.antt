@@ -1,5 +1,5 @@
 -- For callers: an edit, out of the clauses of the call that made it.
-use Rattle.std.proofs.Common.{◌≡◌, ◌≢◌, true, Bool, Result, OnOk, OnErr, Some, List, [], ◌∷◌, ◌++◌, drop, sym, subst, append-nil}
+use Rattle.std.proofs.Common.{◌≡◌, ◌≢◌, true, Bool, Result, Ok, Err, OnOk, OnErr, Some, List, [], ◌∷◌, ◌++◌, drop, sym, subst, append-nil}
 use Rattle.std.specs.declared.cmp.Ordering.{Ordering}
 use Rattle.ic_unsafe_ref.specs.declared.place.Place.{Place}
 use Rattle.ic_link_ops.specs.Positions.{HasMember}
@@ -12,6 +12,15 @@ use Rattle.ic_link_ops.proofs.LinkedSets.{linked_again}
 use Rattle.ic_link_ops.proofs.SequenceLemmas.{absent_without, first_is}
 use Rattle.ic_cursors.specs.Ordered.{InsertsInOrder}
 use Rattle.ic_container.specs.Edited.{HasJoined, HasLeft, HasMoved}
+
+-- what follows from what an accepted call did, and from what a refusal says
+pub done : {X Y P Q : Type 0} (r : Result X Y) → (P → Q) → OnOk r P → OnOk r Q
+done (Ok x) law h = law h
+done (Err y) law h = h
+
+pub refused_linked : {X Y P Q : Type 0} (r : Result X Y) → (P → Q) → OnErr r P → OnErr r (Q × P)
+refused_linked (Ok x) law h = h
+refused_linked (Err y) law h = (law h, h)
 
 module _ {E H : Type 0} {Shows : Table E → H → List Place → Type 0} {linked : E → Bool} {old new : Table E} {head after : H} {p : Place} (s : List Place) (shown : Shows old head s) where
   -- A PUSH of what was not linked: `refused`, `inserted`, `acquired` and `frame` are its clauses

@@ -6,22 +6,33 @@ use Rattle.std.specs.List.{AllByRecursion}
 use Rattle.ic_unsafe_ref.specs.declared.place.Place.{Place}
 use Rattle.ic_unsafe_ref.specs.Objects.{Objects, Places, Frees, object_at}
 use Rattle.ic_unsafe_ref.proofs.Placing.{Puts, put_there, put_others}
+use Rattle.ic_unsafe_ref.specs.Places.{index_of}
 use Rattle.ic_link_ops.specs.Chains.{no_members}
-use Rattle.ic_link_ops.specs.DoublyEntries as lists
+use Rattle.ic_link_ops.specs.DoublyEntries as doubly
+use Rattle.ic_link_ops.specs.EntryLaws.{linked_in_range}
+use Rattle.ic_link_ops.specs.LinkedList as lists
+use Rattle.ic_link_ops.specs.LinkedList.{Neighbors}
+use Rattle.ic_link_ops.specs.Links.{link_of}
+use Rattle.ic_link_ops.specs.PlainTables as plain
+use Rattle.ic_link_ops.specs.PlainTables.{entries, linked_by}
+use Rattle.ic_link_ops.specs.Readings.{neighbors_of}
+use Rattle.ic_link_ops.specs.TwoWords.{no_words, has_words, next_word_of, prev_of}
+use Rattle.ic_link_ops.specs.Widths.{Width, wide, nameable}
 use Rattle.ic_link_ops.specs.Positions.{HasMember}
 use Rattle.ic_link_ops.specs.Sequences.{IsAbsent, IsMember, IsDisjoint}
 use Rattle.ic_link_ops.specs.Walk.{is_end}
-use Rattle.ic_link_ops.specs.Tables.{Table, IsUnlinked}
+use Rattle.ic_link_ops.specs.Tables.{Table, IsCovered, IsLinked, IsUnlinked}
 use Rattle.ic_link_ops.proofs.Calling.{has_member}
 use Rattle.ic_link_ops.proofs.CollectionLaws.{IsKind, kept_shown, others_stay}
-use Rattle.ic_link_ops.proofs.DoublyLists.{plain_lists, plain_members, plain_covered}
+use Rattle.ic_link_ops.proofs.DoublyLists.{doubly_lists, members_shown, neighbors_covered}
 use Rattle.ic_link_ops.proofs.LinkedSets.{everywhere}
 use Rattle.ic_link_ops.proofs.SequenceLemmas.{disjoint_cons, member_split, some_same}
 use Rattle.ic_link_ops.proofs.Walks.{is_end_yes, is_end_no}
 use Rattle.ic_pool.specs.Pooled.{Grows}
 use Rattle.ic_container.specs.Rows.{Rows, Joins, Leaves, Moves, Stays, home_or, home_of, listed}
 use Rattle.ic_container.specs.Edited.{HasJoined, HasLeft, HasMoved}
-use Rattle.ic_container.specs.Holds.{rows_of, Holds}
+use Rattle.ic_container.specs.Holds.{rows_of, Holds, members_in}
+use Rattle.ic_container.specs.ListReadings.{ReadsLists}
 use Rattle.ic_container.proofs.RowLemmas.{at_row, rows_apart, housed_same, housed_joined, housed_left, housed_moved, joins_from, home_placed, homes_placed, home_freed, homes_freed}
 
 -- how a container reads its tables: the five facts of a kind, and that the members are what is shown
@@ -29,8 +40,32 @@ pub record Reading {L E H : Type 0} (Shows : Table E → H → List Place → Ty
   pub kind : IsKind Shows linked empty
   pub members_are : (links : L) (head : H) (s : List Place) → Shows (table links) head s → members links head ≡ s
 
-pub list_reading : {A : Type 0} → Reading lists.ShowsList lists.is_linked no_members (lists.plain_table {A = A}) lists.members_of
-list_reading = record { kind = plain_lists; members_are = λ links head s shown. plain_members links shown }
+-- of a table of lists, of whatever width
+module _ {L E : Type 0} {neighbors : E → Neighbors} {linked : E → Bool} {table : L → Table E} (reads : ReadsLists neighbors linked table) where
+  pub list_reading : Reading (lists.Shows neighbors) linked no_members table (members_in neighbors table)
+  list_reading = record {
+    kind = doubly_lists reads.alike;
+    members_are = λ links head s shown. members_shown (table links) (neighbors_covered neighbors table reads.covered reads.alike links) head s shown;
+  }
+
+  -- A TABLE WITH NO PLACE links nothing
+  pub nothing_linked : (links : L) → (table links).extent.places ≡ 0 → (p : Place) → IsUnlinked linked (table links) p
+  nothing_linked links none p = false_from_ne_true _ (λ is. let within = reads.covered links p is in absurd (omega (arith, within, none)))
+
+-- A PLAIN TABLE has these laws, of whatever width its words are
+module _ {W A : Type 0} (width : Width) (unlinked : W) (is_linked : W → Bool) (next_word : W → ℕ) (prev : W → Option Place) where
+  pub plain_reads : is_linked unlinked ≡ false → ReadsLists (neighbors_of next_word is_linked prev) (linked_by is_linked) (plain.table {A = A} width unlinked)
+  plain_reads starts = record {
+    alike = λ e. refl;
+    covered = λ links p is. linked_in_range (linked_by is_linked) (link_of unlinked) starts (nameable width (entries links)) (index_of p) is;
+  }
+
+-- and one of 8-byte words
+pub wide_reads : {A : Type 0} → ReadsLists doubly.neighbors_of doubly.is_linked (doubly.plain_table {A = A})
+wide_reads = plain_reads wide no_words has_words next_word_of prev_of refl
+
+pub list_off : {A : Type 0} (links : doubly.DoublyLinkOps A) → (doubly.plain_table links).extent.places ≡ 0 → (p : Place) → IsUnlinked doubly.is_linked (doubly.plain_table links) p
+list_off = nothing_linked wide_reads
 
 -- the homes without that of p
 pub homeless : Place → (Place → Option ℕ) → Place → Option ℕ
@@ -231,7 +266,3 @@ module _ {L E H : Type 0} {Shows : Table E → H → List Place → Type 0} {lin
     -- ANOTHER VALUE in the place of one, that belongs where that did
     pub holds_changed : {new : Objects T} {p : Place} {v : T} → Puts objects new p v → belongs v ≡ home_of belongs objects p → Holds Shows linked table members links heads (home_of belongs new)
     holds_changed {new} {p} puts same = holds_same k (λ q. everywhere (λ q. home_of belongs new q ≡ home_of belongs objects q) p q (ap (home_or belongs) (put_there puts) ∙ same) (λ n. ap (home_or belongs) (put_others puts q n)))
-
--- A TABLE WITH NO PLACE links nothing
-pub list_off : {A : Type 0} (links : lists.DoublyLinkOps A) → (lists.plain_table links).extent.places ≡ 0 → (p : Place) → IsUnlinked lists.is_linked (lists.plain_table links) p
-list_off links none p = false_from_ne_true _ (λ linked. let within = plain_covered links p linked in absurd (omega (arith, within, none)))

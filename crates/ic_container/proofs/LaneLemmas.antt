@@ -1,142 +1,164 @@
 -- For callers: objects in lanes, after each kind of step, and what the step says of what stands in them.
-use Rattle.std.proofs.Common.{◌≡◌, ◌≢◌, ℕ, ◌<◌, Option, Some, None, IfSome, IfNone, List, [], refl, sym, ap, ◌∙◌, subst, drop}
+use Rattle.std.proofs.Common.{◌≡◌, ◌≢◌, ℕ, ◌<◌, Bool, Option, Some, None, IfSome, IfNone, List, [], refl, sym, ap, ◌∙◌, subst, drop}
 use Rattle.ic_unsafe_ref.specs.declared.place.Place.{Place}
 use Rattle.ic_unsafe_ref.specs.Objects.{Objects, Places, Frees, object_at, with_object}
 use Rattle.ic_unsafe_ref.proofs.Placing.{puts_other, put_there, put_others}
 use Rattle.ic_link_ops.specs.Chains.{Ends, no_members}
-use Rattle.ic_link_ops.specs.DoublyEntries.{DoublyLinkOps, PlainShows, is_linked, plain_table}
+use Rattle.ic_link_ops.specs.DoublyEntries.{DoublyLinkOps, is_linked, neighbors_of, plain_table}
+use Rattle.ic_link_ops.specs.LinkedList.{Neighbors, Shows}
 use Rattle.ic_link_ops.specs.Positions.{HasMember}
 use Rattle.ic_link_ops.specs.Sequences.{first}
-use Rattle.ic_link_ops.specs.Tables.{IsUnlinked}
+use Rattle.ic_link_ops.specs.Tables.{Table, IsUnlinked}
 use Rattle.ic_link_ops.proofs.SequenceLemmas.{first_is, nothing_first, some_same}
 use Rattle.ic_pool.specs.Pooled.{Grows}
-use Rattle.ic_container.specs.Holds.{list_rows}
-use Rattle.ic_container.specs.Lanes.{Lanes, lane, lane_at, lanes_of, in_lane, IsFirst, IsLaned, IsEmpty, IsUnchanged, LaneJoins, LaneLeaves, LaneMoves, Pushes, Goes, TakesFirst, TakesOut, Renews}
+use Rattle.ic_container.specs.Holds.{list_rows, members_in}
+use Rattle.ic_container.specs.ListReadings.{ReadsLists}
+use Rattle.ic_container.specs.Lanes.{Lanes, lane, lane_at, lanes_in, lanes_of, in_lane, AreLaned, IsFirst, IsLaned, IsEmpty, IsUnchanged, LaneJoins, LaneLeaves, LaneMoves, Pushes, Goes, TakesFirst, TakesOut, Renews}
 use Rattle.ic_container.specs.Rows.{Stays, home_or, home_of}
-use Rattle.ic_container.proofs.HoldsLemmas.{list_reading, list_off, holds_freed, holds_grown, holds_new, holds_none, holds_transferred, left, new_joined, new_off, none_stand, object_stands, rows_grown, rows_seen, transferred}
+use Rattle.ic_container.proofs.HoldsLemmas.{list_reading, nothing_linked, wide_reads, holds_freed, holds_grown, holds_new, holds_none, holds_transferred, left, new_joined, new_off, none_stand, object_stands, rows_grown, rows_seen, transferred}
 use Rattle.ic_container.proofs.RowLemmas.{back_seen, leaves_seen, member_home, no_front, puts_back}
 
-module _ {T A : Type 0} (objects : Objects T) (links : DoublyLinkOps A) (lanes : List Ends) where
+module _ {L E : Type 0} {neighbors : E → Neighbors} {linked : E → Bool} {table : L → Table E} (reads : ReadsLists neighbors linked table) {T : Type 0} (objects : Objects T) (links : L) (lanes : List Ends) where
   -- the lanes are the rows of the table
-  pub lanes_seen : Stays (list_rows links (lane_at lanes)) (lane (lanes_of objects links lanes))
-  lanes_seen = rows_seen list_reading links lanes
+  rows_are : Stays (list_rows neighbors table links (lane_at lanes)) (lane (lanes_in (members_in neighbors table) objects links lanes))
+  rows_are = rows_seen (list_reading reads) links lanes
 
   -- AT FIRST
   module _ (empty : (i : ℕ) → lane_at lanes i ≡ no_members) (vacant : (p : Place) → object_at objects p ≡ None) where
+    pub laned_first : (lane_of : T → ℕ) → (table links).extent.places ≡ 0 → AreLaned lane_of neighbors linked table objects links lanes
+    laned_first lane_of none = record {
+      reading = reads;
+      holds = holds_none (list_reading reads) links empty (λ p. ap (home_or (in_lane lane_of)) (vacant p)) (nothing_linked reads links none);
+    }
+
+    pub lanes_first : IsEmpty (lanes_in (members_in neighbors table) objects links lanes)
+    lanes_first = record { no_lane = λ i. rows_are i ∙ none_stand (list_reading reads) links empty i; no_object = vacant }
+
+-- the same over a plain table of 8-byte words
+module _ {T A : Type 0} (objects : Objects T) (links : DoublyLinkOps A) (lanes : List Ends) where
+  pub lanes_seen : Stays (list_rows neighbors_of plain_table links (lane_at lanes)) (lane (lanes_of objects links lanes))
+  lanes_seen = rows_are wide_reads objects links lanes
+
+  module _ (empty : (i : ℕ) → lane_at lanes i ≡ no_members) (vacant : (p : Place) → object_at objects p ≡ None) where
     pub laned_none : (lane_of : T → ℕ) → (plain_table links).extent.places ≡ 0 → IsLaned lane_of objects links lanes
-    laned_none lane_of none = record { holds = holds_none list_reading links empty (λ p. ap (home_or (in_lane lane_of)) (vacant p)) (list_off links none) }
+    laned_none = laned_first wide_reads objects links lanes empty vacant
 
     pub lanes_empty : IsEmpty (lanes_of objects links lanes)
-    lanes_empty = record { no_lane = λ i. lanes_seen i ∙ none_stand list_reading links empty i; no_object = vacant }
+    lanes_empty = lanes_first wide_reads objects links lanes empty vacant
 
-module _ {T A : Type 0} (lane_of : T → ℕ) {objects : Objects T} {links : DoublyLinkOps A} {lanes : List Ends} (k : IsLaned lane_of objects links lanes) where
+module _ {L E : Type 0} {neighbors : E → Neighbors} {linked : E → Bool} {table : L → Table E} {T : Type 0} (lane_of : T → ℕ) {objects : Objects T} {links : L} {lanes : List Ends} (k : AreLaned lane_of neighbors linked table objects links lanes) where
+  -- the lanes, whatever the objects are
+  abbrev lanes_at : Objects T → L → List Ends → Lanes T
+  lanes_at = lanes_in (members_in neighbors table)
+
   -- an object is a member of its lane
-  pub laned_stands : {p : Place} {v : T} → object_at objects p ≡ Some v → HasMember (PlainShows links (lane_at lanes (lane_of v))) p
-  laned_stands there = object_stands list_reading (in_lane lane_of) objects k.holds there refl
+  pub laned_stands : {p : Place} {v : T} → object_at objects p ≡ Some v → HasMember (Shows neighbors (table links) (lane_at lanes (lane_of v))) p
+  laned_stands there = object_stands (list_reading k.reading) (in_lane lane_of) objects k.holds there refl
 
-  pub laned_unchanged : IsUnchanged (lanes_of objects links lanes) (lanes_of objects links lanes)
+  pub laned_unchanged : IsUnchanged (lanes_at objects links lanes) (lanes_at objects links lanes)
   laned_unchanged = record { same_lanes = λ i. refl; same_values = refl }
 
   -- AFTER `place`, whatever it answered
-  module _ (grown : DoublyLinkOps A) (grows : Grows (plain_table links) (plain_table grown)) where
-    pub laned_grown : IsLaned lane_of objects grown lanes
-    laned_grown = record { holds = holds_grown list_reading k.holds grown grows }
+  module _ (grown : L) (grows : Grows (table links) (table grown)) where
+    pub laned_grown : AreLaned lane_of neighbors linked table objects grown lanes
+    laned_grown = record { reading = k.reading; holds = holds_grown (list_reading k.reading) k.holds grown grows }
 
-    pub lanes_grown : IsUnchanged (lanes_of objects links lanes) (lanes_of objects grown lanes)
-    lanes_grown = record { same_lanes = λ i. lanes_seen objects grown lanes i ∙ rows_grown list_reading k.holds grown grows i ∙ sym (lanes_seen objects links lanes i); same_values = refl }
+    pub lanes_grown : IsUnchanged (lanes_at objects links lanes) (lanes_at objects grown lanes)
+    lanes_grown = record { same_lanes = λ i. rows_are k.reading objects grown lanes i ∙ rows_grown (list_reading k.reading) k.holds grown grows i ∙ sym (rows_are k.reading objects links lanes i); same_values = refl }
 
     -- A NEW OBJECT is not linked yet,
     module _ {more : Objects T} {p : Place} {v : T} (places : Places objects more p v) where
-      pub laned_off : IsUnlinked is_linked (plain_table grown) p
-      laned_off = new_off list_reading (in_lane lane_of) objects k.holds places grown grows
+      pub laned_off : IsUnlinked linked (table grown) p
+      laned_off = new_off (list_reading k.reading) (in_lane lane_of) objects k.holds places grown grows
 
       -- and goes behind all others of its lane
-      module _ (after : DoublyLinkOps A) (ends : List Ends) {s : List Place} (e : LaneJoins (lane_of v) grown after lanes ends s p []) where
-        pub laned_new : IsLaned lane_of more after ends
-        laned_new = record { holds = holds_new list_reading (in_lane lane_of) objects k.holds places grown grows (lane_of v) after e.others refl e.edit }
+      module _ (after : L) (ends : List Ends) {s : List Place} (e : LaneJoins neighbors linked (lane_of v) (table grown) (table after) lanes ends s p []) where
+        pub laned_new : AreLaned lane_of neighbors linked table more after ends
+        laned_new = record { reading = k.reading; holds = holds_new (list_reading k.reading) (in_lane lane_of) objects k.holds places grown grows (lane_of v) after e.others refl e.edit }
 
-        pub lanes_new : Pushes lane_of p v (lanes_of objects links lanes) (lanes_of more after ends)
+        pub lanes_new : Pushes lane_of p v (lanes_at objects links lanes) (lanes_at more after ends)
         lanes_new = record {
           placed = places;
-          back = back_seen _ _ (lanes_seen objects links lanes) (lanes_seen more after ends)
-              (puts_back (new_joined list_reading (in_lane lane_of) objects k.holds places grown grows (lane_of v) after e.others refl e.edit));
+          back = back_seen _ _ (rows_are k.reading objects links lanes) (rows_are k.reading more after ends)
+              (puts_back (new_joined (list_reading k.reading) (in_lane lane_of) objects k.holds places grown grows (lane_of v) after e.others refl e.edit));
         }
 
-  module _ {p : Place} {v : T} (there : object_at objects p ≡ Some v) (after : DoublyLinkOps A) (ends : List Ends) where
+  module _ {p : Place} {v : T} (there : object_at objects p ≡ Some v) (after : L) (ends : List Ends) where
     -- AN OBJECT out of its lane, and out
-    module _ {less : Objects T} (frees : Frees objects less p) (e : (front : List Place) × (back : List Place) × LaneLeaves (lane_of v) links after lanes ends front p back) where
-      pub laned_freed : IsLaned lane_of less after ends
-      laned_freed = record { holds = holds_freed list_reading (in_lane lane_of) objects k.holds frees (lane_of v) after e.2.others e.2.edit }
+    module _ {less : Objects T} (frees : Frees objects less p) (e : (front : List Place) × (back : List Place) × LaneLeaves neighbors linked (lane_of v) (table links) (table after) lanes ends front p back) where
+      pub laned_freed : AreLaned lane_of neighbors linked table less after ends
+      laned_freed = record { reading = k.reading; holds = holds_freed (list_reading k.reading) (in_lane lane_of) objects k.holds frees (lane_of v) after e.2.others e.2.edit }
 
-      pub lanes_freed : TakesOut lane_of p v (lanes_of objects links lanes) (lanes_of less after ends)
+      pub lanes_freed : TakesOut lane_of p v (lanes_at objects links lanes) (lanes_at less after ends)
       lanes_freed = record {
         front = e.0;
         back = e.1;
         goes = record {
           named = there;
           freed = frees;
-          leaves = leaves_seen _ _ (lanes_seen objects links lanes) (lanes_seen less after ends) (left list_reading k.holds (lane_of v) after e.2.others e.2.edit);
+          leaves = leaves_seen _ _ (rows_are k.reading objects links lanes) (rows_are k.reading less after ends) (left (list_reading k.reading) k.holds (lane_of v) after e.2.others e.2.edit);
         };
       }
 
     -- ANOTHER VALUE in its place, in the lane of that one
-    module _ (value : T) (e : LaneMoves (lane_of v) (lane_of value) links after lanes ends p) where
-      pub laned_renewed : IsLaned lane_of (with_object objects p value) after ends
+    module _ (value : T) (e : LaneMoves neighbors linked table (lane_of v) (lane_of value) links after lanes ends p) where
+      pub laned_renewed : AreLaned lane_of neighbors linked table (with_object objects p value) after ends
       laned_renewed =
           let puts = puts_other objects p value in
           record {
-            holds = holds_transferred list_reading k.holds (lane_of v) e.mid e.off.others e.off.edit (lane_of value) after e.on.others e.on.edit (ap (home_or (in_lane lane_of)) (put_there puts))
+            reading = k.reading;
+            holds = holds_transferred (list_reading k.reading) k.holds (lane_of v) e.mid e.off.others e.off.edit (lane_of value) after e.on.others e.on.edit (ap (home_or (in_lane lane_of)) (put_there puts))
                 (λ q n. ap (home_or (in_lane lane_of)) (put_others puts q n));
           }
 
-      pub lanes_renewed : Renews lane_of p v value (lanes_of objects links lanes) (lanes_of (with_object objects p value) after ends)
+      pub lanes_renewed : Renews lane_of p v value (lanes_at objects links lanes) (lanes_at (with_object objects p value) after ends)
       lanes_renewed =
-          let t = transferred list_reading k.holds (lane_of v) e.mid e.off.others e.off.edit (lane_of value) after e.on.others e.on.edit in
+          let t = transferred (list_reading k.reading) k.holds (lane_of v) e.mid e.off.others e.off.edit (lane_of value) after e.on.others e.on.edit in
           record {
             named = there;
             values = refl;
-            between = list_rows e.mid (lane_at e.between);
+            between = list_rows neighbors table e.mid (lane_at e.between);
             front = e.front;
             back = e.back;
-            leaves = leaves_seen _ _ (lanes_seen objects links lanes) (λ i. refl) t.0;
-            joins = back_seen _ _ (λ i. refl) (lanes_seen (with_object objects p value) after ends) (puts_back t.1);
+            leaves = leaves_seen _ _ (rows_are k.reading objects links lanes) (λ i. refl) t.0;
+            joins = back_seen _ _ (λ i. refl) (rows_are k.reading (with_object objects p value) after ends) (puts_back t.1);
           }
 
   -- WHAT STANDS FIRST
-  lane_none : (i : ℕ) → (lane_at lanes i).head ≡ None → lane (lanes_of objects links lanes) i ≡ []
-  lane_none i none = lanes_seen objects links lanes i ∙ nothing_first (list_rows links (lane_at lanes) i) (sym none ∙ (k.holds.shown i).head)
+  lane_none : (i : ℕ) → (lane_at lanes i).head ≡ None → lane (lanes_at objects links lanes) i ≡ []
+  lane_none i none = rows_are k.reading objects links lanes i ∙ nothing_first (list_rows neighbors table links (lane_at lanes) i) (sym none ∙ (k.holds.shown i).head)
 
-  pub none_first : IsFirst lanes None → (i : ℕ) → lane (lanes_of objects links lanes) i ≡ []
+  pub none_first : IsFirst lanes None → (i : ℕ) → lane (lanes_at objects links lanes) i ≡ []
   none_first none i = lane_none i (none i)
 
   module _ (p : Place) (at : IsFirst lanes (Some p)) where
-    is_first : Some p ≡ first (list_rows links (lane_at lanes) at.0)
+    is_first : Some p ≡ first (list_rows neighbors table links (lane_at lanes) at.0)
     is_first = sym at.1 ∙ (k.holds.shown at.0).head
 
     first_home : home_of (in_lane lane_of) objects p ≡ Some at.0
-    first_home = member_home k.holds.housed at.0 [] p (drop 1 (list_rows links (lane_at lanes) at.0)) (first_is (list_rows links (lane_at lanes) at.0) is_first)
+    first_home = member_home k.holds.housed at.0 [] p (drop 1 (list_rows neighbors table links (lane_at lanes) at.0)) (first_is (list_rows neighbors table links (lane_at lanes) at.0) is_first)
 
     -- an object stands there,
     pub first_named : object_at objects p ≢ None
     first_named none = let never : None ≡ Some at.0 = sym (ap (home_or (in_lane lane_of)) none) ∙ first_home in absurd (cc)
 
     -- and if it is taken out, it is the first of the lowest lane that has one
-    pub takes_first : (v : T) (new : Lanes T) → TakesOut lane_of p v (lanes_of objects links lanes) new → TakesFirst lane_of v (lanes_of objects links lanes) new
+    pub takes_first : (v : T) (new : Lanes T) → TakesOut lane_of p v (lanes_at objects links lanes) new → TakesFirst lane_of v (lanes_at objects links lanes) new
     takes_first v new out = record {
       place = p;
       back = out.back;
-      goes = subst (λ (f : List Place). Goes lane_of p v f out.back (lanes_of objects links lanes) new) none out.goes;
+      goes = subst (λ (f : List Place). Goes lane_of p v f out.back (lanes_at objects links lanes) new) none out.goes;
       lowest = λ i less. lane_none i (at.2 i (subst (λ (n : ℕ). i < n) is_lane less));
     } where
       is_lane : lane_of v ≡ at.0
       is_lane = some_same (sym (ap (home_or (in_lane lane_of)) out.goes.named) ∙ first_home)
 
       none : out.front ≡ []
-      none = no_front p (list_rows links (lane_at lanes) at.0) (k.holds.shown at.0).distinct is_first out.front out.back
-          (sym (lanes_seen objects links lanes at.0) ∙ ap (lane (lanes_of objects links lanes)) (sym is_lane) ∙ out.goes.leaves.was)
+      none = no_front p (list_rows neighbors table links (lane_at lanes) at.0) (k.holds.shown at.0).distinct is_first out.front out.back
+          (sym (rows_are k.reading objects links lanes at.0) ∙ ap (lane (lanes_at objects links lanes)) (sym is_lane) ∙ out.goes.leaves.was)
 
     -- the same where it may not have been taken out
-    pub if_first_taken : (o : Option T) (new : Lanes T) → IfSome o (λ v. TakesOut lane_of p v (lanes_of objects links lanes) new) → IfSome o (λ v. TakesFirst lane_of v (lanes_of objects links lanes) new)
+    pub if_first_taken : (o : Option T) (new : Lanes T) → IfSome o (λ v. TakesOut lane_of p v (lanes_at objects links lanes) new) → IfSome o (λ v. TakesFirst lane_of v (lanes_at objects links lanes) new)
     if_first_taken None new out = tt
     if_first_taken (Some v) new out = takes_first v new out
 

@@ -1,5 +1,5 @@
 -- For callers: objects that are all in one list, at both ends: how many there are, the first and the last one, and what goes behind all others.
-use Rattle.std.proofs.Common.{◌≡◌, true, Option, None, Some, IfSome, IsSome, List, [], ◌∷◌, ◌++◌, ◌∙◌, ap, sym, refl, subst, length, append-nil, length-append, arith, true≢false}
+use Rattle.std.proofs.Common.{◌≡◌, Bool, true, Option, None, Some, IfSome, IsSome, List, [], ◌∷◌, ◌++◌, ◌∙◌, ap, sym, refl, subst, length, append-nil, length-append, arith, true≢false}
 use Rattle.std.proofs.lemmas.List.Elements.{filter_map-append}
 use Rattle.std.specs.FinMap as map
 use Rattle.std.specs.List.{cons_option}
@@ -7,14 +7,16 @@ use Rattle.ic_unsafe_ref.specs.declared.place.Place.{Place}
 use Rattle.ic_unsafe_ref.specs.Objects.{Objects, Places, Frees, is_placed, object_at}
 use Rattle.ic_unsafe_ref.proofs.Placing.{others_left, others_placed, placed_there}
 use Rattle.ic_link_ops.specs.Chains.{Ends, no_members}
-use Rattle.ic_link_ops.specs.DoublyEntries.{DoublyLinkOps, PlainShows, plain_table, members_of}
+use Rattle.ic_link_ops.specs.LinkedList.{Neighbors, Shows}
 use Rattle.ic_link_ops.specs.PlacedObjects.{ArePlaced, ShowsPlaced, values_at}
 use Rattle.ic_link_ops.specs.Positions.{object_there}
 use Rattle.ic_link_ops.specs.Sequences.{first, last, IsAbsent, IsDistinct}
+use Rattle.ic_link_ops.specs.Tables.{Table}
 use Rattle.ic_link_ops.proofs.PlacedValues.{values_beside}
 use Rattle.ic_link_ops.proofs.SequenceLemmas.{distinct_middle, none_not}
 use Rattle.ic_pool.specs.Pooled.{Grows}
-use Rattle.ic_container.specs.Holds.{ListJoins, ListMoves}
+use Rattle.ic_container.specs.Holds.{members_in, ListJoins, ListMoves}
+use Rattle.ic_container.specs.ListReadings.{ReadsLists}
 use Rattle.ic_container.specs.Orders.{Order, values_of, IsListed, IsWhole}
 use Rattle.ic_container.specs.Rows.{to_one}
 use Rattle.ic_container.specs.Values.{first_value, last_value, Without}
@@ -76,21 +78,21 @@ module _ {T : Type 0} {o : Order T} (w : IsWhole o) where
         cut ∙ ap (λ (s : List Place). values_at o.values is.front ++ out ∷ values_at o.values s) none
         ∙ ap (λ (l : List T). l ++ out ∷ []) (sym (same ∙ ap (λ (s : List Place). values_at o.values (is.front ++ s)) none ∙ ap (values_at o.values) (append-nil is.front)))
 
-module _ {T A : Type 0} {objects : Objects T} {links : DoublyLinkOps A} {list : Ends} (k : IsListed objects links list) where
+module _ {L E : Type 0} {neighbors : E → Neighbors} {linked : E → Bool} {table : L → Table E} {T : Type 0} {objects : Objects T} {links : L} {list : Ends} (k : IsListed neighbors linked table objects links list) where
   -- there are as many values as objects
-  pub listed_count : map.len objects.values ≡ length (values_at objects (members_of links list))
-  listed_count = k.count ∙ sym (as_many objects (members_of links list) (listed_placed k))
+  pub listed_count : map.len objects.values ≡ length (values_at objects (members_in neighbors table links list))
+  listed_count = k.count ∙ sym (as_many objects (members_in neighbors table links list) (listed_placed k))
 
   -- the first object is the first value
-  pub first_there : object_there objects list.head ≡ first_value (values_at objects (members_of links list))
-  first_there = ap (object_there objects) (k.holds.shown 0).head ∙ first_is_there objects (members_of links list) (listed_placed k)
+  pub first_there : object_there objects list.head ≡ first_value (values_at objects (members_in neighbors table links list))
+  first_there = ap (object_there objects) (k.holds.shown 0).head ∙ first_is_there objects (members_in neighbors table links list) (listed_placed k)
 
   -- where there is none, there is no value
-  pub none_first : list.head ≡ None → values_at objects (members_of links list) ≡ []
-  none_first e = no_first (values_at objects (members_of links list)) (sym first_there ∙ ap (object_there objects) e)
+  pub none_first : list.head ≡ None → values_at objects (members_in neighbors table links list) ≡ []
+  none_first e = no_first (values_at objects (members_in neighbors table links list)) (sym first_there ∙ ap (object_there objects) e)
 
-  pub none_last : list.tail ≡ None → values_at objects (members_of links list) ≡ []
-  none_last e = none_at objects (members_of links list) (listed_placed k) (ap (object_there objects) (sym (k.holds.shown 0).tail ∙ e))
+  pub none_last : list.tail ≡ None → values_at objects (members_in neighbors table links list) ≡ []
+  none_last e = none_at objects (members_in neighbors table links list) (listed_placed k) (ap (object_there objects) (sym (k.holds.shown 0).tail ∙ e))
 
   -- and where there is one, it is placed
   pub first_placed : {p : Place} → list.head ≡ Some p → is_placed objects p ≡ true
@@ -100,43 +102,45 @@ module _ {T A : Type 0} {objects : Objects T} {links : DoublyLinkOps A} {list : 
   last_is_placed e = subst (λ (o : Option Place). IfSome o (λ p. is_placed objects p ≡ true)) e (listed_last k)
 
   -- a walk is over all of them
-  pub all_walked : ShowsPlaced (PlainShows links list) objects
-  all_walked = record { members = members_of links list; shown = k.holds.shown 0; placed = listed_placed k }
+  pub all_walked : ShowsPlaced (Shows neighbors (table links) list) objects
+  all_walked = record { members = members_in neighbors table links list; shown = k.holds.shown 0; placed = listed_placed k }
 
   -- A NEW OBJECT behind all others
-  module _ (grown : DoublyLinkOps A) (grows : Grows (plain_table links) (plain_table grown)) {p : Place} {value : T} {new : Objects T} (places : Places objects new p value) (after : DoublyLinkOps A) (ends : Ends) {s : List Place} (e : ListJoins grown after list ends s p []) where
-    pub order_behind : members_of after ends ≡ members_of links list ++ p ∷ []
-    order_behind = (puts_back (new_joined list_reading to_one objects k.holds places grown grows 0 after (alone_others no_members list ends) refl e)).is
+  module _ (grown : L) (grows : Grows (table links) (table grown)) {p : Place} {value : T} {new : Objects T} (places : Places objects new p value) (after : L) (ends : Ends) {s : List Place} (e : ListJoins neighbors linked (table grown) (table after) list ends s p []) where
+    pub order_behind : members_in neighbors table after ends ≡ members_in neighbors table links list ++ p ∷ []
+    order_behind = (puts_back (new_joined (list_reading k.reading) to_one objects k.holds places grown grows 0 after (alone_others no_members list ends) refl e)).is
 
-    pub listed_behind : IsListed new after ends
+    pub listed_behind : IsListed neighbors linked table new after ends
     listed_behind = record {
-      holds = holds_new list_reading to_one objects k.holds places grown grows 0 after (alone_others no_members list ends) refl e;
-      count = omega (arith, k.count, count_placed places, ap length order_behind, length-append (members_of links list) (p ∷ []));
+      reading = k.reading;
+      holds = holds_new (list_reading k.reading) to_one objects k.holds places grown grows 0 after (alone_others no_members list ends) refl e;
+      count = omega (arith, k.count, count_placed places, ap length order_behind, length-append (members_in neighbors table links list) (p ∷ []));
     }
 
-    pub listed_values_behind : values_at new (members_of after ends) ≡ values_at objects (members_of links list) ++ value ∷ []
+    pub listed_values_behind : values_at new (members_in neighbors table after ends) ≡ values_at objects (members_in neighbors table links list) ++ value ∷ []
     listed_values_behind =
-        ap (values_at new) order_behind ∙ filter_map-append (object_at new) (members_of links list) (p ∷ [])
-        ∙ ap (λ (v : Option T). values_at new (members_of links list) ++ cons_option v []) (placed_there places)
-        ∙ ap (λ (l : List T). l ++ value ∷ []) (values_beside objects new p (others_placed places) (members_of links list) (new_absent list_reading to_one objects k.holds places grown grows 0))
+        ap (values_at new) order_behind ∙ filter_map-append (object_at new) (members_in neighbors table links list) (p ∷ [])
+        ∙ ap (λ (v : Option T). values_at new (members_in neighbors table links list) ++ cons_option v []) (placed_there places)
+        ∙ ap (λ (l : List T). l ++ value ∷ []) (values_beside objects new p (others_placed places) (members_in neighbors table links list) (new_absent (list_reading k.reading) to_one objects k.holds places grown grows 0))
 
   -- MOVED behind all others
-  module _ {p : Place} (after : DoublyLinkOps A) (ends : Ends) (e : (front : List Place) × (back : List Place) × (before : List Place) × ListMoves links after list ends front p back before []) where
-    pub listed_moved_behind : IsListed objects after ends
+  module _ {p : Place} (after : L) (ends : Ends) (e : (front : List Place) × (back : List Place) × (before : List Place) × ListMoves neighbors linked (table links) (table after) list ends front p back before []) where
+    pub listed_moved_behind : IsListed neighbors linked table objects after ends
     listed_moved_behind = record {
-      holds = holds_moved list_reading k.holds 0 after (alone_others no_members list ends) e.3;
-      count = k.count ∙ sym (length_moved (moved list_reading k.holds 0 after (alone_others no_members list ends) e.3));
+      reading = k.reading;
+      holds = holds_moved (list_reading k.reading) k.holds 0 after (alone_others no_members list ends) e.3;
+      count = k.count ∙ sym (length_moved (moved (list_reading k.reading) k.holds 0 after (alone_others no_members list ends) e.3));
     }
 
-    pub order_moved_behind : (others : List Place) × Without p (members_of links list) others × (members_of after ends ≡ others ++ p ∷ [])
+    pub order_moved_behind : (others : List Place) × Without p (members_in neighbors table links list) others × (members_in neighbors table after ends ≡ others ++ p ∷ [])
     order_moved_behind =
-        let t = moved list_reading k.holds 0 after (alone_others no_members list ends) e.3 in
+        let t = moved (list_reading k.reading) k.holds 0 after (alone_others no_members list ends) e.3 in
         (e.2, record { front = e.0; back = e.1; was = t.was; is = sym (t.rest ∙ append-nil e.2) }, t.is)
 
     pub listed_values_moved_behind : {value : T} → object_at objects p ≡ Some value
-        → (rest : List T) × Without value (values_at objects (members_of links list)) rest × (values_at objects (members_of after ends) ≡ rest ++ value ∷ [])
+        → (rest : List T) × Without value (values_at objects (members_in neighbors table links list)) rest × (values_at objects (members_in neighbors table after ends) ≡ rest ++ value ∷ [])
     listed_values_moved_behind {value} there =
-        let t = moved list_reading k.holds 0 after (alone_others no_members list ends) e.3 in (
+        let t = moved (list_reading k.reading) k.holds 0 after (alone_others no_members list ends) e.3 in (
           values_at objects e.0 ++ values_at objects e.1,
           record {
             front = values_at objects e.0;

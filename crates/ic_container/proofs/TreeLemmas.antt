@@ -15,36 +15,43 @@ use Rattle.ic_unsafe_ref.proofs.PlaceLemmas.{same_or_not}
 use Rattle.ic_unsafe_ref.proofs.Placing.{gone_there, leaves, others_left, others_placed, placed_there, without}
 use Rattle.ic_link_ops.specs.PlacedObjects.{ArePlaced, ShowsPlaced, StandAt, values_at}
 use Rattle.ic_link_ops.specs.Positions.{HasMember}
+use Rattle.ic_link_ops.specs.RedBlackTree.{Node, Shows}
 use Rattle.ic_link_ops.specs.Sequences.{IsDistinct, IsMember, first}
-use Rattle.ic_link_ops.specs.Tables.{IsCovered, IsUnlinked, KeepsBeside, LinksAlso, Unlinks}
+use Rattle.ic_link_ops.specs.Tables.{Table, IsCovered, IsUnlinked, KeepsBeside, LinksAlso, Unlinks}
 use Rattle.ic_link_ops.proofs.Calling.{has_member}
-use Rattle.ic_link_ops.proofs.CollectionLaws.{kept_shown}
+use Rattle.ic_link_ops.proofs.CollectionLaws.{IsKind, kept_shown}
 use Rattle.ic_link_ops.proofs.Covering.{still_covered}
 use Rattle.ic_link_ops.proofs.Each.{all_back}
 use Rattle.ic_link_ops.proofs.PlacedValues.{stand_beside, vacant_absent}
 use Rattle.ic_link_ops.proofs.SequenceLemmas.{none_not, some_same}
+use Rattle.ic_link_ops.proofs.ShownTrees.{red_black_trees}
 use Rattle.ic_pool.specs.Pooled.{Grows}
 use Rattle.ic_rbtree.specs.Borders.{Finds, IsBorder, IsSorted, equal_at, less_at}
 use Rattle.ic_rbtree.specs.Comparing.{answer_at, compared, order_of, own_order}
 use Rattle.ic_rbtree.specs.Ordered.{InsertsInOrder}
-use Rattle.ic_rbtree.specs.PlainTrees.{TreeLinkOps, ShowsTree, PlainShows, is_linked, plain_table, members_of}
-use Rattle.ic_rbtree.proofs.EachObject.{each_none, each_linked, each_ready, each_new, each_taken, vacant_free}
+use Rattle.ic_container.specs.EachObject.{ReadsTrees}
+use Rattle.ic_rbtree.specs.Members.{members}
+use Rattle.ic_rbtree.specs.PlainTrees.{TreeLinkOps, is_linked, plain_table}
+use Rattle.ic_container.specs.EachLaws.{each_first, each_linked, each_ready, each_new, each_taken, vacant_free, wide_reads}
 use Rattle.ic_rbtree.proofs.Passing.{passed}
-use Rattle.ic_rbtree.proofs.PlainTrees.{plain_covered, plain_members, plain_trees}
+use Rattle.ic_rbtree.proofs.Members.{members_shown}
 use Rattle.ic_rbtree.specs.SortedObjects.{ShowsSorted, key_at, key_or}
 use Rattle.ic_rbtree.proofs.SortedAnswers.{found_first}
 use Rattle.ic_rbtree.proofs.SortedKeys.{keys_are}
 use Rattle.ic_rbtree.proofs.SortedValues.{greater_behind, own_order_is}
 use Rattle.ic_container.specs.Orders.{IsWhole}
 use Rattle.ic_container.specs.TreeLaws.{all_grown}
-use Rattle.ic_container.specs.Trees.{HasAll, IsFound, IsFoundObject, IsUnique, LacksOne, PutsInOrder}
+use Rattle.ic_container.specs.Trees.{HasAll, HasAllIn, IsFound, IsFoundObject, IsUnique, LacksOne, PutsInOrder}
 use Rattle.ic_container.specs.Values.{Without}
 use Rattle.ic_container.proofs.RowLemmas.{no_front}
 use Rattle.ic_container.proofs.ValueLemmas.{member_placed, no_more}
 
--- A TABLE WITH NO PLACE links nothing
+-- A TABLE WITH NO PLACE links nothing, of whatever width
+pub nothing_linked : {L E : Type 0} {node : E → Node} {linked : E → Bool} {table : L → Table E} → ReadsTrees node linked table → (links : L) → (table links).extent.places ≡ 0 → (p : Place) → IsUnlinked linked (table links) p
+nothing_linked reads links none p = false_from_ne_true _ (λ is. let within = reads.covered links p is in absurd (omega (arith, within, none)))
+
 pub tree_off : {A : Type 0} (links : TreeLinkOps A) → (plain_table links).extent.places ≡ 0 → (p : Place) → IsUnlinked is_linked (plain_table links) p
-tree_off links none p = false_from_ne_true _ (λ linked. let within = plain_covered links p linked in absurd (omega (arith, within, none)))
+tree_off = nothing_linked wide_reads
 
 -- none of what a filter leaves out is its first
 none_pass : (test : Place → Bool) (s : List Place) → None ≡ first (filter test s) → (q : Place) → IsMember q s → test q ≡ false
@@ -91,57 +98,63 @@ module _ {T : Type 0} (key : T → ℕ) (objects : Objects T) where
     by None here rest h = absurd (true≢false (sym here))
     by (Some v) here rest h = (less d (key v) h.0, rest h.1)
 
-module _ {T A : Type 0} (key : T → ℕ) (objects : Objects T) where
+module _ {L E : Type 0} {node : E → Node} {linked : E → Bool} {table : L → Table E} {T : Type 0} (key : T → ℕ) (objects : Objects T) where
   -- AT FIRST
-  pub all_first : (links : TreeLinkOps A) (root : Option Place) → (plain_table links).extent.places ≡ 0 → root ≡ None → ((p : Place) → object_at objects p ≡ None) → HasAll key links root objects
-  all_first links root none empty vacant = record { values = []; each = each_none (tree_off links none) empty vacant }
+  pub all_none : ReadsTrees node linked table → (links : L) (root : Option Place) → (table links).extent.places ≡ 0 → root ≡ None → ((p : Place) → object_at objects p ≡ None) → HasAllIn node linked table key links root objects
+  all_none reads links root none empty vacant = record { values = []; each = each_first reads (nothing_linked reads links none) empty vacant }
 
-  module _ {links : TreeLinkOps A} {root : Option Place} (a : HasAll key links root objects) where
+  module _ {links : L} {root : Option Place} (a : HasAllIn node linked table key links root objects) where
+    abbrev kind : IsKind (Shows node) linked None
+    kind = red_black_trees a.each.reads.alike
+
+    are_members : (links : L) {root : Option Place} {s : List Place} → Shows node (table links) root s → members node (table links) root ≡ s
+    are_members links {root} {s} shown = members_shown (table links) (λ q is. a.each.reads.covered links q (sym (a.each.reads.alike _) ∙ is)) root s shown
+
     -- an object is a member, and members are placed
-    pub all_stands : (p : Place) {v : T} → object_at objects p ≡ Some v → HasMember (PlainShows links root) p
-    all_stands p there = has_member (PlainShows links root) a.each.sorted.members a.each.sorted.shown (λ absent. true≢false (sym (each_linked a.each p there) ∙ a.each.sorted.only p absent))
+    pub all_stands : (p : Place) {v : T} → object_at objects p ≡ Some v → HasMember (Shows node (table links) root) p
+    all_stands p there = has_member (Shows node (table links) root) a.each.sorted.members a.each.sorted.shown (λ absent. true≢false (sym (each_linked a.each p there) ∙ a.each.sorted.only p absent))
 
-    pub all_member : {p : Place} → is_placed objects p ≡ true → HasMember (PlainShows links root) p
+    pub all_member : {p : Place} → is_placed objects p ≡ true → HasMember (Shows node (table links) root) p
     all_member {p} is = by (object_at objects p) refl is where
-      by : (o : Option T) → object_at objects p ≡ o → is_some o ≡ true → HasMember (PlainShows links root) p
+      by : (o : Option T) → object_at objects p ≡ o → is_some o ≡ true → HasMember (Shows node (table links) root) p
       by None e h = absurd (true≢false (sym h))
       by (Some v) e h = all_stands p e
 
     -- what was taken off is covered still: `frame` is the call's clause
-    pub all_covered : (p : Place) {v : T} (new : TreeLinkOps A) → object_at objects p ≡ Some v → ((s : List Place) → PlainShows links root s → KeepsBeside (plain_table links) (plain_table new) s) → IsCovered (plain_table new) p
-    all_covered p new there frame = still_covered p (frame a.each.sorted.members a.each.sorted.shown) (plain_covered links p (each_linked a.each p there))
+    pub all_covered : (p : Place) {v : T} (new : L) → object_at objects p ≡ Some v → ((s : List Place) → Shows node (table links) root s → KeepsBeside (table links) (table new) s) → IsCovered (table new) p
+    all_covered p new there frame = still_covered p (frame a.each.sorted.members a.each.sorted.shown) (a.each.reads.covered links p (each_linked a.each p there))
 
-    pub all_shown : PlainShows links root (members_of links root)
-    all_shown = subst (PlainShows links root) (sym (plain_members links a.each.sorted.shown)) a.each.sorted.shown
+    pub all_shown : Shows node (table links) root (members node (table links) root)
+    all_shown = subst (Shows node (table links) root) (sym (are_members links a.each.sorted.shown)) a.each.sorted.shown
 
-    pub all_placed : ShowsPlaced (PlainShows links root) objects
+    pub all_placed : ShowsPlaced (Shows node (table links) root) objects
     all_placed = record { members = a.each.sorted.members; shown = a.each.sorted.shown; placed = a.each.sorted.stand.placed }
 
     -- THE MEMBERS, in the order of their keys
-    pub all_members : members_of links root ≡ a.each.sorted.members
-    all_members = plain_members links a.each.sorted.shown
+    pub all_members : members node (table links) root ≡ a.each.sorted.members
+    all_members = are_members links a.each.sorted.shown
 
-    pub all_stand : ArePlaced objects (members_of links root)
+    pub all_stand : ArePlaced objects (members node (table links) root)
     all_stand = subst (ArePlaced objects) (sym all_members) a.each.sorted.stand.placed
 
-    pub all_values : values_at objects (members_of links root) ≡ a.values
+    pub all_values : values_at objects (members node (table links) root) ≡ a.values
     all_values = ap (values_at objects) all_members ∙ a.each.sorted.stand.are
 
-    pub all_distinct : IsDistinct (members_of links root)
-    all_distinct = plain_trees.distinct (plain_table links) root (members_of links root) all_shown
+    pub all_distinct : IsDistinct (members node (table links) root)
+    all_distinct = kind.distinct (table links) root (members node (table links) root) all_shown
 
-    pub all_sorted : ShowsSorted key (PlainShows links root) objects
+    pub all_sorted : ShowsSorted key (Shows node (table links) root) objects
     unfolding all_placed
     all_sorted = record {
       placed = all_placed;
       sorted = subst (IsSorted nat_cmp) (sym (keys_are key objects a.each.sorted.members a.each.sorted.stand.placed ∙ ap (map key) a.each.sorted.stand.are)) a.each.sorted.sorted;
     }
 
-    pub members_grown : (grown : TreeLinkOps A) → Grows (plain_table links) (plain_table grown) → members_of grown root ≡ members_of links root
-    members_grown grown grows = plain_members grown (kept_shown plain_trees grows.entries all_shown)
+    pub members_grown : (grown : L) → Grows (table links) (table grown) → members node (table grown) root ≡ members node (table links) root
+    members_grown grown grows = are_members grown (kept_shown kind grows.entries all_shown)
 
     -- WHAT A SEARCH FINDS: `found` is its clause
-    pub all_found : (k : ℕ) (position : Option Place) → ((s : List Place) → PlainShows links root s → Finds (compared (order_of nat_cmp key k) objects) s position) → IsFound key objects k position
+    pub all_found : (k : ℕ) (position : Option Place) → ((s : List Place) → Shows node (table links) root s → Finds (compared (order_of nat_cmp key k) objects) s position) → IsFound key objects k position
     all_found k position found = by position refl where
       f : Finds (compared (order_of nat_cmp key k) objects) a.each.sorted.members position
       f = found a.each.sorted.members a.each.sorted.shown
@@ -155,10 +168,10 @@ module _ {T A : Type 0} (key : T → ℕ) (objects : Objects T) where
           (λ absent. true≢false (sym (each_linked a.each p there) ∙ a.each.sorted.only p absent)))
 
     -- THE TREE HAS AS MANY MEMBERS as an order has places
-    pub as_many_keys : (s : List Place) → IsWhole (record { order = s; values = objects }) → length (members_of links root) ≡ length s
-    as_many_keys s w = omega (arith, ap length (plain_members links a.each.sorted.shown), up, down) where
+    pub as_many_keys : (s : List Place) → IsWhole (record { order = s; values = objects }) → length (members node (table links) root) ≡ length s
+    as_many_keys s w = omega (arith, ap length (are_members links a.each.sorted.shown), up, down) where
       up : length a.each.sorted.members ≤ length s
-      up = no_more a.each.sorted.members s (plain_trees.distinct (plain_table links) root a.each.sorted.members a.each.sorted.shown)
+      up = no_more a.each.sorted.members s (kind.distinct (table links) root a.each.sorted.members a.each.sorted.shown)
           (λ q member. w.all q (member_placed objects a.each.sorted.members a.each.sorted.stand.placed q member))
 
       down : length s ≤ length a.each.sorted.members
@@ -166,20 +179,20 @@ module _ {T A : Type 0} (key : T → ℕ) (objects : Objects T) where
 
     -- A NEW OBJECT: members are placed still, it is not linked,
     module _ {more : Objects T} {p : Place} {v : T} (places : Places objects more p v) where
-      pub all_ready : ShowsPlaced (PlainShows links root) more
+      pub all_ready : ShowsPlaced (Shows node (table links) root) more
       all_ready = each_ready a.each places
 
-      pub all_off : IsUnlinked is_linked (plain_table links) p
+      pub all_off : IsUnlinked linked (table links) p
       all_off = vacant_free a.each p places.vacant
 
       -- and is inserted: `inserted` and `acquired` are the clauses of its call
-      pub all_new : (new : TreeLinkOps A) (top : Option Place) → ((s : List Place) → PlainShows links root s → InsertsInOrder ShowsTree (compared (own_order nat_cmp key more p) more) (plain_table links) (plain_table new) top s p)
-          → LinksAlso is_linked (plain_table links) (plain_table new) p → HasAll key new top more
+      pub all_new : (new : L) (top : Option Place) → ((s : List Place) → Shows node (table links) root s → InsertsInOrder (Shows node) (compared (own_order nat_cmp key more p) more) (table links) (table new) top s p)
+          → LinksAlso linked (table links) (table new) p → HasAllIn node linked table key new top more
       all_new new top inserted acquired = let n = each_new a.each places inserted acquired in record { values = n.0; each = n.2 }
 
       -- behind all that have its key or a lower one
-      pub order_new : (new : TreeLinkOps A) (top : Option Place) → ((s : List Place) → PlainShows links root s → InsertsInOrder ShowsTree (compared (own_order nat_cmp key more p) more) (plain_table links) (plain_table new) top s p)
-          → PutsInOrder key more (members_of links root) (members_of new top) p
+      pub order_new : (new : L) (top : Option Place) → ((s : List Place) → Shows node (table links) root s → InsertsInOrder (Shows node) (compared (own_order nat_cmp key more p) more) (table links) (table new) top s p)
+          → PutsInOrder key more (members node (table links) root) (members node (table new) top) p
       order_new new top inserted =
           let x = inserted a.each.sorted.members a.each.sorted.shown in
           let stood = subst (λ (s : List Place). StandAt more s a.values) (sym x.same)
@@ -190,37 +203,41 @@ module _ {T A : Type 0} (key : T → ℕ) (objects : Objects T) where
             front = x.gap.front;
             back = x.gap.back;
             was = all_members ∙ sym x.same;
-            is = plain_members new x.inserted.shows;
+            is = are_members new x.inserted.shows;
             later = subst (λ (o : Option T). AllByRecursion (λ q. key_or key o < key_at key more q) x.gap.back) (sym (placed_there places))
                 (all_later key more (key v) x.gap.back (all_back (λ q. IsSome (object_at more q)) x.gap.front x.gap.back stood.placed) (greater_behind nat_cmp_total key more (key v) x.gap stood.placed rises border));
           }
 
     -- AN OBJECT taken off, and out
     module _ {p : Place} {out : T} (there : object_at objects p ≡ Some out) where
-      pub all_freed : (new : TreeLinkOps A) (top : Option Place) {less : Objects T} → ((front back : List Place) → PlainShows links root (front ++ p ∷ back) → PlainShows new top (front ++ back))
-          → Unlinks is_linked (plain_table links) (plain_table new) p → Frees objects less p → HasAll key new top less
+      pub all_freed : (new : L) (top : Option Place) {less : Objects T} → ((front back : List Place) → Shows node (table links) root (front ++ p ∷ back) → Shows node (table new) top (front ++ back))
+          → Unlinks linked (table links) (table new) p → Frees objects less p → HasAllIn node linked table key new top less
       all_freed new top removed off frees = let t = each_taken a.each p there removed off frees in record { values = t.0 ++ t.1; each = t.3 }
 
-      pub order_left : (new : TreeLinkOps A) (top : Option Place) → ((front back : List Place) → PlainShows links root (front ++ p ∷ back) → PlainShows new top (front ++ back)) → Without p (members_of links root) (members_of new top)
+      pub order_left : (new : L) (top : Option Place) → ((front back : List Place) → Shows node (table links) root (front ++ p ∷ back) → Shows node (table new) top (front ++ back)) → Without p (members node (table links) root) (members node (table new) top)
       order_left new top removed =
           let m = all_stands p there in
-          record { front = m.front; back = m.back; was = plain_members links m.shown; is = plain_members new (removed m.front m.back m.shown) }
+          record { front = m.front; back = m.back; was = are_members links m.shown; is = are_members new (removed m.front m.back m.shown) }
 
       -- ANOTHER VALUE with any key in its place: taken off, changed, and inserted where it belongs
-      pub all_less : (new : TreeLinkOps A) (top : Option Place) (value : T) → ((front back : List Place) → PlainShows links root (front ++ p ∷ back) → PlainShows new top (front ++ back))
-          → Unlinks is_linked (plain_table links) (plain_table new) p → HasAll key new top (without objects p value)
+      pub all_less : (new : L) (top : Option Place) (value : T) → ((front back : List Place) → Shows node (table links) root (front ++ p ∷ back) → Shows node (table new) top (front ++ back))
+          → Unlinks linked (table links) (table new) p → HasAllIn node linked table key new top (without objects p value)
       all_less new top value removed off = all_freed new top removed off (leaves objects p value)
 
     -- a removal of the first is one from anywhere: `popped` says that all but the first are shown
-    pub first_removed : (new : TreeLinkOps A) (top : Option Place) {p : Place} → Some p ≡ first (members_of links root) → ((s : List Place) → PlainShows links root s → PlainShows new top (drop 1 s))
-        → (front back : List Place) → PlainShows links root (front ++ p ∷ back) → PlainShows new top (front ++ back)
+    pub first_removed : (new : L) (top : Option Place) {p : Place} → Some p ≡ first (members node (table links) root) → ((s : List Place) → Shows node (table links) root s → Shows node (table new) top (drop 1 s))
+        → (front back : List Place) → Shows node (table links) root (front ++ p ∷ back) → Shows node (table new) top (front ++ back)
     first_removed new top is popped [] back shown = popped (_ ∷ back) shown
     first_removed new top {p} is popped (x ∷ front) back shown =
-        let never : x ∷ front ≡ [] = no_front p (members_of links root) all_distinct is (x ∷ front) back (plain_members links shown) in absurd (cc)
+        let never : x ∷ front ≡ [] = no_front p (members node (table links) root) all_distinct is (x ∷ front) back (are_members links shown) in absurd (cc)
 
     -- WITH A NEW OBJECT, and the table that may have grown, it has all but that one
-    pub all_lacks : {more : Objects T} {p : Place} {v : T} (grown : TreeLinkOps A) → Grows (plain_table links) (plain_table grown) → Places objects more p v → LacksOne (HasAll key grown root) more p
+    pub all_lacks : {more : Objects T} {p : Place} {v : T} (grown : L) → Grows (table links) (table grown) → Places objects more p v → LacksOne (HasAllIn node linked table key grown root) more p
     all_lacks grown grows places = record { less = objects; value = _; places = places; all = all_grown key objects a grown grows }
+
+-- at first, over a plain table of 8-byte words
+pub all_first : {T A : Type 0} (key : T → ℕ) (objects : Objects T) (links : TreeLinkOps A) (root : Option Place) → (plain_table links).extent.places ≡ 0 → root ≡ None → ((p : Place) → object_at objects p ≡ None) → HasAll key links root objects
+all_first key objects = all_none key objects wide_reads
 
 module _ {T : Type 0} (key : T → ℕ) (objects : Objects T) where
   -- an object was found, or none

@@ -2,8 +2,8 @@
 use Rattle.std.specs.Prelude.{◌≡◌, ℕ, Bool, Option, None, List}
 use Rattle.ic_unsafe_ref.specs.declared.place.Place.{Place}
 use Rattle.ic_link_ops.specs.Chains.{Ends}
-use Rattle.ic_link_ops.specs.DoublyEntries as lists
-use Rattle.ic_link_ops.specs.DoublyEntries.{DoublyLinkOps}
+use Rattle.ic_link_ops.specs.LinkedList as lists
+use Rattle.ic_link_ops.specs.LinkedList.{Neighbors}
 use Rattle.ic_link_ops.specs.Tables.{Table, IsUnlinked}
 use Rattle.ic_container.specs.Edited.{HasJoined, HasLeft, HasMoved}
 use Rattle.ic_container.specs.Rows.{Rows, IsHoused}
@@ -18,20 +18,24 @@ module _ {L E H : Type 0} (Shows : Table E → H → List Place → Type 0) (lin
     pub housed : IsHoused home (rows_of members links heads)
     pub only : (p : Place) → home p ≡ None → IsUnlinked linked (table links) p
 
--- the same of lists over a plain table
-module _ {A : Type 0} where
-  abbrev pub list_rows : DoublyLinkOps A → (ℕ → Ends) → Rows
-  list_rows = rows_of lists.members_of
+-- the same of lists, over links of any width: their members, as the table shows them
+module _ {L E : Type 0} (neighbors : E → Neighbors) (table : L → Table E) where
+  abbrev pub members_in : L → Ends → List Place
+  members_in links list = lists.members neighbors (table links) list
 
-  abbrev pub HoldsLists : DoublyLinkOps A → (ℕ → Ends) → (Place → Option ℕ) → Type 0
-  HoldsLists = Holds lists.ShowsList lists.is_linked lists.plain_table lists.members_of
+  abbrev pub list_rows : L → (ℕ → Ends) → Rows
+  list_rows = rows_of members_in
 
-  -- one edit of a list over a plain table
-  abbrev pub ListJoins : DoublyLinkOps A → DoublyLinkOps A → Ends → Ends → List Place → Place → List Place → Type 0
-  ListJoins old new head after = HasJoined lists.ShowsList lists.is_linked (lists.plain_table old) (lists.plain_table new) head after
+abbrev pub HoldsLists : {L E : Type 0} → (E → Neighbors) → (E → Bool) → (L → Table E) → L → (ℕ → Ends) → (Place → Option ℕ) → Type 0
+HoldsLists neighbors linked table = Holds (lists.Shows neighbors) linked table (members_in neighbors table)
 
-  abbrev pub ListLeaves : DoublyLinkOps A → DoublyLinkOps A → Ends → Ends → List Place → Place → List Place → Type 0
-  ListLeaves old new head after = HasLeft lists.ShowsList lists.is_linked (lists.plain_table old) (lists.plain_table new) head after
+-- one edit of a list
+module _ {E : Type 0} (neighbors : E → Neighbors) (linked : E → Bool) (old new : Table E) (head after : Ends) where
+  abbrev pub ListJoins : List Place → Place → List Place → Type 0
+  ListJoins = HasJoined (lists.Shows neighbors) linked old new head after
 
-  abbrev pub ListMoves : DoublyLinkOps A → DoublyLinkOps A → Ends → Ends → List Place → Place → List Place → List Place → List Place → Type 0
-  ListMoves old new head after = HasMoved lists.ShowsList lists.is_linked (lists.plain_table old) (lists.plain_table new) head after
+  abbrev pub ListLeaves : List Place → Place → List Place → Type 0
+  ListLeaves = HasLeft (lists.Shows neighbors) linked old new head after
+
+  abbrev pub ListMoves : List Place → Place → List Place → List Place → List Place → Type 0
+  ListMoves = HasMoved (lists.Shows neighbors) linked old new head after

@@ -1,36 +1,41 @@
 -- Objects in lanes: lists over one table, and a number of each object says in which list it is.
-use Rattle.std.specs.Prelude.{◌≡◌, ◌≢◌, ℕ, ◌<◌, Option, Some, None, List, [], map, refl}
+use Rattle.std.specs.Prelude.{◌≡◌, ◌≢◌, ℕ, ◌<◌, Bool, Option, Some, None, List, [], map, refl}
 use Rattle.std.specs.Coded.{Coded, code_by, coded×, coded_list}
 use Rattle.ic_unsafe_ref.specs.Places.{place_code}
 use Rattle.ic_unsafe_ref.specs.declared.place.Place.{Place}
 use Rattle.ic_unsafe_ref.specs.Objects.{Objects, Places, Frees, object_at, objects_code, with_object}
 use Rattle.ic_link_ops.specs.Chains.{Ends, no_members}
-use Rattle.ic_link_ops.specs.DoublyEntries.{DoublyLinkOps, members_of}
-use Rattle.ic_container.specs.Holds.{HoldsLists, ListJoins, ListLeaves}
+use Rattle.ic_link_ops.specs.DoublyEntries as wide
+use Rattle.ic_link_ops.specs.DoublyEntries.{DoublyLinkOps}
+use Rattle.ic_link_ops.specs.LinkedList.{Neighbors}
+use Rattle.ic_link_ops.specs.Tables.{Table}
+use Rattle.ic_container.specs.Holds.{HoldsLists, ListJoins, ListLeaves, members_in}
+use Rattle.ic_container.specs.ListReadings.{ReadsLists}
 use Rattle.ic_container.specs.Rows.{Rows, Stays, PutsBack, Leaves, home_of, listed}
 
 -- the list of each lane, none beyond the last
 abbrev pub lane_at : List Ends → ℕ → Ends
 lane_at = listed no_members
 
--- ONE EDIT of lane k: a place has joined it, or left it, and the other lanes stay
-module _ {A : Type 0} (k : ℕ) (old new : DoublyLinkOps A) (lanes after : List Ends) where
-  pub record LaneJoins (front : List Place) (p : Place) (back : List Place) : Type 0 where
-    pub edit : ListJoins old new (lane_at lanes k) (lane_at after k) front p back
-    pub others : (i : ℕ) → i ≢ k → lane_at after i ≡ lane_at lanes i
+module _ {E : Type 0} (neighbors : E → Neighbors) (linked : E → Bool) where
+  -- ONE EDIT of lane k: a place has joined it, or left it, and the other lanes stay
+  module _ (k : ℕ) (old new : Table E) (lanes after : List Ends) where
+    pub record LaneJoins (front : List Place) (p : Place) (back : List Place) : Type 0 where
+      pub edit : ListJoins neighbors linked old new (lane_at lanes k) (lane_at after k) front p back
+      pub others : (i : ℕ) → i ≢ k → lane_at after i ≡ lane_at lanes i
 
-  pub record LaneLeaves (front : List Place) (p : Place) (back : List Place) : Type 0 where
-    pub edit : ListLeaves old new (lane_at lanes k) (lane_at after k) front p back
-    pub others : (i : ℕ) → i ≢ k → lane_at after i ≡ lane_at lanes i
+    pub record LaneLeaves (front : List Place) (p : Place) (back : List Place) : Type 0 where
+      pub edit : ListLeaves neighbors linked old new (lane_at lanes k) (lane_at after k) front p back
+      pub others : (i : ℕ) → i ≢ k → lane_at after i ≡ lane_at lanes i
 
--- from anywhere in lane k to the back of lane j
-pub record LaneMoves {A : Type 0} (k j : ℕ) (old new : DoublyLinkOps A) (lanes after : List Ends) (p : Place) : Type 0 where
-  pub mid : DoublyLinkOps A
-  pub between : List Ends
-  pub front : List Place
-  pub back : List Place
-  pub off : LaneLeaves k old mid lanes between front p back
-  pub on : LaneJoins j mid new between after (members_of mid (lane_at between j)) p []
+  -- from anywhere in lane k to the back of lane j
+  pub record LaneMoves {L : Type 0} (table : L → Table E) (k j : ℕ) (old new : L) (lanes after : List Ends) (p : Place) : Type 0 where
+    pub mid : L
+    pub between : List Ends
+    pub front : List Place
+    pub back : List Place
+    pub off : LaneLeaves k (table old) (table mid) lanes between front p back
+    pub on : LaneJoins j (table mid) (table new) between after (members_in neighbors table mid (lane_at between j)) p []
 
 -- WHAT STANDS FIRST: the first place of the lowest lane that has one
 abbrev pub IsFirst : List Ends → Option Place → Type 0
@@ -50,8 +55,12 @@ lanes_code {T} code =
 abbrev pub lane : {T : Type 0} → Lanes T → Rows
 lane l = listed [] l.lanes
 
+-- as these members stand in them, and as a plain table of 8-byte words shows them
+abbrev pub lanes_in : {T L : Type 0} → (L → Ends → List Place) → Objects T → L → List Ends → Lanes T
+lanes_in members objects links lanes = record { lanes = map (λ list. members links list) lanes; values = objects }
+
 abbrev pub lanes_of : {T A : Type 0} → Objects T → DoublyLinkOps A → List Ends → Lanes T
-lanes_of objects links lanes = record { lanes = map (λ list. members_of links list) lanes; values = objects }
+lanes_of = lanes_in wide.members_of
 
 -- NO OBJECT is in any lane
 pub record IsEmpty {T : Type 0} (l : Lanes T) : Type 0 where
@@ -103,5 +112,11 @@ module _ {T : Type 0} (lane_of : T → ℕ) where
   in_lane value = Some (lane_of value)
 
   -- WHAT LANES KEEP: each has the objects of its number, and nothing else is linked
-  pub record IsLaned {A : Type 0} (objects : Objects T) (links : DoublyLinkOps A) (lanes : List Ends) : Type 0 where
-    pub holds : HoldsLists links (lane_at lanes) (home_of in_lane objects)
+  module _ {L E : Type 0} (neighbors : E → Neighbors) (linked : E → Bool) (table : L → Table E) where
+    pub record AreLaned (objects : Objects T) (links : L) (lanes : List Ends) : Type 0 where
+      pub reading : ReadsLists neighbors linked table
+      pub holds : HoldsLists neighbors linked table links (lane_at lanes) (home_of in_lane objects)
+
+  -- over a plain table of 8-byte words
+  abbrev pub IsLaned : {A : Type 0} → Objects T → DoublyLinkOps A → List Ends → Type 0
+  IsLaned = AreLaned wide.neighbors_of wide.is_linked wide.plain_table

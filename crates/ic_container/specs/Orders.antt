@@ -1,15 +1,17 @@
 -- Objects in an order.
-use Rattle.std.specs.Prelude.{◌≡◌, true, List, length, refl}
+use Rattle.std.specs.Prelude.{◌≡◌, Bool, true, List, length, refl}
 use Rattle.std.specs.FinMap as map
 use Rattle.std.specs.Coded.{Coded, code_by, coded×, coded_list}
 use Rattle.ic_unsafe_ref.specs.declared.place.Place.{Place}
 use Rattle.ic_unsafe_ref.specs.Objects.{Objects, is_placed, objects_code}
 use Rattle.ic_unsafe_ref.specs.Places.{place_code}
 use Rattle.ic_link_ops.specs.Chains.{Ends, no_members}
-use Rattle.ic_link_ops.specs.DoublyEntries.{DoublyLinkOps, members_of}
+use Rattle.ic_link_ops.specs.LinkedList.{Neighbors}
 use Rattle.ic_link_ops.specs.PlacedObjects.{ArePlaced, values_at}
 use Rattle.ic_link_ops.specs.Sequences.{IsDistinct, IsMember}
-use Rattle.ic_container.specs.Holds.{HoldsLists}
+use Rattle.ic_link_ops.specs.Tables.{Table}
+use Rattle.ic_container.specs.Holds.{HoldsLists, members_in}
+use Rattle.ic_container.specs.ListReadings.{ReadsLists}
 use Rattle.ic_container.specs.Rows.{alone, home_of, to_one}
 
 -- the objects, and their places in order. Each object stands there once
@@ -31,11 +33,13 @@ pub record IsWhole {T : Type 0} (o : Order T) : Type 0 where
   pub placed : ArePlaced o.values o.order
   pub all : (p : Place) → is_placed o.values p ≡ true → IsMember p o.order
 
-module _ {T A : Type 0} (objects : Objects T) (links : DoublyLinkOps A) (list : Ends) where
-  abbrev pub order_of : Order T
-  order_of = record { order = members_of links list; values = objects }
+-- as the table of a list shows them, of whatever width
+abbrev pub order_of : {L E T : Type 0} → (E → Neighbors) → (L → Table E) → Objects T → L → Ends → Order T
+order_of neighbors table objects links list = record { order = members_in neighbors table links list; values = objects }
 
-  -- each object is in the list, nothing else is linked, and there are as many objects as members
-  pub record IsListed : Type 0 where
-    pub holds : HoldsLists links (alone no_members list) (home_of to_one objects)
-    pub count : map.len objects.values ≡ length (members_of links list)
+-- WHAT A CONTAINER KEEPS: each object is in the list, nothing else is linked, and there are as many objects as members
+module _ {L E : Type 0} (neighbors : E → Neighbors) (linked : E → Bool) (table : L → Table E) where
+  pub record IsListed {T : Type 0} (objects : Objects T) (links : L) (list : Ends) : Type 0 where
+    pub reading : ReadsLists neighbors linked table
+    pub holds : HoldsLists neighbors linked table links (alone no_members list) (home_of to_one objects)
+    pub count : map.len objects.values ≡ length (members_in neighbors table links list)

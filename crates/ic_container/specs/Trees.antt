@@ -1,10 +1,13 @@
 -- What a container keeps of an index that has each of its objects, and of a tree.
-use Rattle.std.specs.Prelude.{◌≡◌, ◌≢◌, ℕ, ◌<◌, Option, Some, None, List, ◌∷◌, ◌++◌}
+use Rattle.std.specs.Prelude.{◌≡◌, ◌≢◌, ℕ, ◌<◌, Bool, Option, Some, None, List, ◌∷◌, ◌++◌}
 use Rattle.std.specs.List.{AllByRecursion}
 use Rattle.ic_unsafe_ref.specs.declared.place.Place.{Place}
 use Rattle.ic_unsafe_ref.specs.Objects.{Objects, Places, object_at}
-use Rattle.ic_rbtree.specs.EachObject.{HasEach}
-use Rattle.ic_rbtree.specs.PlainTrees.{TreeLinkOps}
+use Rattle.ic_link_ops.specs.RedBlackTree.{Node}
+use Rattle.ic_link_ops.specs.Tables.{Table}
+use Rattle.ic_link_ops.specs.ThreeWords.{node_of}
+use Rattle.ic_container.specs.EachObject.{HasEachIn}
+use Rattle.ic_rbtree.specs.PlainTrees.{TreeLinkOps, is_linked, plain_table}
 use Rattle.ic_rbtree.specs.SortedObjects.{key_at}
 
 -- WHAT HAS ALL OBJECTS BUT ONE, the new one at p
@@ -14,11 +17,16 @@ pub record LacksOne {T : Type 0} (Has : Objects T → Type 0) (objects : Objects
   pub places : Places less objects p value
   pub all : Has less
 
-module _ {T : Type 0} (key : T → ℕ) where
-  -- the tree has each object, in the order of their keys, and nothing else is linked
-  pub record HasAll {A : Type 0} (links : TreeLinkOps A) (root : Option Place) (objects : Objects T) : Type 0 where
+-- the tree has each object, in the order of their keys, and nothing else is linked
+module _ {L E : Type 0} (node : E → Node) (linked : E → Bool) (table : L → Table E) where
+  pub record HasAllIn {T : Type 0} (key : T → ℕ) (links : L) (root : Option Place) (objects : Objects T) : Type 0 where
     pub values : List T
-    pub each : HasEach key links root objects values
+    pub each : HasEachIn node linked table key links root objects values
+
+module _ {T : Type 0} (key : T → ℕ) where
+  -- over a plain table of 8-byte words
+  abbrev pub HasAll : {A : Type 0} → TreeLinkOps A → Option Place → Objects T → Type 0
+  HasAll = HasAllIn node_of is_linked plain_table key
 
   -- WHAT A SEARCH FINDS: an object of the key, or, at null, that none has it
   abbrev pub IsFound : Objects T → ℕ → Option Place → Type 0

@@ -1,16 +1,16 @@
 -- Walks over the objects of a container, in their order.
 use Rattle.std.specs.Prelude.{true, List}
 use Rattle.ic_unsafe_ref.specs.Objects.{Objects}
-use Rattle.ic_link_ops.specs.DoublyEntries.{DoublyLinkOps, neighbors_of, plain_table}
-use Rattle.ic_link_ops.specs.LinkedList.{IsBetween, next_of}
+use Rattle.ic_link_ops.specs.LinkedList.{Neighbors, IsBetween, next_of}
+use Rattle.ic_link_ops.specs.Tables.{Table}
 use Rattle.ic_chain.specs.declared.iter.Iter.{Iter}
 use Rattle.ic_chain.specs.Iter.{objects_left, CanWalk}
 
-module _ {K T A : Type 0} where
+module _ {L E : Type 0} (neighbors : E → Neighbors) (table : L → Table E) {K T : Type 0} where
   -- the objects that a walk has not given out yet
-  abbrev pub left_of : Iter K T (DoublyLinkOps A) (Objects T) → List T
-  left_of t = objects_left (next_of neighbors_of) plain_table (λ (o : Objects T). o) t
+  abbrev pub left_of : Iter K T L (Objects T) → List T
+  left_of t = objects_left (next_of neighbors) table (λ (o : Objects T). o) t
 
   -- it gives them out
-  abbrev pub CanWalkOn : Iter K T (DoublyLinkOps A) (Objects T) → Type 0
-  CanWalkOn t = CanWalk true (IsBetween neighbors_of) plain_table (λ (o : Objects T). o) t
+  abbrev pub CanWalkOn : Iter K T L (Objects T) → Type 0
+  CanWalkOn t = CanWalk true (IsBetween neighbors) table (λ (o : Objects T). o) t

@@ -10,44 +10,51 @@
 ghost use Rattle.std.specs.Prelude.{⊤};
 ghost use Rattle.ic_link_ops.specs.Walk.{GivesFirst, GivesLast};
 
-use ic_link_ops::linked_list::LinkOps;
+use ic_link_ops::linked_list::TwoWords;
+use ic_link_ops::{PlainTable, PrevPlace};
 use ic_unsafe_ref::Objects;
 use std::alloc::Allocator;
 use std::marker::Model;
 
 /// The objects that are not given out yet, in their order: from the first by `next`, and from the last by `next_back`.
 ///
-/// A clause sees the list of those objects.
+/// A clause sees the list of those objects. `W`: the words of the links, as those of the container.
 #[derive(Drop)]
-pub struct Iter<'a, T, A: Allocator> {
-    walk: ic_linked_list::Iter<'a, T, LinkOps<A>, Objects<T, A>>,
+pub struct Iter<'a, T, A: Allocator, W: PrevPlace = TwoWords> {
+    walk: ic_linked_list::Iter<'a, T, PlainTable<W, A>, Objects<T, A>>,
 }
 
-impl<'a, T, A: Allocator> Model for Iter<'a, T, A> {
+impl<'a, T, A: Allocator, W: PrevPlace> Model for Iter<'a, T, A, W> {
     ghost use Rattle.std.specs.Prelude.{List};
+    ghost use Rattle.ic_link_ops.specs.PlainTables.{table};
+    ghost use Rattle.ic_link_ops.specs.Readings.{neighbors_of};
     ghost use Rattle.ic_container.specs.Walks.{left_of, CanWalkOn};
 
     ghost Value = { List T };
 
-    ghost view = { λ i. left_of i.walk };
+    ghost view = { λ i. left_of (neighbors_of W.next_word W.is_linked W.prev) (table W.width W.unlinked) i.walk };
 
-    ghost invariant = { λ i. CanWalkOn i.walk };
+    ghost invariant = { λ i. CanWalkOn (neighbors_of W.next_word W.is_linked W.prev) (table W.width W.unlinked) i.walk };
 }
 
-impl<'a, T, A: Allocator> Iter<'a, T, A> {
+impl<'a, T, A: Allocator, W: PrevPlace> Iter<'a, T, A, W> {
     ghost use Rattle.std.specs.Prelude.{◌≡◌};
+    ghost use Rattle.ic_link_ops.specs.PlainTables.{table};
+    ghost use Rattle.ic_link_ops.specs.Readings.{neighbors_of};
     ghost use Rattle.ic_container.specs.Walks.{left_of, CanWalkOn};
 
     /// The walk of a list over its objects. It requires that the list was whole when the walk began. O(1), and it takes no memory.
-    pub fn new(walk: ic_linked_list::Iter<'a, T, LinkOps<A>, Objects<T, A>>) -> Iter<'a, T, A>
-        requires { CanWalkOn walk }
-        ensures { result ≡ left_of walk.entry }
+    pub fn new(
+        walk: ic_linked_list::Iter<'a, T, PlainTable<W, A>, Objects<T, A>>,
+    ) -> Iter<'a, T, A, W>
+        requires { CanWalkOn (neighbors_of W.next_word W.is_linked W.prev) (table W.width W.unlinked) walk }
+        ensures { result ≡ left_of (neighbors_of W.next_word W.is_linked W.prev) (table W.width W.unlinked) walk.entry }
     {
         Iter { walk }
     }
 }
 
-impl<'a, T, A: Allocator> Iterator for Iter<'a, T, A> {
+impl<'a, T, A: Allocator, W: PrevPlace> Iterator for Iter<'a, T, A, W> {
     type Item = &'a T;
 
     ghost use Rattle.std.specs.Prelude.{List};
@@ -65,7 +72,7 @@ impl<'a, T, A: Allocator> Iterator for Iter<'a, T, A> {
     }
 }
 
-impl<'a, T, A: Allocator> DoubleEndedIterator for Iter<'a, T, A> {
+impl<'a, T, A: Allocator, W: PrevPlace> DoubleEndedIterator for Iter<'a, T, A, W> {
     ghost use Rattle.std.specs.Prelude.{List};
 
     ghost can_next_back = { λ _. ⊤ };

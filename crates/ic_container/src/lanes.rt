@@ -1,4 +1,4 @@
-//! Lanes: lists over one plain table, by number. Each call says one edit of one lane, which lemmas of a container take whole.
+//! Lanes: lists over one table of links, of either width, by number. Each call says one edit of one lane, which lemmas of a container take whole.
 //!
 //! ```text
 //! lanes::push_back(&mut self.lanes, &mut self.pool.links, lane, place);
@@ -8,63 +8,62 @@
 
 ghost use Rattle.std.specs.Prelude.{◌≡◌, ◌<◌, [], ℕ, List, Option, Some, length};
 ghost use Rattle.ic_unsafe_ref.specs.declared.place.Place.{Place};
-ghost use Rattle.ic_link_ops.specs.DoublyEntries.{is_linked, plain_table, PlainShows, PlainShowsSome, members_of};
+ghost use Rattle.ic_link_ops.specs.LinkedList.{Shows, ShowsSome, members};
 ghost use Rattle.ic_link_ops.specs.Positions.{HasMember};
 ghost use Rattle.ic_link_ops.specs.Tables.{IsCovered, IsUnlinked};
 ghost use Rattle.ic_container.specs.Holds.{HoldsLists};
 ghost use Rattle.ic_container.specs.Lanes.{lane_at, IsFirst, LaneJoins, LaneLeaves, LaneMoves};
 
-use crate::lists;
-use ic_link_ops::linked_list::LinkOps;
+use crate::{OwnLinks, lists};
+use ic_link_ops::linked_list::LinkedListOps;
 use ic_linked_list::LinkedList;
 use ic_unsafe_ref::Place;
-use std::alloc::Allocator;
 
 /// Puts the object behind all others of a lane. It requires that there is this lane, that its place is covered, and that it is not
 /// linked. O(1), and it takes no memory.
-pub fn push_back<T, A: Allocator>(
+pub fn push_back<T, L: LinkedListOps + OwnLinks>(
     lanes: &mut [LinkedList<T>],
-    links: &mut LinkOps<A>,
+    links: &mut L,
     lane: usize,
     place: Place,
 )
     requires lane { lane < length lanes.old }
-    requires covered { IsCovered (plain_table links.old) place }
-    requires unlinked { IsUnlinked is_linked (plain_table links.old) place }
-    requires shown { PlainShowsSome links.old (lane_at lanes.old lane) }
-    ensures { LaneJoins lane links.old links.new lanes.old lanes.new (members_of links.old (lane_at lanes.old lane)) place [] }
+    requires covered { IsCovered (L.table links.old) place }
+    requires unlinked { IsUnlinked L.linked (L.table links.old) place }
+    requires shown { ShowsSome L.neighbors (L.table links.old) (lane_at lanes.old lane) }
+    ensures { LaneJoins L.neighbors L.linked lane (L.table links.old) (L.table links.new) lanes.old lanes.new (members L.neighbors (L.table links.old) (lane_at lanes.old lane)) place [] }
 {
     lists::push_back(&mut lanes[lane], links, place);
 }
 
 /// Takes a member of a lane off. It requires that there is this lane, and that the object is a member of it. O(1), and it takes no
 /// memory.
-pub fn remove<T, A: Allocator>(
+pub fn remove<T, L: LinkedListOps + OwnLinks>(
     lanes: &mut [LinkedList<T>],
-    links: &mut LinkOps<A>,
+    links: &mut L,
     lane: usize,
     place: Place,
 )
     requires lane { lane < length lanes.old }
-    requires member { HasMember (PlainShows links.old (lane_at lanes.old lane)) place }
-    ensures { (front : List Place) × (back : List Place) × LaneLeaves lane links.old links.new lanes.old lanes.new front place back }
+    requires member { HasMember (Shows L.neighbors (L.table links.old) (lane_at lanes.old lane)) place }
+    ensures { (front : List Place) × (back : List Place) × LaneLeaves L.neighbors L.linked lane (L.table links.old) (L.table links.new) lanes.old lanes.new front place back }
 {
     lists::remove(&mut lanes[lane], links, place);
 }
 
 /// Moves a member of a lane behind all others of another one, which may be the same. It requires that there are both lanes, and that the
 /// object is at home in the first. O(1), and it takes no memory.
-pub fn move_to_back<T, A: Allocator>(
+pub fn move_to_back<T, L: LinkedListOps + OwnLinks>(
     lanes: &mut [LinkedList<T>],
-    links: &mut LinkOps<A>,
+    links: &mut L,
     lane: usize,
     other: usize,
     place: Place,
 )
     requires lane { lane < length lanes.old }
     requires other { other < length lanes.old }
-    requires home { (home : Place → Option ℕ) × HoldsLists links.old (lane_at lanes.old) home × (home place ≡ Some lane) }
-    ensures { LaneMoves lane other links.old links.new lanes.old lanes.new place }
+    requires home { (home : Place → Option ℕ) × HoldsLists L.neighbors L.linked L.table links.old (lane_at lanes.old) home × (home place ≡ Some lane) }
+    ensures { LaneMoves L.neighbors L.linked L.table lane other links.old links.new lanes.old lanes.new place }
 {
     remove(lanes, links, lane, place);
     push_back(lanes, links, other, place);

@@ -6,7 +6,7 @@
 //! listed.remove(object.place()) // 10
 //! ```
 
-ghost use Rattle.std.specs.Prelude.{◌≡◌, ◌↔◌, ◌++◌, ◌∷◌, [], true, None, Some, List, length, IfOk, IfErr, IfSome, IsTrue, MatchOption};
+ghost use Rattle.std.specs.Prelude.{◌≡◌, ◌≤◌, ◌↔◌, ◌^◌, ◌++◌, ◌∷◌, [], true, None, Some, Err, List, length, IfOk, IfErr, IfSome, IsTrue, MatchOption};
 ghost use Rattle.std.specs.Option.{option_copied};
 ghost use Rattle.ic_unsafe_ref.specs.declared.place.Place.{Place};
 ghost use Rattle.ic_unsafe_ref.specs.Objects.{Frees, Places, is_placed, object_at, with_object};
@@ -16,7 +16,8 @@ ghost use Rattle.ic_container.specs.Orders.{values_of};
 ghost use Rattle.ic_container.specs.Values.{Without};
 
 use crate::{Iter, lists};
-use ic_link_ops::linked_list::LinkOps;
+use ic_link_ops::linked_list::TwoWords;
+use ic_link_ops::{PlainTable, PrevPlace, TwoNarrowWords};
 use ic_linked_list::LinkedList;
 use ic_pool::{PlaceError, Pool};
 use ic_unsafe_ref::{Place, UnsafeRef};
@@ -26,23 +27,29 @@ use std::mem;
 
 /// Objects that are all in one list.
 ///
-/// A clause sees their places from the front, and the object at each (`Order`).
+/// A clause sees their places from the front, and the object at each (`Order`). `W`: the words of the links, of 8 bytes unless another type
+/// is named.
 #[derive(Drop)]
-pub struct Listed<T, A: Allocator = Global> {
-    pool: Pool<T, LinkOps<A>, A>,
+pub struct Listed<T, A: Allocator = Global, W: PrevPlace = TwoWords> {
+    pool: Pool<T, PlainTable<W, A>, A>,
     list: LinkedList<T>,
 }
 
-impl<T, A: Allocator> Model for Listed<T, A> {
+/// Objects that are all in one list, over links of 4-byte words: half the memory for links, and 536,870,911 places at most.
+pub type NarrowListed<T, A = Global> = Listed<T, A, TwoNarrowWords>;
+
+impl<T, A: Allocator, W: PrevPlace> Model for Listed<T, A, W> {
+    ghost use Rattle.ic_link_ops.specs.PlainTables.{linked_by, table};
+    ghost use Rattle.ic_link_ops.specs.Readings.{neighbors_of};
     ghost use Rattle.ic_container.specs.Orders.{Order, order_code, order_of, IsListed};
 
     ghost Value = { Order T };
 
     ghost coded = { order_code T.code };
 
-    ghost view = { λ l. order_of l.pool.objects l.pool.links l.list };
+    ghost view = { λ l. order_of (neighbors_of W.next_word W.is_linked W.prev) (table W.width W.unlinked) l.pool.objects l.pool.links l.list };
 
-    ghost invariant = { λ l. IsListed l.pool.objects l.pool.links l.list };
+    ghost invariant = { λ l. IsListed (neighbors_of W.next_word W.is_linked W.prev) (linked_by W.is_linked) (table W.width W.unlinked) l.pool.objects l.pool.links l.list };
 }
 
 impl<T, A: Allocator> Listed<T, A> {
@@ -53,18 +60,33 @@ impl<T, A: Allocator> Listed<T, A> {
         ensures order { result.order ≡ [] }
         ensures vacant { (place : Place) → object_at result.values place ≡ None }
     {
+        Listed::with_words(alloc)
+    }
+}
+
+impl<T, A: Allocator, W: PrevPlace> Listed<T, A, W> {
+    /// No objects, over links of these words: `NarrowListed::with_words(rt.alloc())`. It takes no memory.
+    pub fn with_words(alloc: A) -> Listed<T, A, W>
+    where
+        A: Copy,
+        ensures order { result.order ≡ [] }
+        ensures vacant { (place : Place) → object_at result.values place ≡ None }
+    {
         Listed {
-            pool: Pool::new(alloc, LinkOps::new(alloc)),
+            pool: Pool::new(alloc, PlainTable::new(alloc)),
             list: LinkedList::new(),
         }
     }
 
-    /// Adds an object in front of all others. Where there is no room for it, the value comes back, and nothing has changed. O(1), and at
-    /// most two requests for memory.
+    /// Adds an object in front of all others. O(1), and at most two requests for memory.
+    ///
+    /// Where it is refused the value comes back, and nothing has changed: with `NoPlaceLeft` exactly if no place is left, of 4,294,967,296,
+    /// and else with `OutOfMemory`, also where links of 4-byte words have no name left.
     pub fn place_front(&mut self, value: T) -> Result<UnsafeRef<T>, PlaceError<T>>
         ensures placed { IfOk result (λ object. Places self.old.values self.new.values object value) }
         ensures front { IfOk result (λ object. self.new.order ≡ object ∷ self.old.order) }
         ensures refused { IfErr result (λ refused. (value_of refused ≡ value) × (self.new ≡ self.old)) }
+        ensures full { (result ≡ Err (PlaceError.NoPlaceLeft value)) ↔ 2 ^ 32 ≤ self.old.values.next }
     {
         let object = match self.pool.place(value) {
             Ok(object) => object,
@@ -79,6 +101,7 @@ impl<T, A: Allocator> Listed<T, A> {
         ensures placed { IfOk result (λ object. Places self.old.values self.new.values object value) }
         ensures back { IfOk result (λ object. self.new.order ≡ self.old.order ++ object ∷ []) }
         ensures refused { IfErr result (λ refused. (value_of refused ≡ value) × (self.new ≡ self.old)) }
+        ensures full { (result ≡ Err (PlaceError.NoPlaceLeft value)) ↔ 2 ^ 32 ≤ self.old.values.next }
     {
         let object = match self.pool.place(value) {
             Ok(object) => object,
@@ -162,7 +185,7 @@ impl<T, A: Allocator> Listed<T, A> {
     }
 
     /// A walk over the objects in their order, from both ends. O(1), and it takes no memory.
-    pub fn iter(&self) -> Iter<'_, T, A>
+    pub fn iter(&self) -> Iter<'_, T, A, W>
         ensures { result ≡ values_of self.now }
     {
         Iter::new(self.list.iter(&self.pool.links, &self.pool.objects))

@@ -1,4 +1,4 @@
-//! Trees over a plain table. Each has all objects of a container, in the order of a number that its adapter says.
+//! Trees over links of either width. Each has all objects of a container, in the order of a number that its adapter says.
 //!
 //! ```text
 //! trees::insert(&mut self.by_number, &mut self.pool.links.0, &self.pool.objects, object.place());
@@ -11,37 +11,38 @@ ghost use Rattle.std.specs.Option.{option_copied};
 ghost use Rattle.ic_unsafe_ref.specs.declared.place.Place.{Place};
 ghost use Rattle.ic_unsafe_ref.specs.Objects.{Objects as Placed, Frees, is_placed};
 ghost use Rattle.ic_link_ops.specs.Tables.{IsCovered, IsUnlinked};
-ghost use Rattle.ic_rbtree.specs.PlainTrees.{is_linked, members_of, plain_table};
+ghost use Rattle.ic_rbtree.specs.Members.{members};
 ghost use Rattle.ic_rbtree.specs.Tree.{adapter_of, root_of};
-ghost use Rattle.ic_container.specs.Trees.{HasAll, IsFound, IsFoundObject, LacksOne, PutsInOrder};
+ghost use Rattle.ic_container.specs.Trees.{HasAllIn, IsFound, IsFoundObject, LacksOne, PutsInOrder};
 ghost use Rattle.ic_container.specs.Values.{Without};
 
-use ic_link_ops::rbtree::LinkOps;
+use crate::OwnLinks;
+use ic_link_ops::rbtree::RBTreeOps;
 use ic_rbtree::{KeyAdapter, RBTree};
 use ic_unsafe_ref::{Objects, Place, UnsafeRef};
 use std::alloc::Allocator;
 
 /// Where an object with this key stands, `None` if none has it. It requires that the tree has all objects. O(log n).
-pub fn find<K: KeyAdapter<Key = u64>, A: Allocator, B: Allocator>(
+pub fn find<K: KeyAdapter<Key = u64>, L: RBTreeOps, B: Allocator>(
     tree: &RBTree<K>,
-    links: &LinkOps<A>,
+    links: &L,
     objects: &Objects<K::Value, B>,
     key: u64,
 ) -> Option<Place>
-    requires all { HasAll (K.key_of (adapter_of tree.now)) links.now (root_of tree.now) objects.now }
+    requires all { HasAllIn L.node L.linked L.table (K.key_of (adapter_of tree.now)) links.now (root_of tree.now) objects.now }
     ensures { IsFound (K.key_of (adapter_of tree.now)) objects.now key result }
 {
     tree.find(links, objects, &key).get_ptr()
 }
 
 /// An object with this key, `None` if none has it. It requires that the tree has all objects. O(log n).
-pub fn get<'o, K: KeyAdapter<Key = u64>, A: Allocator, B: Allocator>(
+pub fn get<'o, K: KeyAdapter<Key = u64>, L: RBTreeOps, B: Allocator>(
     tree: &RBTree<K>,
-    links: &LinkOps<A>,
+    links: &L,
     objects: &'o Objects<K::Value, B>,
     key: u64,
 ) -> Option<&'o K::Value>
-    requires all { HasAll (K.key_of (adapter_of tree.now)) links.now (root_of tree.now) objects.now }
+    requires all { HasAllIn L.node L.linked L.table (K.key_of (adapter_of tree.now)) links.now (root_of tree.now) objects.now }
     ensures { IsFoundObject (K.key_of (adapter_of tree.now)) objects.now key (option_copied result) }
 {
     let place = find(tree, links, objects, key)?;
@@ -50,16 +51,16 @@ pub fn get<'o, K: KeyAdapter<Key = u64>, A: Allocator, B: Allocator>(
 
 /// Puts a new object where its key belongs, behind those with the same key. It requires that the tree has each other object, and that
 /// the place is covered. O(log n), and it takes no memory.
-pub fn insert<K: KeyAdapter<Key = u64>, A: Allocator, B: Allocator>(
+pub fn insert<K: KeyAdapter<Key = u64>, L: RBTreeOps + OwnLinks, B: Allocator>(
     tree: &mut RBTree<K>,
-    links: &mut LinkOps<A>,
+    links: &mut L,
     objects: &Objects<K::Value, B>,
     place: Place,
 )
-    requires covered { IsCovered (plain_table links.old) place }
-    requires lacks { LacksOne (HasAll (K.key_of (adapter_of tree.old)) links.old (root_of tree.old)) objects.now place }
-    ensures all { HasAll (K.key_of (adapter_of tree.old)) links.new (root_of tree.new) objects.now }
-    ensures order { PutsInOrder (K.key_of (adapter_of tree.old)) objects.now (members_of links.old (root_of tree.old)) (members_of links.new (root_of tree.new)) place }
+    requires covered { IsCovered (L.table links.old) place }
+    requires lacks { LacksOne (HasAllIn L.node L.linked L.table (K.key_of (adapter_of tree.old)) links.old (root_of tree.old)) objects.now place }
+    ensures all { HasAllIn L.node L.linked L.table (K.key_of (adapter_of tree.old)) links.new (root_of tree.new) objects.now }
+    ensures order { PutsInOrder (K.key_of (adapter_of tree.old)) objects.now (members L.node (L.table links.old) (root_of tree.old)) (members L.node (L.table links.new) (root_of tree.new)) place }
     ensures adapter { adapter_of tree.new ≡ adapter_of tree.old }
 {
     let _ = tree.insert(links, objects, UnsafeRef::new(place)); // proved: it is not linked
@@ -67,18 +68,18 @@ pub fn insert<K: KeyAdapter<Key = u64>, A: Allocator, B: Allocator>(
 
 /// Takes an object off that stands there still. It requires that the tree has all objects, and that one stands at the place. O(log n),
 /// and it takes no memory.
-pub fn remove<K: KeyAdapter<Key = u64>, A: Allocator, B: Allocator>(
+pub fn remove<K: KeyAdapter<Key = u64>, L: RBTreeOps, B: Allocator>(
     tree: &mut RBTree<K>,
-    links: &mut LinkOps<A>,
+    links: &mut L,
     objects: &Objects<K::Value, B>,
     place: Place,
 )
-    requires all { HasAll (K.key_of (adapter_of tree.old)) links.old (root_of tree.old) objects.now }
+    requires all { HasAllIn L.node L.linked L.table (K.key_of (adapter_of tree.old)) links.old (root_of tree.old) objects.now }
     requires placed { is_placed objects.now place ≡ true }
-    ensures removed { (less : Placed K.Value) → Frees objects.now less place → HasAll (K.key_of (adapter_of tree.old)) links.new (root_of tree.new) less }
-    ensures order { Without place (members_of links.old (root_of tree.old)) (members_of links.new (root_of tree.new)) }
-    ensures free { IsUnlinked is_linked (plain_table links.new) place }
-    ensures covered { IsCovered (plain_table links.new) place }
+    ensures removed { (less : Placed K.Value) → Frees objects.now less place → HasAllIn L.node L.linked L.table (K.key_of (adapter_of tree.old)) links.new (root_of tree.new) less }
+    ensures order { Without place (members L.node (L.table links.old) (root_of tree.old)) (members L.node (L.table links.new) (root_of tree.new)) }
+    ensures free { IsUnlinked L.linked (L.table links.new) place }
+    ensures covered { IsCovered (L.table links.new) place }
     ensures adapter { adapter_of tree.new ≡ adapter_of tree.old }
 {
     let _ = objects;

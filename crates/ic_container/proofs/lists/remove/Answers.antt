@@ -3,4 +3,6 @@ use Rattle.ic_container.proofs.lists.remove.Goals as goal
 
 pub returns : goal.returns
 returns g c =
-    let e = rw c.new.ensures at c.remove.ensures in (c.requires.member.front, c.requires.member.back, left c.requires.member e.removed e.released e.frame)
+    let e = rw c.new.ensures at c.remove.ensures in
+    let links = c.args.links.now in
+    (c.requires.member.front, c.requires.member.back, left c.requires.member e.removed (g.met.L.LinkOps.does_replay links c.remove.new.links _ e.released) e.frame)

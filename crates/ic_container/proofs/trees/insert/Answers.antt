@@ -2,6 +2,7 @@ use Rattle.std.proofs.Common.{is_some, ap}
 use Rattle.ic_unsafe_ref.proofs.Placing.{placed_there}
 use Rattle.ic_link_ops.proofs.Calling.{accepted}
 use Rattle.ic_rbtree.specs.Tree.{adapter_of, root_of}
+use Rattle.ic_container.proofs.EditLemmas.{done, refused_linked}
 use Rattle.ic_container.proofs.TreeLemmas.{all_new, all_off, all_ready, order_new}
 use Rattle.ic_container.proofs.trees.insert.Goals as goal
 
@@ -17,11 +18,14 @@ returns-clause-all g c =
     let e = rw c.new.ensures at c.insert.ensures in
     let key = g.K.KeyAdapter.key_of (adapter_of c.args.tree.now) in
     let off = all_off key l.less l.all l.places in
-    all_new key l.less l.all l.places c.insert.new.links (root_of c.insert.new.self) (λ s shown. accepted _ c.insert.result off e.refused (e.inserted s shown)) (accepted _ c.insert.result off e.refused e.acquired)
+    let refused = refused_linked c.insert.result (g.met.L.OwnLinks.refuses_linked c.args.links.now c.insert.new.links c.args.place) e.refused in
+    let acquired = done c.insert.result (g.met.L.LinkOps.does_replay c.args.links.now c.insert.new.links _) e.acquired in
+    all_new key l.less l.all l.places c.insert.new.links (root_of c.insert.new.self) (λ s shown. accepted _ c.insert.result off refused (e.inserted s shown)) (accepted _ c.insert.result off refused acquired)
 
 pub returns-clause-order : goal.returns-clause-order
 returns-clause-order g c =
     let l = c.requires.lacks in
     let e = rw c.new.ensures at c.insert.ensures in
     let key = g.K.KeyAdapter.key_of (adapter_of c.args.tree.now) in
-    order_new key l.less l.all l.places c.insert.new.links (root_of c.insert.new.self) (λ s shown. accepted _ c.insert.result (all_off key l.less l.all l.places) e.refused (e.inserted s shown))
+    let refused = refused_linked c.insert.result (g.met.L.OwnLinks.refuses_linked c.args.links.now c.insert.new.links c.args.place) e.refused in
+    order_new key l.less l.all l.places c.insert.new.links (root_of c.insert.new.self) (λ s shown. accepted _ c.insert.result (all_off key l.less l.all l.places) refused (e.inserted s shown))

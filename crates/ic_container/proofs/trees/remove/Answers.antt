@@ -10,10 +10,10 @@ pub returns-clause-removed : goal.returns-clause-removed
 returns-clause-removed g c less frees =
     let off = rw c.new.ensures at c.remove.ensures in
     let there = there_is c.args.objects.now c.args.place c.requires.placed in
-    all_freed (g.K.KeyAdapter.key_of (adapter_of c.args.tree.now)) c.args.objects.now c.requires.all there.1 c.remove.new.links (root_of c.remove.new.self) off.removed off.released frees
+    all_freed (g.K.KeyAdapter.key_of (adapter_of c.args.tree.now)) c.args.objects.now c.requires.all there.1 c.remove.new.links (root_of c.remove.new.self) off.removed (g.met.L.LinkOps.does_replay c.args.links.now c.remove.new.links _ off.released) frees
 
 pub returns-clause-free : goal.returns-clause-free
-returns-clause-free g c = let off = rw c.new.ensures at c.remove.ensures in off.released.is
+returns-clause-free g c = let off = rw c.new.ensures at c.remove.ensures in (g.met.L.LinkOps.does_replay c.args.links.now c.remove.new.links _ off.released).is
 
 pub returns-clause-covered : goal.returns-clause-covered
 returns-clause-covered g c =

@@ -1,5 +1,4 @@
 use Rattle.std.proofs.Common.{◌∙◌, sym}
-use Rattle.ic_link_ops.specs.DoublyEntries.{members_of}
 use Rattle.ic_container.proofs.ListedLemmas.{listed_distinct, listed_last}
 use Rattle.ic_container.proofs.RowLemmas.{without_last}
 use Rattle.ic_container.proofs.listed.Listed.last.Goals as goal
@@ -13,4 +12,4 @@ returns-clause-placed g c = rw (← c.self.view_is, c.last.ensures) (listed_last
 pub returns-clause-behind : goal.returns-clause-behind
 returns-clause-behind g c = rw (← c.self.view_is) (λ front back place is same.
     let k = c.self.invariant in
-    without_last (members_of c.self.inside.pool.links c.self.inside.list) (listed_distinct k) (sym (k.holds.shown 0).tail ∙ sym c.last.ensures ∙ is) front back same)
+    without_last _ (listed_distinct k) (sym (k.holds.shown 0).tail ∙ sym c.last.ensures ∙ is) front back same)

@@ -1,0 +1,20 @@
+-- A tree that has each of the objects, over links of either width.
+use Rattle.std.specs.Prelude.{◌≡◌, ℕ, Bool, Option, List}
+use Rattle.std.specs.Ordering.{nat_cmp}
+use Rattle.ic_unsafe_ref.specs.declared.place.Place.{Place}
+use Rattle.ic_unsafe_ref.specs.Objects.{Objects, is_placed}
+use Rattle.ic_link_ops.specs.RedBlackTree.{Node, Shows}
+use Rattle.ic_link_ops.specs.Tables.{Table, IsCovered, IsLinked}
+use Rattle.ic_rbtree.specs.SortedValues.{HasSorted}
+
+module _ {L E : Type 0} (node : E → Node) (linked : E → Bool) (table : L → Table E) where
+  -- THE LAWS of a table of trees, of whatever width: an entry says in both ways alike whether its place is linked, and what is linked is covered
+  pub record ReadsTrees : Type 0 where
+    pub alike : (e : E) → (node e).linked ≡ linked e
+    pub covered : (links : L) (p : Place) → IsLinked linked (table links) p → IsCovered (table links) p
+
+  -- THE TREE HAS EACH OBJECT: the objects, as these values, by a key; and exactly the places of objects are linked
+  pub record HasEachIn {V : Type 0} (key_of : V → ℕ) (links : L) (root : Option Place) (objects : Objects V) (values : List V) : Type 0 where
+    pub reads : ReadsTrees
+    pub sorted : HasSorted nat_cmp key_of (Shows node) linked (table links) root objects values
+    pub exact : (p : Place) → linked ((table links).entry p) ≡ is_placed objects p
