@@ -8,16 +8,15 @@ use Rattle.ic_unsafe_ref.specs.declared.place.Place.{Place}
 use Rattle.ic_unsafe_ref.specs.Places.{index_of}
 use Rattle.ic_unsafe_ref.specs.Objects.{Objects, Places, Frees, object_at, is_placed}
 use Rattle.ic_unsafe_ref.proofs.Placing.{gone_there, others_left, others_placed, placed_there}
-use Rattle.ic_link_ops.specs.declared.one_word.OneWord.{OneWord}
 use Rattle.ic_link_ops.specs.declared.table.PlainTable.{PlainTable}
 use Rattle.ic_link_ops.specs.EntryLaws.{linked_in_range}
 use Rattle.ic_link_ops.specs.Links.{link_of}
-use Rattle.ic_link_ops.specs.OneWord.{no_word}
 use Rattle.ic_link_ops.specs.PlacedObjects.{values_at}
-use Rattle.ic_link_ops.specs.PlainTables.{entries}
+use Rattle.ic_link_ops.specs.PlainTables.{entries, linked_by, table}
 use Rattle.ic_link_ops.specs.Sequences.{IsAbsent, IsDistinct, IsMember}
 use Rattle.ic_link_ops.specs.SinglyLinkedList.{Successor}
 use Rattle.ic_link_ops.specs.Tables.{Table, IsCovered, IsLinked, IsUnlinked, LinksAlso, Unlinks}
+use Rattle.ic_link_ops.specs.Widths.{Width, nameable}
 use Rattle.ic_link_ops.proofs.LinkedSets.{everywhere}
 use Rattle.ic_link_ops.proofs.PlacedValues.{all_beside}
 use Rattle.ic_link_ops.proofs.SequenceLemmas.{absent_left, absent_right, absent_with, absent_without, distinct_left, distinct_middle, distinct_right, member_split, none_not, split_member}
@@ -34,14 +33,15 @@ use Rattle.ic_hash_table.proofs.SlotLemmas.{slot_used}
 use Rattle.ic_container.specs.Trees.{IsFound}
 use Rattle.ic_container.proofs.ValueLemmas.{member_placed, no_more, there_is}
 use Rattle.ic_indexed.specs.Indexed.{IsOrderOf}
-use Rattle.ic_indexed.specs.HashIndex.{is_linked, plain_table, HoldsAll}
+use Rattle.ic_indexed.specs.HashIndex.{HoldsAll}
 
--- only covered places are linked, and so none where no place is
-pub singly_covered : {K A : Type 0} (links : PlainTable (OneWord K) A ⊤) (p : Place) → IsLinked is_linked (plain_table links) p → IsCovered (plain_table links) p
-singly_covered links p is = linked_in_range is_linked (link_of no_word) refl (entries links) (index_of p) is
+-- only covered places are linked, of whatever width the words are, and so none where no place is
+module _ {W A : Type 0} (width : Width) (unlinked : W) (is_linked : W → Bool) (starts : is_linked unlinked ≡ false) (links : PlainTable W A ⊤) where
+  pub singly_covered : (p : Place) → IsLinked (linked_by is_linked) (table width unlinked links) p → IsCovered (table width unlinked links) p
+  singly_covered p is = linked_in_range (linked_by is_linked) (link_of unlinked) starts (nameable width (entries links)) (index_of p) is
 
-pub singly_off : {K A : Type 0} (links : PlainTable (OneWord K) A ⊤) → (plain_table links).extent.places ≡ 0 → (p : Place) → IsUnlinked is_linked (plain_table links) p
-singly_off links none p = false_from_ne_true _ (λ is. let within = singly_covered links p is in absurd (omega (arith, within, none)))
+  pub singly_off : (table width unlinked links).extent.places ≡ 0 → (p : Place) → IsUnlinked (linked_by is_linked) (table width unlinked links) p
+  singly_off none p = false_from_ne_true _ (λ is. let within = singly_covered p is in absurd (omega (arith, within, none)))
 
 -- what holds where an answer is true
 pub on_true : {X : Type 0} (answer : Bool) → OnTrue answer X → answer ≡ true → X

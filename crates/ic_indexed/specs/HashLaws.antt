@@ -1,12 +1,9 @@
 -- Laws of a hash table that has each object.
-use Rattle.std.proofs.Common.{◌≡◌, ℕ, Bool, true, None, Some, Option, IsSome, is_some, List, [], ◌∷◌, refl, sym, ap, ◌∙◌}
-use Rattle.std.specs.Bool.{⊤}
+use Rattle.std.proofs.Common.{◌≡◌, ℕ, Bool, true, None, Some, Option, IsSome, is_some, List, [], ◌∷◌, sym, ap, ◌∙◌}
 use Rattle.std.specs.List.{AllByRecursion}
 use Rattle.ic_unsafe_ref.specs.declared.place.Place.{Place}
 use Rattle.ic_unsafe_ref.specs.Objects.{Objects, object_at, is_placed}
 use Rattle.ic_unsafe_ref.proofs.Placing.{Puts, put_others, put_there}
-use Rattle.ic_link_ops.specs.declared.link.Link.{Link}
-use Rattle.ic_link_ops.specs.declared.one_word.OneWord.{OneWord}
 use Rattle.ic_link_ops.specs.Sequences.{IsDisjoint, IsMember}
 use Rattle.ic_link_ops.specs.SinglyLinkedList.{Successor}
 use Rattle.ic_link_ops.specs.Tables.{Table, IsUnlinked}
@@ -16,11 +13,7 @@ use Rattle.ic_hash_table.specs.declared.table.HashTable.{HashTable}
 use Rattle.ic_hash_table.specs.HashTable.{BelongsIn}
 use Rattle.ic_hash_table.specs.Slots.{slot_of}
 use Rattle.ic_hash_table.proofs.Chains.{chains_frame, chains_weakened}
-use Rattle.ic_indexed.specs.HashIndex.{is_linked, successor, HoldsAll}
-
--- singly links say in both ways alike whether a place is linked
-pub singly_alike : {K : Type 0} (e : Link (OneWord K) ⊤) → (successor e).linked ≡ is_linked e
-singly_alike e = refl
+use Rattle.ic_indexed.specs.HashIndex.{HoldsAll}
 
 -- nothing shares a member with no place
 apart_from_none : (s : List Place) → IsDisjoint s []

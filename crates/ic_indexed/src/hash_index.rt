@@ -3,32 +3,46 @@
 ghost use Rattle.std.specs.Prelude.{◌≡◌};
 ghost use Rattle.std.proofs.Common.{ap, eqb-true};
 ghost use Rattle.ic_hash_table.specs.HashTable.{number, slots_of};
-ghost use Rattle.ic_indexed.specs.HashIndex.{is_linked, mixed, plain_table, successor, HoldsAll, IsFewInChain};
+ghost use Rattle.ic_link_ops.specs.PlainTables.{linked_by, table};
+ghost use Rattle.ic_link_ops.specs.Readings.{successor_of};
+ghost use Rattle.ic_indexed.specs.HashIndex.{mixed, HoldsAll, IsFewInChain};
 ghost use Rattle.ic_indexed.specs.HashLaws.{hash_grown, hash_alike};
 
-use crate::{HasKey, Index};
+use crate::{HasKey, Index, LinkWidth, Wide};
 use ic_hash_table::{Buckets, HashAdapter, HashTable, KeyProbe};
-use ic_link_ops::singly_linked_list::LinkOps;
+use ic_link_ops::PlainTable;
 use ic_unsafe_ref::{Objects, Place, UnsafeRef};
 use std::alloc::{AllocError, Allocator};
 use std::marker::PhantomData;
 
 /// The hashes of keys: the upper half of the key times 2^64 over the golden ratio, so that keys in a row are in different chains.
 ///
-/// Who chooses the keys can choose them so that all are in one chain.
-pub struct ByHash<T> {
+/// Who chooses the keys can choose them so that all are in one chain. `W`: how wide the words of the links are.
+pub struct ByHash<T, W = Wide> {
     of: PhantomData<T>,
+    width: PhantomData<W>,
 }
 
 impl<T> ByHash<T> {
     /// The hashes of keys. O(1).
     #[inline]
     pub fn new() -> ByHash<T> {
-        ByHash { of: PhantomData }
+        ByHash::with_width()
     }
 }
 
-impl<T> Clone for ByHash<T> {
+impl<T, W> ByHash<T, W> {
+    /// The hashes of keys, for links of this width. O(1).
+    #[inline]
+    pub fn with_width() -> ByHash<T, W> {
+        ByHash {
+            of: PhantomData,
+            width: PhantomData,
+        }
+    }
+}
+
+impl<T, W> Clone for ByHash<T, W> {
     ghost use Rattle.std.specs.Prelude.{⊤};
 
     ghost is_clone = { λ a copy. copy ≡ a };
@@ -40,9 +54,9 @@ impl<T> Clone for ByHash<T> {
     }
 }
 
-impl<T> Copy for ByHash<T> {}
+impl<T, W> Copy for ByHash<T, W> {}
 
-impl<T: HasKey> HashAdapter for ByHash<T> {
+impl<T: HasKey, W> HashAdapter for ByHash<T, W> {
     type Value = T;
 
     type Key = u64;
@@ -64,18 +78,21 @@ impl<T: HasKey> HashAdapter for ByHash<T> {
     ghost equal_alike = { λ a k l same. ap mixed (eqb-true k l same) };
 }
 
-impl<T: HasKey, B: Buckets + Drop, A: Allocator> Index<T, A> for HashTable<ByHash<T>, B> {
-    type Links = LinkOps<A>;
+impl<T: HasKey, W: LinkWidth, B: Buckets + Drop, A: Allocator> Index<T, A>
+    for HashTable<ByHash<T, W>, B> {
+    type Links = PlainTable<W::One, A>;
 
-    ghost Has = { λ table links objects. HoldsAll successor is_linked (number (λ a. T.key_of) (λ a. mixed)) B.fronts (plain_table links) table objects };
+    type Order = W::Two;
 
-    ghost parts = { λ table. (slots_of table).used };
+    ghost Has = { λ hashed links objects. HoldsAll (successor_of W.One.next_word W.One.is_linked) (linked_by W.One.is_linked) (number (λ a. T.key_of) (λ a. mixed)) B.fronts (table W.One.width W.One.unlinked links) hashed objects };
+
+    ghost parts = { λ hashed. (slots_of hashed).used };
 
     ghost IsFew = { IsFewInChain (λ value. T.key_of value) };
 
     fn find_key(
         &self,
-        links: &LinkOps<A>,
+        links: &PlainTable<W::One, A>,
         objects: &Objects<T, A>,
         key: u64,
     ) -> (Option<Place>, u64) {
@@ -86,11 +103,21 @@ impl<T: HasKey, B: Buckets + Drop, A: Allocator> Index<T, A> for HashTable<ByHas
         }
     }
 
-    fn insert_place(&mut self, links: &mut LinkOps<A>, objects: &Objects<T, A>, place: Place) {
+    fn insert_place(
+        &mut self,
+        links: &mut PlainTable<W::One, A>,
+        objects: &Objects<T, A>,
+        place: Place,
+    ) {
         let _ = self.insert(links, objects, UnsafeRef::new(place)); // proved: it is not linked
     }
 
-    fn remove_place(&mut self, links: &mut LinkOps<A>, objects: &Objects<T, A>, place: Place) {
+    fn remove_place(
+        &mut self,
+        links: &mut PlainTable<W::One, A>,
+        objects: &Objects<T, A>,
+        place: Place,
+    ) {
         let _ = self.remove(links, objects, &UnsafeRef::new(place)); // proved: it is a member
     }
 

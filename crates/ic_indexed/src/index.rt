@@ -15,6 +15,7 @@ ghost use Rattle.ic_container.specs.Trees.{IsFound, LacksOne};
 ghost use Rattle.ic_indexed.specs.Indexed.{IsOrderOf};
 
 use crate::HasKey;
+use ic_link_ops::PrevPlace;
 use ic_pool::Tables;
 use ic_unsafe_ref::{Objects, Place};
 use std::alloc::Allocator;
@@ -23,6 +24,9 @@ use std::alloc::Allocator;
 pub trait Index<T: HasKey, A: Allocator>: Drop {
     /// The table of its links.
     type Links: Tables + Drop;
+
+    /// The words of the links of the order beside it, as wide as its own.
+    type Order: PrevPlace;
 
     // THE INDEX HAS EACH OBJECT, and nothing else is linked in its table.
     ghost Has: { Self → Self.Links → Placed T → Type 0 };

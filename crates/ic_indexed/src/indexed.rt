@@ -6,7 +6,7 @@
 //! indexed.move_to_front(place?); // in front of all others
 //! ```
 
-ghost use Rattle.std.specs.Prelude.{◌≡◌, ◌≤◌, ◌↔◌, ◌∷◌, ◌++◌, [], true, None, Some, List, length, OnOk, IfOk, IfErr, IfSome, IsTrue, MatchOption};
+ghost use Rattle.std.specs.Prelude.{◌≡◌, ◌≤◌, ◌↔◌, ◌^◌, ◌∷◌, ◌++◌, [], true, None, Some, Err, List, length, OnOk, IfOk, IfErr, IfSome, IsTrue, MatchOption};
 ghost use Rattle.std.specs.List.{AllByRecursion};
 ghost use Rattle.ic_unsafe_ref.specs.declared.place.Place.{Place};
 ghost use Rattle.ic_unsafe_ref.specs.Objects.{Objects as Placed, Frees, Places, is_placed, object_at, with_object};
@@ -17,11 +17,12 @@ ghost use Rattle.ic_container.specs.Trees.{IsFound};
 ghost use Rattle.ic_container.specs.Values.{first_value, last_value, Without};
 ghost use Rattle.ic_indexed.specs.Indexed.{order_in, values_of};
 
+use crate::place::place;
 use crate::renew::renew;
-use crate::{ByHash, ByKey, HasKey, Index};
+use crate::{ByHash, ByKey, HasKey, Index, LinkWidth, Narrow};
 use ic_container::{Iter, lists};
 use ic_hash_table::{Buckets, HashTable};
-use ic_link_ops::{CoverError, linked_list, rbtree, singly_linked_list};
+use ic_link_ops::{CoverError, PlainTable};
 use ic_linked_list::LinkedList;
 use ic_pool::{PlaceError, Pool, Tables};
 use ic_rbtree::RBTree;
@@ -35,7 +36,7 @@ use std::marker::Model;
 /// (`IndexedOrder`). `values_of` are the objects themselves along the list.
 #[derive(Drop)]
 pub struct Indexed<T: HasKey, I: Index<T, A>, A: Allocator = Global> {
-    pool: Pool<T, (I::Links, linked_list::LinkOps<A>), A>,
+    pool: Pool<T, (I::Links, PlainTable<I::Order, A>), A>,
     index: I,
     in_order: LinkedList<T>,
 }
@@ -46,16 +47,24 @@ pub type TreeIndexed<T, A = Global> = Indexed<T, RBTree<ByKey<T>>, A>;
 /// Objects in a hash table by their keys and in a list.
 pub type HashIndexed<T, B, A = Global> = Indexed<T, HashTable<ByHash<T>, B>, A>;
 
+/// The same as `TreeIndexed` over links of 4-byte words: half the memory for links, and 536,870,911 places at most.
+pub type NarrowTreeIndexed<T, A = Global> = Indexed<T, RBTree<ByKey<T, Narrow>>, A>;
+
+/// The same as `HashIndexed` over links of 4-byte words.
+pub type NarrowHashIndexed<T, B, A = Global> = Indexed<T, HashTable<ByHash<T, Narrow>, B>, A>;
+
 impl<T: HasKey, I: Index<T, A>, A: Allocator> Model for Indexed<T, I, A> {
+    ghost use Rattle.ic_link_ops.specs.PlainTables.{linked_by, table};
+    ghost use Rattle.ic_link_ops.specs.Readings.{neighbors_of};
     ghost use Rattle.ic_indexed.specs.Indexed.{IndexedOrder, IsIndexed, indexed_code, indexed_of};
 
     ghost Value = { IndexedOrder T };
 
     ghost coded = { indexed_code T.code };
 
-    ghost view = { λ i. indexed_of i.pool.objects i.pool.links.1 i.in_order (I.parts i.index) };
+    ghost view = { λ i. indexed_of (neighbors_of I.Order.next_word I.Order.is_linked I.Order.prev) (table I.Order.width I.Order.unlinked) i.pool.objects i.pool.links.1 i.in_order (I.parts i.index) };
 
-    ghost invariant = { λ i. IsIndexed (I.Has i.index i.pool.links.0) i.pool.objects i.pool.links.1 i.in_order };
+    ghost invariant = { λ i. IsIndexed (neighbors_of I.Order.next_word I.Order.is_linked I.Order.prev) (linked_by I.Order.is_linked) (table I.Order.width I.Order.unlinked) (I.Has i.index i.pool.links.0) i.pool.objects i.pool.links.1 i.in_order };
 }
 
 impl<T: HasKey, A: Allocator> Indexed<T, RBTree<ByKey<T>>, A> {
@@ -67,15 +76,21 @@ impl<T: HasKey, A: Allocator> Indexed<T, RBTree<ByKey<T>>, A> {
         ensures vacant { (place : Place) → object_at result.values place ≡ None }
         ensures parts { result.parts ≡ 1 }
     {
-        let links = (
-            rbtree::LinkOps::new(alloc),
-            linked_list::LinkOps::new(alloc),
-        );
-        Indexed {
-            pool: Pool::new(alloc, links),
-            index: RBTree::new(ByKey::new()),
-            in_order: LinkedList::new(),
-        }
+        Indexed::by_tree(alloc)
+    }
+}
+
+impl<T: HasKey, W: LinkWidth, A: Allocator> Indexed<T, RBTree<ByKey<T, W>>, A> {
+    /// No objects, with a tree over links of either width as the index: `NarrowTreeIndexed::by_tree(rt.alloc())`. It takes no memory.
+    pub fn by_tree(alloc: A) -> Indexed<T, RBTree<ByKey<T, W>>, A>
+    where
+        A: Copy,
+        ensures empty { values_of result ≡ [] }
+        ensures vacant { (place : Place) → object_at result.values place ≡ None }
+        ensures parts { result.parts ≡ 1 }
+    {
+        let tree = RBTree::new(ByKey::with_width());
+        Indexed::with_index(alloc, tree, PlainTable::new(alloc))
     }
 }
 
@@ -94,15 +109,28 @@ impl<T: HasKey, B: Buckets + Drop, A: Allocator> Indexed<T, HashTable<ByHash<T>,
         ensures vacant { (place : Place) → object_at result.values place ≡ None }
         ensures parts { result.parts ≡ length (B.fronts buckets) }
     {
-        let links = (
-            singly_linked_list::LinkOps::new(alloc),
-            linked_list::LinkOps::new(alloc),
-        );
-        Indexed {
-            pool: Pool::new(alloc, links),
-            index: HashTable::new(ByHash::new(), buckets),
-            in_order: LinkedList::new(),
-        }
+        Indexed::by_hash(alloc, buckets)
+    }
+}
+
+impl<T: HasKey, W: LinkWidth, B: Buckets + Drop, A: Allocator> Indexed<
+    T,
+    HashTable<ByHash<T, W>, B>,
+    A,
+> {
+    /// No objects, with a hash table over these buckets and over links of either width as the index. Else as `with_buckets`.
+    pub fn by_hash(alloc: A, buckets: B) -> Indexed<T, HashTable<ByHash<T, W>, B>, A>
+    where
+        A: Copy,
+        requires some { 1 ≤ length (B.fronts buckets) }
+        requires few { length (B.fronts buckets) ≤ 4294967296 }
+        requires empty { AllByRecursion (λ front. front ≡ None) (B.fronts buckets) }
+        ensures empty { values_of result ≡ [] }
+        ensures vacant { (place : Place) → object_at result.values place ≡ None }
+        ensures parts { result.parts ≡ length (B.fronts buckets) }
+    {
+        let hashed = HashTable::new(ByHash::with_width(), buckets);
+        Indexed::with_index(alloc, hashed, PlainTable::new(alloc))
     }
 }
 
@@ -119,7 +147,7 @@ impl<T: HasKey, I: Index<T, A>, A: Allocator> Indexed<T, I, A> {
         ensures parts { result.parts ≡ I.parts index }
     {
         Indexed {
-            pool: Pool::new(alloc, (links, linked_list::LinkOps::new(alloc))),
+            pool: Pool::new(alloc, (links, PlainTable::new(alloc))),
             index,
             in_order: LinkedList::new(),
         }
@@ -151,7 +179,7 @@ impl<T: HasKey, I: Index<T, A>, A: Allocator> Indexed<T, I, A> {
     }
 
     /// A walk over the objects in their order, from both ends. O(1), and it takes no memory.
-    pub fn iter(&self) -> Iter<'_, T, A>
+    pub fn iter(&self) -> Iter<'_, T, A, I::Order>
         ensures { result ≡ values_of self.now }
     {
         Iter::new(self.in_order.iter(&self.pool.links.1, &self.pool.objects))
@@ -281,7 +309,10 @@ impl<T: HasKey, I: Index<T, A>, A: Allocator> Indexed<T, I, A> {
         gone
     }
 
-    /// Adds an object in front of all others. Where there is no room for it, the value comes back, and nothing has changed.
+    /// Adds an object in front of all others.
+    ///
+    /// Where it is refused the value comes back, and nothing has changed: with `NoPlaceLeft` exactly if no place is left, of 4,294,967,296,
+    /// and else with `OutOfMemory`, also where links of 4-byte words have no name left.
     ///
     /// It costs about as much as a search of the index, O(log n) by a tree, and at most three requests for memory.
     pub fn place_front(&mut self, value: T) -> Result<UnsafeRef<T>, PlaceError<T>>
@@ -289,13 +320,12 @@ impl<T: HasKey, I: Index<T, A>, A: Allocator> Indexed<T, I, A> {
         ensures added { OnOk result (values_of self.new ≡ value ∷ values_of self.old) }
         ensures parts { self.new.parts ≡ self.old.parts }
         ensures refused { IfErr result (λ refused. (value_of refused ≡ value) × (self.new ≡ self.old)) }
+        ensures full { (result ≡ Err (PlaceError.NoPlaceLeft value)) ↔ 2 ^ 32 ≤ self.old.values.next }
     {
-        let object = match self.pool.place(value) {
+        let object = match place(&mut self.pool, &mut self.index, value) {
             Ok(object) => object,
             Err(refused) => return Err(refused),
         };
-        let (objects, links) = (&self.pool.objects, &mut self.pool.links.0);
-        self.index.insert_place(links, objects, object.place());
         lists::push_front(&mut self.in_order, &mut self.pool.links.1, object.place());
         Ok(object)
     }
@@ -306,13 +336,12 @@ impl<T: HasKey, I: Index<T, A>, A: Allocator> Indexed<T, I, A> {
         ensures added { OnOk result (values_of self.new ≡ values_of self.old ++ value ∷ []) }
         ensures parts { self.new.parts ≡ self.old.parts }
         ensures refused { IfErr result (λ refused. (value_of refused ≡ value) × (self.new ≡ self.old)) }
+        ensures full { (result ≡ Err (PlaceError.NoPlaceLeft value)) ↔ 2 ^ 32 ≤ self.old.values.next }
     {
-        let object = match self.pool.place(value) {
+        let object = match place(&mut self.pool, &mut self.index, value) {
             Ok(object) => object,
             Err(refused) => return Err(refused),
         };
-        let (objects, links) = (&self.pool.objects, &mut self.pool.links.0);
-        self.index.insert_place(links, objects, object.place());
         lists::push_back(&mut self.in_order, &mut self.pool.links.1, object.place());
         Ok(object)
     }

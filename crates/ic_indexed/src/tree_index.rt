@@ -2,20 +2,24 @@
 
 ghost use Rattle.std.specs.Prelude.{length};
 ghost use Rattle.ic_rbtree.specs.Tree.{root_of};
-ghost use Rattle.ic_container.specs.Trees.{HasAll};
+ghost use Rattle.ic_link_ops.specs.PlainTables.{linked_by, table};
+ghost use Rattle.ic_rbtree.specs.PlainTrees.{node_by};
+ghost use Rattle.ic_container.specs.Trees.{HasAllIn};
 ghost use Rattle.ic_container.specs.TreeLaws.{all_grown, all_alike};
 ghost use Rattle.ic_indexed.specs.Indexed.{IsFewLooks};
 
-use crate::{ByKey, HasKey, Index};
-use ic_link_ops::rbtree::LinkOps;
+use crate::{ByKey, HasKey, Index, LinkWidth};
+use ic_link_ops::PlainTable;
 use ic_rbtree::{KeyProbe, RBTree};
 use ic_unsafe_ref::{Objects, Place, UnsafeRef};
 use std::alloc::Allocator;
 
-impl<T: HasKey, A: Allocator> Index<T, A> for RBTree<ByKey<T>> {
-    type Links = LinkOps<A>;
+impl<T: HasKey, W: LinkWidth, A: Allocator> Index<T, A> for RBTree<ByKey<T, W>> {
+    type Links = PlainTable<W::Three, A>;
 
-    ghost Has = { λ tree links objects. HasAll T.key_of links (root_of tree) objects };
+    type Order = W::Two;
+
+    ghost Has = { λ tree links objects. HasAllIn (node_by W.Three.node) (linked_by W.Three.is_linked) (table W.Three.width W.Three.unlinked) T.key_of links (root_of tree) objects };
 
     ghost parts = { λ tree. 1 };
 
@@ -23,7 +27,7 @@ impl<T: HasKey, A: Allocator> Index<T, A> for RBTree<ByKey<T>> {
 
     fn find_key(
         &self,
-        links: &LinkOps<A>,
+        links: &PlainTable<W::Three, A>,
         objects: &Objects<T, A>,
         key: u64,
     ) -> (Option<Place>, u64) {
@@ -32,11 +36,21 @@ impl<T: HasKey, A: Allocator> Index<T, A> for RBTree<ByKey<T>> {
         (place, probe.looks())
     }
 
-    fn insert_place(&mut self, links: &mut LinkOps<A>, objects: &Objects<T, A>, place: Place) {
+    fn insert_place(
+        &mut self,
+        links: &mut PlainTable<W::Three, A>,
+        objects: &Objects<T, A>,
+        place: Place,
+    ) {
         let _ = self.insert(links, objects, UnsafeRef::new(place)); // proved: it is not linked
     }
 
-    fn remove_place(&mut self, links: &mut LinkOps<A>, objects: &Objects<T, A>, place: Place) {
+    fn remove_place(
+        &mut self,
+        links: &mut PlainTable<W::Three, A>,
+        objects: &Objects<T, A>,
+        place: Place,
+    ) {
         let _ = objects;
         self.remove(links, &UnsafeRef::new(place));
     }

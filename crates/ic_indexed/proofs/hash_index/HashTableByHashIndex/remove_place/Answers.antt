@@ -1,5 +1,5 @@
+use Rattle.std.proofs.Common.{refl}
 use Rattle.ic_link_ops.proofs.Covering.{still_covered}
-use Rattle.ic_indexed.specs.HashLaws.{singly_alike}
 use Rattle.ic_indexed.proofs.HashLemmas.{hash_freed, on_true, singly_covered}
 use Rattle.ic_indexed.proofs.hash_index.HashTableByHashIndex.remove_place.Goals as goal
 
@@ -13,7 +13,7 @@ pub returns-clause-removed : goal.returns-clause-removed
 returns-clause-removed g c less frees =
     let a = c.requires.all in
     let e = rw c.new.ensures at c.remove.ensures in
-    hash_freed singly_alike a c.args.place c.requires.placed e.removed (on_true c.remove.result e.released ((e.answer a.members a.held).1 (a.all c.args.place c.requires.placed))) frees
+    hash_freed (λ e. refl) a c.args.place c.requires.placed e.removed (on_true c.remove.result e.released ((e.answer a.members a.held).1 (a.all c.args.place c.requires.placed))) frees
 
 pub returns-clause-free : goal.returns-clause-free
 returns-clause-free g c =
@@ -27,4 +27,4 @@ returns-clause-covered g c =
     let a = c.requires.all in
     let e = rw c.new.ensures at c.remove.ensures in
     let off = on_true c.remove.result e.released ((e.answer a.members a.held).1 (a.all c.args.place c.requires.placed)) in
-    still_covered c.args.place (e.frame a.members a.held) (singly_covered c.args.links.now c.args.place off.was)
+    still_covered c.args.place (e.frame a.members a.held) (singly_covered g.W.One.Words.width g.W.One.Words.unlinked g.W.One.Words.is_linked g.met.W.One.Words.starts_unlinked c.args.links.now c.args.place off.was)

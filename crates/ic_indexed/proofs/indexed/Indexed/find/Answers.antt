@@ -1,4 +1,3 @@
-use Rattle.ic_link_ops.specs.DoublyEntries.{members_of}
 use Rattle.ic_container.proofs.ListedLemmas.{listed_whole}
 use Rattle.ic_indexed.proofs.indexed.Indexed.find.Goals as goal
 
@@ -10,7 +9,7 @@ returns-clause-found g c = rw (← c.self.view_is) c.find_key.ensures.found
 
 pub returns-clause-looks : goal.returns-clause-looks
 returns-clause-looks g c =
-    rw (← c.self.view_is) (c.find_key.ensures.looks (members_of c.self.inside.pool.links.1 c.self.inside.in_order) (listed_whole c.self.invariant.listed))
+    rw (← c.self.view_is) (c.find_key.ensures.looks _ (listed_whole c.self.invariant.listed))
 
 pub returns-clause-whole : goal.returns-clause-whole
 returns-clause-whole g c = rw (← c.self.view_is) (listed_whole c.self.invariant.listed)
