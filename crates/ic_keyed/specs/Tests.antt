@@ -1,6 +1,19 @@
 -- What a test answers.
-use Rattle.std.specs.Prelude.{◌≡◌, Bool}
+use Rattle.std.specs.Prelude.{◌≡◌, Bool, cond, List, [], ◌∷◌}
 
 -- `tells v b`: the test may answer b of the value v. It answers of each value what `holds` computes
 abbrev pub Tests : {T : Type 0} → (T → Bool → Type 0) → (T → Bool) → Type 0
 Tests {T} tells holds = (value : T) (answer : Bool) → tells value answer → answer ≡ holds value
+
+-- THE TEST WAS ASKED of each of these values once, in their order, and answered so
+abbrev pub AreAnswers : {T : Type 0} → (T → Bool → Type 0) → List T → List Bool → Type 0
+AreAnswers tells [] [] = Unit {0}
+AreAnswers tells [] (answer ∷ answers) = ⊥
+AreAnswers tells (value ∷ values) [] = ⊥
+AreAnswers tells (value ∷ values) (answer ∷ answers) = tells value answer × AreAnswers tells values answers
+
+-- the values of which it answered yes
+abbrev pub passing : {T : Type 0} → List Bool → List T → List T
+passing [] values = []
+passing (answer ∷ answers) [] = []
+passing (answer ∷ answers) (value ∷ values) = cond answer (value ∷ passing answers values) (passing answers values)

@@ -20,7 +20,7 @@ use crate::InsertError;
 use crate::store::{find, place_of};
 use ic_container::Iter;
 use ic_hash_table::{Buckets, HashTable};
-use ic_indexed::{ByHash, ByKey, HasKey, Index, Indexed};
+use ic_indexed::{ByHash, ByKey, HasKey, Index, Indexed, LinkWidth, Narrow};
 use ic_link_ops::CoverError;
 use ic_rbtree::RBTree;
 use std::alloc::{Allocator, Global};
@@ -42,6 +42,12 @@ pub type TreeKeyed<T, A = Global> = Keyed<T, RBTree<ByKey<T>>, A>;
 
 /// Values that are found by a hash table: O(1) on average.
 pub type HashKeyed<T, B, A = Global> = Keyed<T, HashTable<ByHash<T>, B>, A>;
+
+/// The same as `TreeKeyed` over links of 4-byte words: half the memory for links, and 536,870,911 places at most.
+pub type NarrowTreeKeyed<T, A = Global> = Keyed<T, RBTree<ByKey<T, Narrow>>, A>;
+
+/// The same as `HashKeyed` over links of 4-byte words.
+pub type NarrowHashKeyed<T, B, A = Global> = Keyed<T, HashTable<ByHash<T, Narrow>, B>, A>;
 
 impl<T: HasKey, I: Index<T, A>, A: Allocator> Model for Keyed<T, I, A> {
     ghost use Rattle.ic_indexed.specs.Indexed.{values_of};
@@ -65,8 +71,20 @@ impl<T: HasKey, A: Allocator> Keyed<T, RBTree<ByKey<T>>, A> {
         ensures values { result.values ≡ [] }
         ensures parts { result.parts ≡ 1 }
     {
+        Keyed::by_tree(alloc)
+    }
+}
+
+impl<T: HasKey, W: LinkWidth, A: Allocator> Keyed<T, RBTree<ByKey<T, W>>, A> {
+    /// No values, with a tree over links of either width as the index: `NarrowTreeKeyed::by_tree(rt.alloc())`. It takes no memory.
+    pub fn by_tree(alloc: A) -> Keyed<T, RBTree<ByKey<T, W>>, A>
+    where
+        A: Copy,
+        ensures values { result.values ≡ [] }
+        ensures parts { result.parts ≡ 1 }
+    {
         Keyed {
-            store: Indexed::new(alloc),
+            store: Indexed::by_tree(alloc),
         }
     }
 }
@@ -85,8 +103,27 @@ impl<T: HasKey, B: Buckets + Drop, A: Allocator> Keyed<T, HashTable<ByHash<T>, B
         ensures values { result.values ≡ [] }
         ensures parts { result.parts ≡ length (B.fronts buckets) }
     {
+        Keyed::by_hash(alloc, buckets)
+    }
+}
+
+impl<T: HasKey, W: LinkWidth, B: Buckets + Drop, A: Allocator> Keyed<
+    T,
+    HashTable<ByHash<T, W>, B>,
+    A,
+> {
+    /// No values, with a hash table over these buckets and over links of either width as the index. Else as `with_buckets`.
+    pub fn by_hash(alloc: A, buckets: B) -> Keyed<T, HashTable<ByHash<T, W>, B>, A>
+    where
+        A: Copy,
+        requires some { 1 ≤ length (B.fronts buckets) }
+        requires few { length (B.fronts buckets) ≤ 4294967296 }
+        requires empty { AllByRecursion (λ front. front ≡ None) (B.fronts buckets) }
+        ensures values { result.values ≡ [] }
+        ensures parts { result.parts ≡ length (B.fronts buckets) }
+    {
         Keyed {
-            store: Indexed::with_buckets(alloc, buckets),
+            store: Indexed::by_hash(alloc, buckets),
         }
     }
 }
@@ -95,7 +132,7 @@ impl<T: HasKey, I: Index<T, A>, A: Allocator> Keyed<T, I, A> {
     ghost use Rattle.std.specs.Borrow.{sem};
     ghost use Rattle.ic_keyed.specs.Lends.{EndsAs};
     ghost use Rattle.ic_keyed.specs.Refusals.{IsRefused};
-    ghost use Rattle.ic_keyed.specs.Tests.{Tests};
+    ghost use Rattle.ic_keyed.specs.Tests.{AreAnswers, Tests, passing};
 
     /// No values, with this index, whose links are in this table. It takes no memory.
     ///
@@ -145,7 +182,7 @@ impl<T: HasKey, I: Index<T, A>, A: Allocator> Keyed<T, I, A> {
     }
 
     /// A walk over the values from the one that was used last, and from both ends. The order stays. O(1).
-    pub fn iter(&self) -> Iter<'_, T, A>
+    pub fn iter(&self) -> Iter<'_, T, A, I::Order>
         ensures { result ≡ self.now.values }
     {
         self.store.iter()
@@ -176,7 +213,7 @@ impl<T: HasKey, I: Index<T, A>, A: Allocator> Keyed<T, I, A> {
 
     /// The value of the key, if there is one. It is used: it goes in front of all others, which keep their order.
     pub fn get(&mut self, key: u64) -> Option<&T>
-        ensures* touches { sem 𝓛 (EndsAs T.row I.row A.row I.Links.row T.HasKey I.Index I.Links.Tables A.Allocator self.entry (touched T.key_of key self.old.values)) }
+        ensures* touches { sem 𝓛 (EndsAs T.row I.row A.row I.Links.row I.Order.row T.HasKey I.Index I.Links.Tables I.Order.unlinked I.Order.is_linked I.Order.width I.Order.next_word I.Order.KeepsOthers I.Order.prev A.Allocator self.entry (touched T.key_of key self.old.values)) }
         ensures value { option_copied result ≡ value_with T.key_of key self.old.values }
     {
         let used = place_of(&self.store, key)?;
@@ -303,7 +340,8 @@ impl<T: HasKey, I: Index<T, A>, A: Allocator> Keyed<T, I, A> {
     where
         T: Drop,
         requires callable { F.IsAlwaysCallable keeps }
-        ensures { (holds : T → Bool) → Tests (FnReturnsAt F.Fn keeps) holds → self.new ≡ with_values self.old (filter holds self.old.values) }
+        ensures asked { (answers : List Bool) × AreAnswers (FnReturnsAt F.Fn keeps) self.old.values answers × (self.new ≡ with_values self.old (passing answers self.old.values)) }
+        ensures kept { (holds : T → Bool) → Tests (FnReturnsAt F.Fn keeps) holds → self.new ≡ with_values self.old (filter holds self.old.values) }
     {
         for _asked in 0..self.len() {
             self.test_first(&keeps);
@@ -316,8 +354,8 @@ impl<T: HasKey, I: Index<T, A>, A: Allocator> Keyed<T, I, A> {
         T: Drop,
         requires callable { F.IsAlwaysCallable keeps.now }
         ensures parts { self.new.parts ≡ self.old.parts }
-        ensures tested { (holds : T → Bool) → Tests (FnReturnsAt F.Fn keeps.now) holds → (first : T) (rest : List T) → self.old.values ≡ first ∷ rest
-            → self.new.values ≡ rest ++ filter holds (first ∷ []) }
+        ensures tested { (first : T) (rest : List T) → self.old.values ≡ first ∷ rest
+            → (answer : Bool) × FnReturnsAt F.Fn keeps.now first answer × (self.new.values ≡ rest ++ passing (answer ∷ []) (first ∷ [])) }
     {
         let Some(first) = self.store.first() else {
             return;

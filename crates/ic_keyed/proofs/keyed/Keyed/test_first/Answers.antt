@@ -1,8 +1,8 @@
-use Rattle.std.proofs.Common.{refl, sym, ap, ◌∙◌}
+use Rattle.std.proofs.Common.{refl, sym, subst, ◌∙◌}
 use Rattle.std.specs.Fn.{FnReturnsAt}
 use Rattle.std.proofs.lemmas.Option.{same_Some}
 use Rattle.ic_keyed.proofs.KeyLemmas.{own_behind, rest_own, some_there, without_first}
-use Rattle.ic_keyed.proofs.RetainLemmas.{turn_gone, turn_kept}
+use Rattle.ic_keyed.proofs.RetainLemmas.{same_first, turn_gone, turn_kept}
 use Rattle.ic_keyed.proofs.keyed.Keyed.test_first.Goals as goal
 
 pub invariant_of-self : goal.invariant_of-self
@@ -16,17 +16,17 @@ invariant_of-self-else-keeps g c = rest_own g.T.HasKey.key_of c.remove.ensures.r
 
 pub returns-then-keeps-clause-tested : goal.returns-then-keeps-clause-tested
 returns-then-keeps-clause-tested g c =
-    rw (← c.self.view_is) (λ holds tests first rest is.
+    rw (← c.self.view_is) (λ first rest is.
     let told : FnReturnsAt g.F.Fn c.args.keeps.now c.at.result.now c.keeps.result = record { shown = c.at.result; shows = refl; says = record { met = c.keeps.ensures } } in
     let t = c.move_to_back.ensures.moved c.at.result.now (sym c.at.ensures) in
     let cut = without_first g.T.HasKey.key_of c.self.invariant t.1 (sym c.in-Some.ensures.first ∙ sym c.at.ensures) in
-    t.2 ∙ turn_kept holds (sym cut ∙ is) (sym (tests c.at.result.now c.keeps.result told) ∙ c.if-keeps.true))
+    (c.keeps.result, subst (λ value. FnReturnsAt g.F.Fn c.args.keeps.now value c.keeps.result) (same_first (sym cut ∙ is)) told, t.2 ∙ turn_kept (sym cut ∙ is) c.if-keeps.true))
 
 pub returns-else-keeps-clause-tested : goal.returns-else-keeps-clause-tested
 returns-else-keeps-clause-tested g c =
-    rw (← c.self.view_is) (λ holds tests first rest is.
+    rw (← c.self.view_is) (λ first rest is.
     let told : FnReturnsAt g.F.Fn c.args.keeps.now c.at.result.now c.keeps.result = record { shown = c.at.result; shows = refl; says = record { met = c.keeps.ensures } } in
     let e = c.remove.ensures in
     let gone = same_Some _ _ (c.at.ensures ∙ e.value) in
     let cut = without_first g.T.HasKey.key_of c.self.invariant e.removed (sym c.in-Some.ensures.first ∙ e.value) in
-    turn_gone holds (sym cut ∙ is) (ap holds (sym gone) ∙ sym (tests c.at.result.now c.keeps.result told) ∙ c.if-keeps.false))
+    (c.keeps.result, subst (λ value. FnReturnsAt g.F.Fn c.args.keeps.now value c.keeps.result) (gone ∙ same_first (sym cut ∙ is)) told, turn_gone (sym cut ∙ is) c.if-keeps.false))
