@@ -1,7 +1,7 @@
 -- What was sent to a mailbox and what was received of it.
 use Rattle.std.proofs.Common.{◌≡◌, ◌≢◌, ℕ, zero, suc, ◌<◌, eqb, Bool, true, false, true≢false, cond, Some, None, List, [], ◌∷◌, ◌++◌, map, drop, length, get_or, reverse, All, Contains, refl, sym, ap, ◌∙◌, subst, arith, append_assoc, append-nil, eq-eqb, ne_eqb, eqb-true}
 use Rattle.std.proofs.lemmas.List.{map-append, length-map, nil_from_length}
-use Rattle.std.proofs.lemmas.List.Elements.{All-head, All-tail, All-weaker}
+use Rattle.std.proofs.lemmas.List.Elements.{All-nil, All-cons, All-head, All-tail, All-append, All-weaker}
 use Rattle.std.proofs.lemmas.Grind.{flat_map-append}
 use Rattle.ic_unsafe_ref.specs.declared.place.Place.{Place}
 use Rattle.ic_lock_free_stack.specs.declared.step.Step.{Step}
@@ -36,6 +36,16 @@ letters_places : (k : ℕ) (order : List Entry) → map place_of (letters_of k o
 letters_places k [] = refl
 letters_places k (x ∷ xs) = map-append place_of (signed x.holder (sent k x.step)) (letters_of k xs)
     ∙ ((λ i. signed_places x.holder (sent k x.step) i ++ letters_places k xs i))
+
+signed_by : (P : ℕ → Type 0) (h : ℕ) (s : List Place) → P h → All (λ (x : Letter). P x.sender) (signed h s)
+signed_by P h [] is = All-nil (λ (x : Letter). P x.sender)
+signed_by P h (p ∷ s) is = All-cons (λ (x : Letter). P x.sender) (record { sender = h; place = p }) (signed h s) is (signed_by P h s is)
+
+letters_by : (P : ℕ → Type 0) (k : ℕ) (order : List Entry) → All (λ (x : Entry). P x.holder) order → All (λ (x : Letter). P x.sender) (letters_of k order)
+letters_by P k [] by = All-nil (λ (x : Letter). P x.sender)
+letters_by P k (x ∷ xs) by =
+    All-append (λ (y : Letter). P y.sender) (signed x.holder (sent k x.step)) (letters_of k xs)
+    (signed_by P x.holder (sent k x.step) (All-head (λ (y : Entry). P y.holder) x xs by)) (letters_by P k xs (All-tail (λ (y : Entry). P y.holder) x xs by))
 
 from_both : (h : ℕ) (xs ys : List Letter) → sent_from h (xs ++ ys) ≡ sent_from h xs ++ sent_from h ys
 from_both h [] ys = refl
@@ -100,6 +110,7 @@ mail order parties k x was there only =
       letters = letters_of k order;
       all = letters_places k order ∙ (comes_in_turn order k was.legal ∙ ap (λ l. l ++ reverse (stack_after order k))
           (only_by (got k) x.name (map (λ (y : Party). y.name) parties) order was.by none ∙ ap (of_record (got k)) own_x));
+      by = letters_by (Contains (map (λ (y : Party). y.name) parties)) k order was.by;
       each = All-weaker (λ (y : Party). steps_of y.name order ≡ y.steps) (λ (y : Party). sent_from y.name (letters_of k order) ≡ of_record (sent k) y.steps)
           (λ y own. from_letters y.name k order ∙ ap (of_record (sent k)) own) parties was.own;
     }

@@ -85,6 +85,12 @@ module _ {A : Type 0} (stacks : Stacks A) (old : Receiver) (ps : List Place) (wa
   received (Some p) (has, none) = (ps ++ p ∷ [], has.0)
   received None (has, none) = (ps, none)
 
+  -- which place that is, is known
+  pub receives_first : (r : Option Place) (p : Place) → r ≡ first was.rest → Some p ≡ first was.rest
+      → IfSome r (λ q. (index_of q < places_of stacks) × (holds q (record_of old.holder) ≡ true) × (is_in q (drop 1 was.rest) ≡ false)) → HasReceived stacks now (ps ++ p ∷ [])
+  receives_first r p e is found =
+      (receives (Some p) is (subst (λ o. IfSome o (λ q. (index_of q < places_of stacks) × (holds q (record_of old.holder) ≡ true) × (is_in q (drop 1 was.rest) ≡ false))) (e ∙ sym is) found)).0.0
+
 -- a call that made no step, and then one step
 pub after_stays : (a b c : Holder) (e : Step) → Stays a b → Steps b c e → Steps a c e
 after_stays a b c e stays steps = record {

@@ -1,7 +1,9 @@
 -- Mailboxes: what was sent to one and what was received of it.
-use Rattle.std.specs.Prelude.{◌≡◌, ◌≢◌, ℕ, ◌<◌, ◌==◌, true, false, if◌then◌else◌, List, [], ◌∷◌, ◌++◌, map, All}
+use Rattle.std.specs.Prelude.{◌≡◌, ◌≢◌, ℕ, ◌<◌, ◌==◌, Bool, true, false, if◌then◌else◌, List, [], ◌∷◌, ◌++◌, map, All, Contains}
 use Rattle.ic_unsafe_ref.specs.declared.place.Place.{Place}
 use Rattle.ic_unsafe_ref.specs.Places.{index_of}
+use Rattle.ic_lock_free_stack.specs.declared.step.Step.{Step}
+use Rattle.ic_lock_free_stack.specs.declared.step.Step.TheVariants.{Claim, Push}
 use Rattle.ic_lock_free_stack.specs.declared.stacks.Stacks.{Stacks}
 use Rattle.ic_lock_free_stack.specs.declared.stacks.Holder.{Holder}
 use Rattle.ic_lock_free_stack.specs.Moments.{is_in}
@@ -21,6 +23,15 @@ box_of receiver = receiver.mailbox
 -- the places that a holder has sent to a mailbox so far, in their order
 abbrev pub sent_by : ℕ → Holder → List Place
 sent_by mailbox holder = of_record (sent mailbox) (record_of holder)
+
+-- the steps by which a place is sent, or is not where the claim is refused
+abbrev pub steps_to_send : ℕ → Place → Bool → List Step
+steps_to_send mailbox p true = Claim p true ∷ Push mailbox (p ∷ []) ∷ []
+steps_to_send mailbox p false = Claim p false ∷ []
+
+-- these are the places that the receiver has taken of its mailbox and has not given out
+abbrev pub HasOpened : {A : Type 0} → Stacks A → Receiver → List Place → Type 0
+HasOpened stacks receiver s = HasChain stacks receiver.holder receiver.opened s
 
 -- THE RECEIVER HAS GIVEN OUT these places so far: what it got is these and then what it has opened
 pub record HasReceived {A : Type 0} (stacks : Stacks A) (receiver : Receiver) (ps : List Place) : Type 0 where
@@ -50,8 +61,9 @@ abbrev pub sent_from : ℕ → List Letter → List Place
 sent_from name [] = []
 sent_from name (x ∷ xs) = if x.sender == name then x.place ∷ sent_from name xs else sent_from name xs
 
--- THE MAIL OF A MAILBOX: what was received and what lies there are letters in one order, and those of each holder are what it sent, in its order
+-- THE MAIL OF A MAILBOX: what was received and what lies there are letters of holders in one order, and those of each are what it sent, in its order
 pub record IsMail (mailbox : ℕ) (parties : List Party) (received waiting : List Place) : Type 0 where
   pub letters : List Letter
   pub all : map (λ (x : Letter). x.place) letters ≡ received ++ waiting
+  pub by : All (λ (x : Letter). Contains (map (λ (y : Party). y.name) parties) x.sender) letters
   pub each : All (λ (x : Party). sent_from x.name letters ≡ of_record (sent mailbox) x.steps) parties

@@ -12,21 +12,22 @@
 //!
 //! A message is a place. What it says lies wherever the sender of a place and its receiver look for it.
 
-ghost use Rattle.std.specs.Prelude.{◌≡◌, ◌<◌, ◌≤◌, ◌+◌, ℕ, [], ◌∷◌, ◌++◌, reverse, List, IfSome, IfNone, Contains};
+ghost use Rattle.std.specs.Prelude.{◌≡◌, ◌<◌, ◌≤◌, ◌+◌, ℕ, [], ◌∷◌, ◌++◌, reverse, List, IfSome, IfNone, OnOk, Contains};
 ghost use Rattle.std.specs.Bool.{OnTrue, OnFalse};
 ghost use Rattle.ic_unsafe_ref.specs.declared.place.Place.{Place};
 ghost use Rattle.ic_unsafe_ref.specs.Places.{index_of};
 ghost use Rattle.ic_lock_free_stack.specs.declared.step.Entry.{Entry};
+ghost use Rattle.ic_lock_free_stack.specs.declared.step.Step.TheVariants.{TakeAll};
 ghost use Rattle.ic_lock_free_stack.specs.Moments.{stack_after};
 ghost use Rattle.ic_lock_free_stack.specs.Records.{most_steps, GivesUp};
 ghost use Rattle.ic_lock_free_stack.specs.OneHistory.{Party, IsHistory};
 ghost use Rattle.ic_lock_free_stack.specs.Orders.{got, of_record};
-ghost use Rattle.ic_lock_free_stack.specs.Holders.{places_of, stacks_of, record_of, spent_by, IsOf, IsNew};
-ghost use Rattle.stack_uses.specs.Mail.{holder_of, box_of, sent_by, HasReceived, IsOut, IsOnlyReceiver, IsMail};
+ghost use Rattle.ic_lock_free_stack.specs.Holders.{places_of, stacks_of, name_of, record_of, spent_by, IsOf, Steps};
+ghost use Rattle.stack_uses.specs.Mail.{holder_of, box_of, sent_by, steps_to_send, HasReceived, HasOpened, IsOut, IsOnlyReceiver, IsMail};
 
 use ic_lock_free_stack::{Chain, Holder, Stacks};
 use ic_unsafe_ref::Place;
-use std::alloc::Allocator;
+use std::alloc::{AllocError, Allocator};
 
 /// Who receives what is sent to one mailbox, the stack of that number.
 #[derive(Drop)]
@@ -50,6 +51,8 @@ pub fn send<A: Allocator>(
     requires made { IsOf stacks.now sender.old }
     requires room { spent_by sender.old < most_steps }
     ensures made { IsOf stacks.now sender.new }
+    ensures name { name_of sender.new ≡ name_of sender.old }
+    ensures steps { record_of sender.new ≡ record_of sender.old ++ steps_to_send mailbox place result }
     ensures sent { OnTrue result (sent_by mailbox sender.new ≡ sent_by mailbox sender.old ++ place ∷ []) }
     ensures refused { OnFalse result (sent_by mailbox sender.new ≡ sent_by mailbox sender.old) }
     ensures spent { spent_by sender.new ≤ spent_by sender.old + 1 }
@@ -62,11 +65,12 @@ pub fn send<A: Allocator>(
 }
 
 impl Receiver {
-    /// A receiver for the mailbox of that number, by a holder that has made no step.
+    /// A receiver for the mailbox of that number, which has received what its holder took of it: nothing, if the holder has made no step.
     pub fn new<A: Allocator>(stacks: &Stacks<A>, holder: Holder, mailbox: usize) -> Receiver
         requires mailbox { mailbox < stacks_of stacks.now }
-        requires made { IsOf stacks.now holder × IsNew holder }
-        ensures made { HasReceived stacks.now result [] }
+        requires made { IsOf stacks.now holder }
+        ensures made { HasReceived stacks.now result (of_record (got mailbox) (record_of holder)) }
+        ensures opened { HasOpened stacks.now result [] }
         ensures holder { holder_of result ≡ holder }
         ensures mailbox { box_of result ≡ mailbox }
     {
@@ -89,6 +93,7 @@ impl Receiver {
         ensures some { (ps : List Place) → HasReceived stacks.now self.old ps
             → IfSome result (λ p. HasReceived stacks.now self.new (ps ++ p ∷ []) × IsOut stacks.now self.new p) }
         ensures none { (ps : List Place) → HasReceived stacks.now self.old ps → IfNone result (HasReceived stacks.now self.new ps) }
+        ensures empty { IfNone result (Steps (holder_of self.old) (holder_of self.new) (TakeAll (box_of self.old) [])) }
         ensures mailbox { box_of self.new ≡ box_of self.old }
         ensures spent { spent_by (holder_of self.new) ≤ spent_by (holder_of self.old) + 1 }
     {
@@ -96,11 +101,57 @@ impl Receiver {
         stacks.next(&mut self.holder, &mut self.opened)
     }
 
+    /// Receives all places that had come at one moment of the call, and appends them to `came`. It waits for nobody.
+    ///
+    /// It requires that its holder has made fewer than 281,474,976,710,656 pushes and calls that take all. Where no memory is found, the places
+    /// that are not in `came` are still to be received. A swap, and two loads and a store for each place.
+    pub fn receive_all<A: Allocator, B: Allocator>(
+        &mut self,
+        stacks: &Stacks<A>,
+        came: &mut Vec<Place, B>,
+    ) -> Result<(), AllocError>
+        requires kept { (ps : List Place) × HasReceived stacks.now self.old ps }
+        requires room { spent_by (holder_of self.old) < most_steps }
+        ensures came { (ps : List Place) → HasReceived stacks.now self.old ps
+            → (qs : List Place) × (came.new.items ≡ came.old.items ++ qs) × HasReceived stacks.now self.new (ps ++ qs) }
+        ensures all { OnOk result (HasOpened stacks.now self.new []) }
+        ensures took { OnOk result ((s : List Place) × Steps (holder_of self.old) (holder_of self.new) (TakeAll (box_of self.old) s)) }
+        ensures mailbox { box_of self.new ≡ box_of self.old }
+        ensures spent { spent_by (holder_of self.new) ≤ spent_by (holder_of self.old) + 1 }
+    {
+        self.receive_opened(stacks, came)?;
+        self.open(stacks);
+        self.receive_opened(stacks, came)
+    }
+
+    // Receives the places that it has opened.
+    fn receive_opened<A: Allocator, B: Allocator>(
+        &mut self,
+        stacks: &Stacks<A>,
+        came: &mut Vec<Place, B>,
+    ) -> Result<(), AllocError>
+        requires kept { (ps : List Place) × HasReceived stacks.now self.old ps }
+        ensures came { (ps : List Place) → HasReceived stacks.now self.old ps
+            → (qs : List Place) × (came.new.items ≡ came.old.items ++ qs) × HasReceived stacks.now self.new (ps ++ qs) }
+        ensures all { OnOk result (HasOpened stacks.now self.new []) }
+        ensures holder { holder_of self.new ≡ holder_of self.old }
+        ensures mailbox { box_of self.new ≡ box_of self.old }
+    {
+        while let Some(place) = self.opened.first() {
+            came.push(place)?;
+            let _ = stacks.next(&mut self.holder, &mut self.opened);
+        }
+        Ok(())
+    }
+
     // Takes what has come, where all that was taken is received.
     fn open<A: Allocator>(&mut self, stacks: &Stacks<A>)
         requires kept { (ps : List Place) × HasReceived stacks.now self.old ps }
         requires room { spent_by (holder_of self.old) < most_steps }
         ensures kept { (ps : List Place) → HasReceived stacks.now self.old ps → HasReceived stacks.now self.new ps }
+        ensures opened { HasOpened stacks.now self.old [] → (s : List Place) × HasOpened stacks.now self.new (reverse s)
+            × Steps (holder_of self.old) (holder_of self.new) (TakeAll (box_of self.old) s) }
+        ensures same { (p : Place) (s : List Place) → HasOpened stacks.now self.old (p ∷ s) → self.new ≡ self.old }
         ensures mailbox { box_of self.new ≡ box_of self.old }
         ensures spent { spent_by (holder_of self.new) ≤ spent_by (holder_of self.old) + 1 }
     {
