@@ -1,2 +1,3 @@
 pub mod MailLemmas
 pub mod ReceiverLemmas
+pub mod DeliveryLemmas

@@ -1,2 +1,3 @@
 pub mod Mail
 pub mod Frees
+pub mod Delivery

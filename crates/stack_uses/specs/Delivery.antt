@@ -1,0 +1,51 @@
+-- Threads that send places to one mailbox, and what is received of them.
+use Rattle.std.specs.Prelude.{◌≡◌, ℕ, ◌+◌, ◌*◌, ◌<◌, ◌≤◌, Bool, List, [], ◌∷◌, ◌++◌, map, length}
+use Rattle.std.specs.List.{range_with_len}
+use Rattle.ic_unsafe_ref.specs.declared.place.Place.{Place}
+use Rattle.ic_unsafe_ref.specs.Places.{index_of}
+use Rattle.ic_lock_free_stack.specs.declared.step.Step.{Step}
+use Rattle.ic_lock_free_stack.specs.declared.stacks.Stacks.{Stacks}
+use Rattle.ic_lock_free_stack.specs.declared.stacks.Holder.{Holder}
+use Rattle.ic_lock_free_stack.specs.Holders.{places_of, stacks_of, record_of, IsOf}
+use Rattle.stack_uses.specs.Mail.{steps_to_send}
+use Rattle.stack_uses.specs.declared.delivery.Sender.{Sender}
+
+-- the steps by which several places are sent, one after the other, or are not where a claim is refused
+abbrev pub steps_to_send_each : ℕ → List Place → List Bool → List Step
+steps_to_send_each mailbox [] got = []
+steps_to_send_each mailbox (p ∷ ps) [] = []
+steps_to_send_each mailbox (p ∷ ps) (b ∷ got) = steps_to_send mailbox p b ++ steps_to_send_each mailbox ps got
+
+-- these steps send `count` places, from the one with index `first` on, and are no others
+pub record Sends (first count : ℕ) (steps : List Step) : Type 0 where
+  pub places : List Place
+  pub are : map index_of places ≡ range_with_len first count
+  pub got : List Bool
+  pub each : length got ≡ length places
+  pub steps_are : steps ≡ steps_to_send_each 0 places got
+
+module _ {A : Type 0} where
+  -- the sender's holder has made no step, and is to send so many places, which are there
+  pub record IsReady (stacks : Stacks A) (first count : ℕ) (sender : Sender A) : Type 0 where
+    pub stacks_are : sender.stacks.now ≡ stacks
+    pub first_is : sender.first ≡ first
+    pub count_is : sender.count ≡ count
+    pub made : IsOf stacks sender.holder
+    pub fresh : record_of sender.holder ≡ []
+    pub some : 0 < stacks_of stacks
+    pub inside : first + count ≤ places_of stacks
+    pub small : places_of stacks ≤ 4294967296
+
+  -- the holder has sent so many places, and has done nothing else
+  pub record HasSent (stacks : Stacks A) (first count : ℕ) (holder : Holder) : Type 0 where
+    pub made : IsOf stacks holder
+    pub sends : Sends first count (record_of holder)
+
+  -- the same of several, of which each begins where the one in front of it ends
+  abbrev pub AreReady : Stacks A → ℕ → ℕ → List (Sender A) → Type 0
+  AreReady stacks first count [] = Unit {0}
+  AreReady stacks first count (x ∷ xs) = IsReady stacks first count x × AreReady stacks (first + count) count xs
+
+  abbrev pub HaveSent : Stacks A → ℕ → ℕ → List Holder → Type 0
+  HaveSent stacks first count [] = Unit {0}
+  HaveSent stacks first count (h ∷ hs) = HasSent stacks first count h × HaveSent stacks (first + count) count hs
