@@ -4,9 +4,11 @@ use Rattle.std.specs.List.{range_with_len}
 use Rattle.ic_unsafe_ref.specs.declared.place.Place.{Place}
 use Rattle.ic_unsafe_ref.specs.Places.{index_of}
 use Rattle.ic_lock_free_stack.specs.declared.step.Step.{Step}
+use Rattle.ic_lock_free_stack.specs.declared.step.Step.TheVariants.{Claim, Release, Push, TakeAll}
 use Rattle.ic_lock_free_stack.specs.declared.stacks.Stacks.{Stacks}
 use Rattle.ic_lock_free_stack.specs.declared.stacks.Holder.{Holder}
-use Rattle.ic_lock_free_stack.specs.Holders.{places_of, stacks_of, record_of, IsOf}
+use Rattle.ic_lock_free_stack.specs.Orders.{got, of_record}
+use Rattle.ic_lock_free_stack.specs.Holders.{places_of, stacks_of, record_of, spent_by, IsOf}
 use Rattle.stack_uses.specs.Mail.{steps_to_send}
 use Rattle.stack_uses.specs.declared.delivery.Sender.{Sender}
 
@@ -23,6 +25,14 @@ pub record Sends (first count : ℕ) (steps : List Step) : Type 0 where
   pub got : List Bool
   pub each : length got ≡ length places
   pub steps_are : steps ≡ steps_to_send_each 0 places got
+
+-- these steps do nothing but take all that a stack has
+abbrev pub OnlyTakes : List Step → Type 0
+OnlyTakes [] = Unit {0}
+OnlyTakes (Claim p got ∷ es) = ⊥
+OnlyTakes (Release p ∷ es) = ⊥
+OnlyTakes (Push k s ∷ es) = ⊥
+OnlyTakes (TakeAll k s ∷ es) = OnlyTakes es
 
 module _ {A : Type 0} where
   -- the sender's holder has made no step, and is to send so many places, which are there
@@ -49,3 +59,18 @@ module _ {A : Type 0} where
   abbrev pub HaveSent : Stacks A → ℕ → ℕ → List Holder → Type 0
   HaveSent stacks first count [] = Unit {0}
   HaveSent stacks first count (h ∷ hs) = HasSent stacks first count h × HaveSent stacks (first + count) count hs
+
+  -- the receiver's holder has taken these places of the mailbox, by so many calls at most, and has done nothing else
+  pub record HasTaken (stacks : Stacks A) (turns : ℕ) (holder : Holder) (came : List Place) : Type 0 where
+    pub made : IsOf stacks holder
+    pub takes : OnlyTakes (record_of holder)
+    pub few : spent_by holder ≤ turns
+    pub came_is : of_record (got 0) (record_of holder) ≡ came
+
+  -- the senders have sent their places, and the receiver, behind them, has taken these
+  pub record HasDone (stacks : Stacks A) (count : ℕ) (holders : List Holder) (came : List Place) : Type 0 where
+    pub senders : List Holder
+    pub receiver : Holder
+    pub holders_are : holders ≡ senders ++ receiver ∷ []
+    pub sent : HaveSent stacks 0 count senders
+    pub taken : HasTaken stacks 4294967296 receiver came
