@@ -281,9 +281,11 @@ impl<A: Allocator> Stacks<A> {
         words.store::<Released>(&mut holder.seat, place.index(), 0);
     }
 
-    /// Whether the stack of that number is empty, at one moment of the call. One load, O(1), which waits for nobody.
+    /// Whether the stack of that number is empty, at a moment no earlier than the last that the holder had seen. One load, O(1), which
+    /// waits for nobody.
     ///
-    /// The holder has then seen the history up to that moment.
+    /// The holder has then seen the history up to that moment. It is one of the call, but the contract says less: of a holder that has seen
+    /// nothing yet it may be any moment since the stacks were made. An [`Stacks::audit`] of all holders shows them all steps.
     #[inline]
     pub fn is_empty(&self, holder: &mut Holder, stack: usize) -> bool
         requires stack { stack < stacks_of self.now }

@@ -1,3 +1,4 @@
 pub mod MailLemmas
 pub mod ReceiverLemmas
 pub mod DeliveryLemmas
+pub mod DeliveredLemmas

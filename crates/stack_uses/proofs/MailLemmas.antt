@@ -1,6 +1,6 @@
 -- What was sent to a mailbox and what was received of it.
-use Rattle.std.proofs.Common.{◌≡◌, ◌≢◌, ℕ, zero, suc, ◌<◌, eqb, Bool, true, false, true≢false, cond, Some, None, List, [], ◌∷◌, ◌++◌, map, drop, length, get_or, reverse, All, Contains, refl, sym, ap, ◌∙◌, subst, arith, append_assoc, append-nil, eq-eqb, ne_eqb, eqb-true}
-use Rattle.std.proofs.lemmas.List.{map-append, length-map, nil_from_length}
+use Rattle.std.proofs.Common.{◌≡◌, ◌≢◌, ℕ, zero, suc, ◌<◌, eqb, Bool, true, false, true≢false, cond, List, [], ◌∷◌, ◌++◌, map, length, get_or, reverse, All, Contains, refl, sym, ap, ◌∙◌, subst, arith, append-nil, eq-eqb}
+use Rattle.std.proofs.lemmas.List.{map-append, length-map}
 use Rattle.std.proofs.lemmas.List.Elements.{All-nil, All-cons, All-head, All-tail, All-append, All-weaker}
 use Rattle.std.proofs.lemmas.Grind.{flat_map-append}
 use Rattle.ic_unsafe_ref.specs.declared.place.Place.{Place}

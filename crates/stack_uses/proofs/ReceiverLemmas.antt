@@ -7,7 +7,7 @@ use Rattle.std.proofs.lemmas.Option.{same_Some}
 use Rattle.ic_unsafe_ref.specs.declared.place.Place.{Place}
 use Rattle.ic_unsafe_ref.specs.Places.{index_of}
 use Rattle.ic_lock_free_stack.specs.declared.step.Step.{Step}
-use Rattle.ic_lock_free_stack.specs.declared.step.Step.TheVariants.{Claim, Release, Push, TakeAll}
+use Rattle.ic_lock_free_stack.specs.declared.step.Step.TheVariants.{Push, TakeAll}
 use Rattle.ic_lock_free_stack.specs.declared.stacks.Stacks.{Stacks}
 use Rattle.ic_lock_free_stack.specs.declared.stacks.Holder.{Holder}
 use Rattle.ic_lock_free_stack.specs.declared.stacks.Chain.{Chain}
@@ -16,7 +16,7 @@ use Rattle.ic_lock_free_stack.specs.Records.{holds, on_head, pushes_and_takes}
 use Rattle.ic_lock_free_stack.specs.OneHistory.{GoesOn}
 use Rattle.ic_lock_free_stack.specs.Ends.{first, last}
 use Rattle.ic_lock_free_stack.specs.Orders.{sent, got, of_record}
-use Rattle.ic_lock_free_stack.specs.Holders.{places_of, stacks_of, name_of, record_of, seen_of, Steps, Stays, IsOf, HasChain}
+use Rattle.ic_lock_free_stack.specs.Holders.{places_of, name_of, record_of, seen_of, Steps, Stays, IsOf, HasChain}
 use Rattle.ic_lock_free_stack.proofs.MomentLemmas.{by_test}
 use Rattle.ic_lock_free_stack.proofs.HolderLemmas.{one_sequence}
 use Rattle.ic_lock_free_stack.proofs.PushLemmas.{from_first}

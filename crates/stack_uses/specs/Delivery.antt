@@ -1,5 +1,5 @@
 -- Threads that send places to one mailbox, and what is received of them.
-use Rattle.std.specs.Prelude.{◌≡◌, ℕ, ◌+◌, ◌*◌, ◌<◌, ◌≤◌, Bool, List, [], ◌∷◌, ◌++◌, map, length}
+use Rattle.std.specs.Prelude.{◌≡◌, ℕ, ◌+◌, ◌*◌, ◌/◌, ◌<◌, ◌≤◌, ◌==◌, if◌then◌else◌, Bool, List, [], ◌∷◌, ◌++◌, map, length, All}
 use Rattle.std.specs.List.{range_with_len}
 use Rattle.ic_unsafe_ref.specs.declared.place.Place.{Place}
 use Rattle.ic_unsafe_ref.specs.Places.{index_of}
@@ -33,6 +33,16 @@ OnlyTakes (Claim p got ∷ es) = ⊥
 OnlyTakes (Release p ∷ es) = ⊥
 OnlyTakes (Push k s ∷ es) = ⊥
 OnlyTakes (TakeAll k s ∷ es) = OnlyTakes es
+
+-- the places among these that the sender of that number was to send, of `count` for each
+abbrev pub of_sender : ℕ → ℕ → List Place → List Place
+of_sender count k [] = []
+of_sender count k (p ∷ ps) = if index_of p / count == k then p ∷ of_sender count k ps else of_sender count k ps
+
+-- ALL CAME: of each of so many senders its `count` places, each once and in their order, and no other place
+pub record IsDelivered (senders count : ℕ) (came : List Place) : Type 0 where
+  pub rows : (k : ℕ) → k < senders → map index_of (of_sender count k came) ≡ range_with_len (k * count) count
+  pub inside : All (λ (p : Place). index_of p < senders * count) came
 
 module _ {A : Type 0} where
   -- the sender's holder has made no step, and is to send so many places, which are there

@@ -4,10 +4,10 @@
 //! let came = deliver(&rt, rt.alloc(), 4, 250)?; // 1,000 places of 4 senders, each sender's in the order of their indexes
 //! ```
 
-ghost use Rattle.std.specs.Prelude.{◌≡◌, ◌<◌, ◌≤◌, ◌+◌, ◌*◌, ◌↔◌, [], All, List, IfOk, Err, vec_len, length};
+ghost use Rattle.std.specs.Prelude.{◌≡◌, ◌<◌, ◌≤◌, ◌+◌, ◌-◌, ◌*◌, ◌↔◌, [], All, List, IfOk, Err, vec_len, length};
 ghost use Rattle.ic_unsafe_ref.specs.declared.place.Place.{Place};
-ghost use Rattle.ic_lock_free_stack.specs.Holders.{places_of, stacks_of, holders_of, record_of, IsOf};
-ghost use Rattle.stack_uses.specs.Delivery.{IsReady, AreReady, HasSent, HaveSent, HasTaken, HasDone};
+ghost use Rattle.ic_lock_free_stack.specs.Holders.{places_of, stacks_of, holders_of, record_of, IsOf, IsNew};
+ghost use Rattle.stack_uses.specs.Delivery.{IsReady, AreReady, HasSent, HaveSent, HasTaken, HasDone, IsDelivered};
 
 use crate::mailbox::{Receiver, send};
 use ic_lock_free_stack::{Holder, Stacks, StacksError};
@@ -144,4 +144,76 @@ fn send_and_receive<R: Threads + Sync, A: Allocator + Copy + Send + Sync>(
     let (receiver, came) = received?;
     holders.push(receiver)?;
     Ok((holders, came))
+}
+
+// Receives the rest, once all senders have sent, between two audits of all holders: so nothing comes behind it.
+fn receive_rest<A: Allocator>(
+    stacks: &Stacks<A>,
+    mut holders: Vec<Holder, A>,
+    mut came: Vec<Place, A>,
+    count: usize,
+) -> Result<Vec<Place, A>, AllocError>
+    requires done { HasDone stacks.now count holders.items came.items }
+    requires all { vec_len holders ≡ holders_of stacks.now }
+    requires some { 0 < stacks_of stacks.now }
+    ensures { IfOk result (λ all. IsDelivered (vec_len holders - 1) count all.items) }
+{
+    let _ = count;
+    stacks.audit(&mut holders);
+    let holder = holders.pop().unwrap(); // proved: the receiver's is the last
+    let mut receiver = Receiver::new(stacks, holder, MAILBOX);
+    receiver.receive_all(stacks, &mut came)?;
+    holders.push(receiver.into_holder())?;
+    stacks.audit(&mut holders);
+    Ok(came)
+}
+
+// What the last of the holders receives of all others.
+fn deliver_over<R: Threads + Sync, A: Allocator + Copy + Send + Sync>(
+    rt: &R,
+    alloc: A,
+    stacks: &Stacks<A>,
+    mut holders: Vec<Holder, A>,
+    count: usize,
+) -> Result<Vec<Place, A>, AllocError>
+    requires fresh { All (λ h. IsOf stacks.now h × IsNew h) holders.items }
+    requires all { vec_len holders ≡ holders_of stacks.now }
+    requires one { 0 < vec_len holders }
+    requires some { 0 < stacks_of stacks.now }
+    requires room { (vec_len holders - 1) * count ≤ places_of stacks.now }
+    requires small { places_of stacks.now ≤ 4294967296 }
+    ensures { IfOk result (λ came. IsDelivered (vec_len holders - 1) count came.items) }
+{
+    let receiver = holders.pop().unwrap(); // proved: there is one
+    let senders = senders(alloc, stacks, holders, count)?;
+    let (holders, came) = send_and_receive(rt, alloc, stacks, senders, receiver, count)?;
+    receive_rest(stacks, holders, came, count)
+}
+
+/// Lets so many senders send `places` places each to one mailbox, and returns what came, in the order in which it came.
+///
+/// Each sender sends in a thread of its own, in the order of the places' indexes: the first sender those from 0 on, the next those behind
+/// them. The caller's thread receives meanwhile, and the rest when all have sent. What came is all that was sent, and each place came
+/// once. Those of each sender came in their order. How those of several senders lie among one another is left open.
+///
+/// It requires at most 65,534 senders. It is refused where they have more than 4,294,967,296 places, and where no memory is found; senders
+/// that have begun then come to their end first. It joins its threads, and takes no lock. O(senders * places).
+pub fn deliver<R: Threads + Sync, A: Allocator + Copy + Send + Sync>(
+    rt: &R,
+    alloc: A,
+    senders: usize,
+    places: usize,
+) -> Result<Vec<Place, A>, StacksError>
+    requires senders { senders < 65535 }
+    ensures too_many { (result ≡ Err StacksError.TooManyPlaces) ↔ (4294967296 < senders * places) }
+    ensures delivered { IfOk result (λ came. IsDelivered senders places came.items) }
+{
+    let Some(all) = senders.checked_mul(places) else {
+        return Err(StacksError::TooManyPlaces);
+    };
+    let (stacks, holders) = Stacks::new(alloc, all, 1, senders + 1)?;
+    match deliver_over(rt, alloc, &stacks, holders, places) {
+        Ok(came) => Ok(came),
+        Err(AllocError) => Err(StacksError::OutOfMemory),
+    }
 }

@@ -1,8 +1,7 @@
-use Rattle.std.proofs.Common.{◌≡◌, ◌≤◌, ℕ, List, [], ◌++◌, refl, sym, ap, ◌∙◌, subst, arith, append-nil}
-use Rattle.ic_unsafe_ref.specs.declared.place.Place.{Place}
+use Rattle.std.proofs.Common.{◌≡◌, [], ◌++◌, sym, ap, ◌∙◌, subst, arith, append-nil}
 use Rattle.ic_lock_free_stack.specs.declared.stacks.Holder.{Holder}
 use Rattle.ic_lock_free_stack.specs.Orders.{got, of_record}
-use Rattle.ic_lock_free_stack.specs.Holders.{record_of, spent_by}
+use Rattle.ic_lock_free_stack.specs.Holders.{record_of}
 use Rattle.ic_lock_free_stack.proofs.HolderLemmas.{one_sequence}
 use Rattle.stack_uses.specs.Mail.{HasReceived}
 use Rattle.stack_uses.specs.Delivery.{OnlyTakes, HasTaken}

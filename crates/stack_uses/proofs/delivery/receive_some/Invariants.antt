@@ -1,5 +1,5 @@
-use Rattle.std.proofs.Common.{◌≡◌, ◌≤◌, ◌<◌, []}
-use Rattle.ic_lock_free_stack.specs.Holders.{stacks_of, record_of, spent_by}
+use Rattle.std.proofs.Common.{◌≡◌, ◌≤◌, []}
+use Rattle.ic_lock_free_stack.specs.Holders.{record_of, spent_by}
 use Rattle.stack_uses.specs.Mail.{HasReceived, HasOpened}
 use Rattle.stack_uses.specs.Delivery.{OnlyTakes}
 use Rattle.stack_uses.proofs.delivery.receive_some.Given as goal

@@ -1,5 +1,4 @@
 use Rattle.std.proofs.Common.{◌≡◌, ◌+◌, ◌-◌, ◌≤◌, ℕ, sym, ap, ◌∙◌, subst, arith}
-use Rattle.ic_unsafe_ref.specs.Places.{index_of}
 use Rattle.ic_lock_free_stack.specs.Holders.{record_of, spent_by}
 use Rattle.ic_lock_free_stack.specs.Records.{pushes_and_takes}
 use Rattle.stack_uses.specs.Delivery.{Sends, HasSent}
@@ -29,21 +28,22 @@ loop-index-preserved g c =
     let test = c.loop-index-test.true in
     elim c.match-new.branch [
       | in-Some w ↦ record {
-          sent = subst (HasSent c.args.sender.stacks.now first (at + 1 - first)) (sym w.holder-is) record {
-            made = w.send-is_sent.ensures.made;
-            sends = subst (λ n. Sends first n (record_of w.send-is_sent.new.sender)) (next first at low)
-                (subst (Sends first (at - first + 1)) (sym w.send-is_sent.ensures.steps)
-                (sends_more first (at - first) (record_of c.loop-index.holder) w.in-Some.place w.send-is_sent.result was.sent.sends (w.in-Some.ensures.0 ∙ sum first at low)));
-          };
-          spent = (let s = ap spent_by w.holder-is in let e = w.send-is_sent.ensures.spent in let f = was.spent in omega (arith, s, e, f));
-          some = was.some;
-          inside = was.inside;
-          small = was.small;
+        sent = subst (HasSent c.args.sender.stacks.now first (at + 1 - first)) (sym w.holder-is) record {
+          made = w.send-is_sent.ensures.made;
+          sends = subst (λ n. Sends first n (record_of w.send-is_sent.new.sender)) (next first at low)
+              (subst (Sends first (at - first + 1)) (sym w.send-is_sent.ensures.steps)
+              (sends_more first (at - first) (record_of c.loop-index.holder) w.in-Some.place w.send-is_sent.result was.sent.sends (w.in-Some.ensures.0 ∙ sum first at low)));
+        };
+        spent = (let s = ap spent_by w.holder-is in let e = w.send-is_sent.ensures.spent in let f = was.spent in omega (arith, s, e, f));
+        some = was.some;
+        inside = was.inside;
+        small = was.small;
       }
       | in_default w ↦ absurd (let over = w.in_default.ensures in let i = was.inside in let s = was.small in omega (arith, over, i, s, test))
     ]
   where
     next : (first at : ℕ) → first ≤ at → at - first + 1 ≡ at + 1 - first
     next first at low = omega (arith, low)
+
     sum : (first at : ℕ) → first ≤ at → at ≡ first + (at - first)
     sum first at low = omega (arith, low)

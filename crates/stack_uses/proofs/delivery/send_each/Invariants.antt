@@ -1,4 +1,4 @@
-use Rattle.std.proofs.Common.{◌≡◌, ◌≤◌, ◌<◌, ◌+◌, ◌-◌}
+use Rattle.std.proofs.Common.{◌≤◌, ◌<◌, ◌+◌, ◌-◌}
 use Rattle.ic_lock_free_stack.specs.Holders.{places_of, stacks_of, spent_by}
 use Rattle.stack_uses.specs.Delivery.{HasSent}
 use Rattle.stack_uses.proofs.delivery.send_each.Given as goal

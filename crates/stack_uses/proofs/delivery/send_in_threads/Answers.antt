@@ -1,6 +1,4 @@
-use Rattle.std.proofs.Common.{◌≡◌, length, vec_len, ◌∙◌, sym, arith}
-use Rattle.std.specs.Prelude.{IfOk}
-use Rattle.stack_uses.specs.Delivery.{HaveSent}
+use Rattle.std.proofs.Common.{arith}
 use Rattle.stack_uses.proofs.DeliveryLemmas.{ready_at, all_sent, if_both}
 use Rattle.stack_uses.proofs.delivery.send_in_threads.Goals as goal
 

@@ -1,5 +1,4 @@
-use Rattle.std.proofs.Common.{◌≡◌, List, ◌++◌, ap, ◌∙◌, subst, append_assoc}
-use Rattle.ic_unsafe_ref.specs.declared.place.Place.{Place}
+use Rattle.std.proofs.Common.{◌++◌, ap, ◌∙◌, subst, append_assoc}
 use Rattle.stack_uses.specs.Mail.{HasReceived}
 use Rattle.stack_uses.proofs.mailbox.Receiver.receive_all.Goals as goal
 

@@ -1,7 +1,5 @@
-use Rattle.std.proofs.Common.{◌≡◌, Some, List, [], ◌∷◌, ◌++◌, refl, sym, ap, ◌∙◌, subst, append_assoc, append-nil}
-use Rattle.std.specs.Prelude.{IfSome}
+use Rattle.std.proofs.Common.{List, [], ◌∷◌, ◌++◌, refl, sym, ap, ◌∙◌, subst, append_assoc, append-nil}
 use Rattle.ic_unsafe_ref.specs.declared.place.Place.{Place}
-use Rattle.ic_unsafe_ref.specs.Places.{index_of}
 use Rattle.ic_lock_free_stack.proofs.LeftLemmas.{left_fewer}
 use Rattle.stack_uses.specs.Mail.{HasReceived}
 use Rattle.stack_uses.proofs.ReceiverLemmas.{receives_first}
