@@ -1,0 +1,78 @@
+//! Lets threads send places to one mailbox, and prints what came: how many, in which order, and whether any is lost.
+#![tactic(auto)]
+
+ghost use Rattle.std.specs.Prelude.{◌≤◌, IfSome};
+
+mod tally;
+
+use stack_uses::delivery::deliver;
+use std::env::FillError;
+use std::process::ExitCode;
+use std::rt::Env;
+use std::thread::Threads;
+use std::{io, str};
+
+// The most senders, and the most places of each.
+const MOST_SENDERS: usize = 64;
+
+const MOST_PLACES: usize = 100_000;
+
+// How many bytes an argument has at most that the program knows.
+const LONGEST: usize = 32;
+
+// How many senders are asked for, and how many places of each.
+struct Request {
+    senders: usize,
+    places: usize,
+}
+
+// The number that the argument of that number is.
+fn number(rt: &impl Env, argument: usize) -> Option<usize> {
+    let mut word = [0; LONGEST];
+    let length = rt.arg(argument, &mut word).ok()?;
+    str::from_utf8(&word[..length]).ok()?.parse::<usize>().ok()
+}
+
+// What the arguments `W N` ask for. `None`: they are others, or a number is out of range.
+fn asked(rt: &impl Env) -> Option<Request>
+    ensures senders { IfSome result (λ asked. asked.senders ≤ 64) }
+    ensures places { IfSome result (λ asked. asked.places ≤ 100000) }
+{
+    let senders = number(rt, 1)?;
+    let places = number(rt, 2)?;
+    let is_last = matches!(rt.arg(3, &mut [0; LONGEST]), Err(FillError::NotPresent));
+    if !is_last || senders < 1 || senders > MOST_SENDERS || places > MOST_PLACES {
+        return None;
+    }
+    Some(Request { senders, places })
+}
+
+// Lets them send, and prints what came.
+fn run<R: Print + AllocGlobal + Threads + Sync>(rt: &R, asked: Request) -> io::Result<()>
+    requires { asked.senders ≤ 64 }
+{
+    let Request { senders, places } = asked;
+    let Ok(came) = deliver(rt, rt.alloc(), senders, places) else {
+        return Err(io::Error::from(io::ErrorKind::OutOfMemory));
+    };
+    let in_order = tally::in_order(rt.alloc(), senders, places, &came)?;
+    let sent = senders.wrapping_mul(places);
+    println!(rt; "sent {sent}")?;
+    println!(rt; "came {}", came.len())?;
+    println!(rt; "out of order {}", came.len().wrapping_sub(in_order))?;
+    println!(rt; "lost {}", sent.wrapping_sub(in_order))
+}
+
+fn main(rt: HostRuntime) -> ExitCode {
+    let Some(asked) = asked(&rt) else {
+        let _ = println!(rt; "bad arguments");
+        return ExitCode::from(2);
+    };
+    match run(&rt, asked) {
+        Ok(()) => ExitCode::from(0),
+        Err(error) => {
+            let _ = eprintln!(rt; "{error}");
+            ExitCode::from(3)
+        }
+    }
+}
