@@ -5,12 +5,12 @@ ghost use Rattle.ic_atomic.specs.Holders.{record_of, IsOf};
 
 use crate::collections::ByValue;
 use crate::hands::{Act, Hand, hands};
-use crate::parties::{are_linked, are_seen, is_cleared, take_turns};
+use crate::parties::{are_linked, are_seen, is_cleared, take_off, take_turns};
 use ic_atomic::{
     AtomicLinkOps, Claims, Gate, Holder, gather, linked_list, rbtree, singly_linked_list,
     xor_linked_list,
 };
-use ic_link_ops::{PlainTable, Words};
+use ic_link_ops::{PlainTable, TwoNarrowWords, Words};
 use ic_linked_list::LinkedList;
 use ic_rbtree::RBTree;
 use ic_singly_linked_list::SinglyLinkedList;
@@ -162,4 +162,23 @@ fn parties_share_places(rt: HostRuntime) {
             & is_left_held
             & (covered == 100)
     );
+}
+
+// A party whose links have words of 4 bytes and one whose links have 8, and the members of each are refused to the other.
+// Promise: claims over 4-byte words.
+#[test]
+fn parties_share_places_over_narrow_links(rt: HostRuntime) {
+    let alloc = rt.alloc();
+    let (claims, mut holders) = Claims::new(alloc, 100, 2).expect(&rt, "claims");
+    let mut wide: linked_list::AtomicLinkOps = next_links(&rt, alloc, &claims, &mut holders);
+    let mut narrow: AtomicLinkOps<PlainTable<TwoNarrowWords>> = next_links(
+        &rt,
+        alloc,
+        &claims,
+        &mut holders,
+    );
+    let is_narrow_seen = are_seen(LinkedList::new(), &mut narrow, &mut wide);
+    let is_wide_seen = are_seen(LinkedList::new(), &mut wide, &mut narrow);
+    assert!(rt; is_narrow_seen & is_wide_seen);
+    assert!(rt; take_off(&mut narrow) == Some([0, 2, 1]) && take_off(&mut wide) == Some([0, 2, 1]));
 }

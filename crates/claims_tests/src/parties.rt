@@ -102,6 +102,23 @@ pub(crate) fn is_cleared<L: Links + RBTreeOps, M: Links>(links: &mut L, other: &
     as_wanted & are_linked(other, 0)
 }
 
+/// Puts the first three objects in a list, and takes the first member off, the last one and the one that is left: the indices of their
+/// places.
+pub(crate) fn take_off<L: Links + LinkedListOps>(links: &mut L) -> Option<[usize; 3]> {
+    let mut list: LinkedList<u64> = LinkedList::new();
+    let _ = put(&mut list, links, 0);
+    let _ = put(&mut list, links, 1);
+    let _ = put(&mut list, links, 2);
+    let first = list.pop_front(links)?;
+    let last = list.pop_back(links)?;
+    let left = list.pop_front(links)?;
+    Some([
+        first.place().index(),
+        last.place().index(),
+        left.place().index(),
+    ])
+}
+
 /// Tries to put each of a hundred objects in, and empties the collection then, a hundred times over. Whether it had one.
 pub(crate) fn take_turns<L: Links + Drop, C: Collection<L>>(mut collection: C, mut links: L) -> bool
     requires { C.Shown (L.table links) collection }
