@@ -15,7 +15,7 @@ ghost use Rattle.std.specs.Option.{option_copied, option_map};
 use crate::InsertError;
 use crate::entry::Entry;
 use ic_hash_table::{Buckets, HashTable};
-use ic_keyed::{ByHash, ByKey, Index, Keyed};
+use ic_keyed::{ByHash, ByKey, Index, Keyed, LinkWidth, Narrow};
 use ic_rbtree::RBTree;
 use std::alloc::{Allocator, Global};
 use std::marker::Model;
@@ -38,6 +38,16 @@ pub type TreeLruCache<V, A = Global> = LruCache<V, RBTree<ByKey<Entry<V>>>, A>;
 /// A cache whose entries are in a hash table by their keys: each search is O(1) on average.
 pub type HashLruCache<V, B, A = Global> = LruCache<V, HashTable<ByHash<Entry<V>>, B>, A>;
 
+/// The same as `TreeLruCache` over links of 4-byte words: half the memory for links, and 536,870,911 places at most.
+pub type NarrowTreeLruCache<V, A = Global> = LruCache<V, RBTree<ByKey<Entry<V>, Narrow>>, A>;
+
+/// The same as `HashLruCache` over links of 4-byte words.
+pub type NarrowHashLruCache<V, B, A = Global> = LruCache<
+    V,
+    HashTable<ByHash<Entry<V>, Narrow>, B>,
+    A,
+>;
+
 impl<V, I: Index<Entry<V>, A>, A: Allocator> Model for LruCache<V, I, A> {
     ghost use Rattle.std.specs.Prelude.{◌≤◌, length};
     ghost use Rattle.lru_cache.specs.Cache.{Cache, cache_of};
@@ -58,10 +68,7 @@ impl<V, A: Allocator> LruCache<V, RBTree<ByKey<Entry<V>>>, A> {
         ensures capacity { result.capacity ≡ capacity }
         ensures parts { result.parts ≡ 1 }
     {
-        LruCache {
-            entries: Keyed::new(alloc),
-            capacity,
-        }
+        LruCache::by_tree(alloc, capacity)
     }
 
     /// A cache of no entries whose capacity is 18,446,744,073,709,551,615: none leaves unless it is taken out, since there are fewer places. It takes no memory.
@@ -72,7 +79,24 @@ impl<V, A: Allocator> LruCache<V, RBTree<ByKey<Entry<V>>>, A> {
         ensures capacity { result.capacity ≡ 18446744073709551615 }
         ensures parts { result.parts ≡ 1 }
     {
-        LruCache::new(alloc, usize::MAX)
+        LruCache::by_tree(alloc, usize::MAX)
+    }
+}
+
+impl<V, W: LinkWidth, A: Allocator> LruCache<V, RBTree<ByKey<Entry<V>, W>>, A> {
+    /// A cache of no entries, with a tree over links of either width as the index: `NarrowTreeLruCache::by_tree(rt.alloc(), 1000)`. It
+    /// takes no memory.
+    pub fn by_tree(alloc: A, capacity: usize) -> LruCache<V, RBTree<ByKey<Entry<V>, W>>, A>
+    where
+        A: Copy,
+        ensures entries { result.entries ≡ [] }
+        ensures capacity { result.capacity ≡ capacity }
+        ensures parts { result.parts ≡ 1 }
+    {
+        LruCache {
+            entries: Keyed::by_tree(alloc),
+            capacity,
+        }
     }
 }
 
@@ -91,8 +115,32 @@ impl<V, B: Buckets + Drop, A: Allocator> LruCache<V, HashTable<ByHash<Entry<V>>,
         ensures capacity { result.capacity ≡ capacity }
         ensures parts { result.parts ≡ length (B.fronts buckets) }
     {
+        LruCache::by_hash(alloc, capacity, buckets)
+    }
+}
+
+impl<V, W: LinkWidth, B: Buckets + Drop, A: Allocator> LruCache<
+    V,
+    HashTable<ByHash<Entry<V>, W>, B>,
+    A,
+> {
+    /// A cache of no entries, with a hash table over these buckets and over links of either width as the index. Else as `with_buckets`.
+    pub fn by_hash(
+        alloc: A,
+        capacity: usize,
+        buckets: B,
+    ) -> LruCache<V, HashTable<ByHash<Entry<V>, W>, B>, A>
+    where
+        A: Copy,
+        requires some { 1 ≤ length (B.fronts buckets) }
+        requires few { length (B.fronts buckets) ≤ 4294967296 }
+        requires empty { AllByRecursion (λ front. front ≡ None) (B.fronts buckets) }
+        ensures entries { result.entries ≡ [] }
+        ensures capacity { result.capacity ≡ capacity }
+        ensures parts { result.parts ≡ length (B.fronts buckets) }
+    {
         LruCache {
-            entries: Keyed::with_buckets(alloc, buckets),
+            entries: Keyed::by_hash(alloc, buckets),
             capacity,
         }
     }
@@ -155,7 +203,7 @@ impl<V, I: Index<Entry<V>, A>, A: Allocator> LruCache<V, I, A> {
     /// The value of the key, if there is one. The entry is touched: it goes in front of all others, which keep their
     /// order. It costs what `find` does, and takes no memory.
     pub fn get(&mut self, key: u64) -> Option<&V>
-        ensures* touches { sem 𝓛 (EndsAs V.row I.row A.row I.Links.row I.Index I.Links.Tables A.Allocator self.entry (touched key self.old.entries)) }
+        ensures* touches { sem 𝓛 (EndsAs V.row I.row A.row I.Links.row I.Order.row I.Index I.Links.Tables I.Order.unlinked I.Order.is_linked I.Order.width I.Order.next_word I.Order.KeepsOthers I.Order.prev A.Allocator self.entry (touched key self.old.entries)) }
         ensures value { option_copied result ≡ value_with key self.old.entries }
     {
         if !self.entries.touch(key) {
@@ -207,7 +255,7 @@ impl<V, I: Index<Entry<V>, A>, A: Allocator> LruCache<V, I, A> {
         ensures sound { IsSound self.new }
     {
         let left = self.put(key, value);
-        self.keys_differ();
+        self.entries.keys_differ();
         left
     }
 
@@ -236,13 +284,5 @@ impl<V, I: Index<Entry<V>, A>, A: Allocator> LruCache<V, I, A> {
             Err(refused) => return Err(InsertError(refused.value)),
         }
         Ok(None)
-    }
-
-    // The law of each cache.
-    #[inline]
-    fn keys_differ(&self)
-        ensures { IsSound self.now }
-    {
-        self.entries.keys_differ();
     }
 }

@@ -18,6 +18,6 @@ mod cache;
 mod entry;
 mod insert_error;
 
-pub use cache::{HashLruCache, LruCache, TreeLruCache};
+pub use cache::{HashLruCache, LruCache, NarrowHashLruCache, NarrowTreeLruCache, TreeLruCache};
 pub use entry::Entry;
 pub use insert_error::InsertError;
