@@ -16,10 +16,15 @@ Call = collections.namedtuple("Call", "name family group args roles cost what nu
 Arg = collections.namedtuple("Arg", "name type is_mut form")
 
 # A contract that is one record, and a record of crates/ic_raw, with the parameters of the module in which it stands.
-WHOLE = re.compile(r"^    ensures \{ (\w+) (.*) \}\n$")
+WHOLE = re.compile(r"^    ensures \{ ([\w.]+) (.*) \}\n$")
 MODULE = re.compile(r"^module _ (.*) where$", re.M)
-RECORD = re.compile(r"^  pub record (\w+) (.*) : Type 0 where\n((?:    .*\n)+)", re.M)
+RECORD = re.compile(r"^  pub record (\w+)(.*) : Type 0 where\n((?:    .*\n)+)", re.M)
 FIELD = re.compile(r"^    pub (\w+) : ((?:.*\n)(?:      .*\n)*)", re.M)
+# By which names a file of calls has the records: each by its own, or all of one file behind a name for that file.
+USED = re.compile(r"^ghost use Rattle\.ic_raw\.specs\.(\w+Calls)(?:\.\{(.*)\}| as (\w+));$", re.M)
+# What is handed to a record in place of one parameter, and a name in a field.
+HANDED = re.compile(r"(?:\([^()]*\)|[^\s()])+")
+NAME = re.compile(r"(?<![\w.'])[\w']+(?![\w.'])")
 SIGNATURE = re.compile(r'pub extern "C" fn (\w+)\((.*?)\) -> u32\n((?:    [^\n]*\n)*)\{', re.S)
 ROW = re.compile(r"^(ic_(\w+?)_\w+)\(([^)]*)\) (O\(.+\))\n    (.*)\n(?:    NULL: (.*)\n)?(?:    BROKEN: (.*)\n)?", re.M)
 GROUP = re.compile(r"^\[([\w-]+)\]\n((?:(?!\[).*\n?)*)", re.M)
@@ -49,13 +54,22 @@ def parameters(text):
 
 
 def records():
-    """Each record that is a whole contract: its parameters, and its fields by their names."""
+    """Each record that is a whole contract, by its file and its name: its parameters, and its fields by their names."""
     found = {}
     for file in sorted(RECORDS.glob("*Calls.antt")):
         outer, *parts = re.split(r"^(?=module _)", file.read_text(), flags=re.M)
         for part in parts:
             module = parameters(MODULE.search(part)[1])
-            found.update({name: (module + parameters(own), dict(FIELD.findall(fields))) for name, own, fields in RECORD.findall(part)})
+            found.update({(file.stem, name): (module + parameters(own), dict(FIELD.findall(fields))) for name, own, fields in RECORD.findall(part)})
+    return found
+
+
+def records_of(text, of):
+    """The records that a file of calls uses, by the names that it has for them."""
+    found = {}
+    for file, names, short in USED.findall(text):
+        found.update({name: of[file, name] for name in names.split(", ") if name})
+        found.update({f"{short}.{name}": it for (home, name), it in of.items() if short and home == file})
     return found
 
 
@@ -65,8 +79,8 @@ def clauses_of(contract, of):
     if not whole or whole[1] not in of:
         return dict(re.findall(r"^    ensures (\w+) \{(.*?)\}\n(?=    ensures|\Z)", contract, re.M | re.S))
     names, fields = of[whole[1]]
-    handed = dict(zip(names, re.findall(r"\([^()]*\)|\S+", whole[2])))
-    filled = {field: re.sub(r"(?<![\w.])\w+(?![\w.])", lambda it: handed.get(it[0], it[0]), text) for field, text in fields.items()}
+    handed = dict(zip(names, HANDED.findall(whole[2])))
+    filled = {field: NAME.sub(lambda it: handed.get(it[0], it[0]), text) for field, text in fields.items()}
     return {field: re.sub(r"\((place_of \w+)\) ≡", r"\1 ≡", text) for field, text in filled.items()}
 
 
@@ -75,8 +89,9 @@ def signatures():
     found, of = {}, records()
     for file in sorted((CRATE / "src").glob("*_calls.rt")):
         text = re.sub(rf"\b(?:{'|'.join(RENAMED)})\b", lambda word: RENAMED[word[0]], file.read_text())
+        used = records_of(text, of)
         for name, words, contract in SIGNATURE.findall(text):
-            found[name] = [argument(it) for it in words.split(",") if it.strip()], clauses_of(contract, of)
+            found[name] = [argument(it) for it in words.split(",") if it.strip()], clauses_of(contract, used)
     return found
 
 
@@ -175,7 +190,7 @@ def contract_statuses(call):
     each free place."""
     if "ok" in call.clauses:
         return set()
-    why = call.clauses.get("why", "")
+    why = re.sub(r"\bfault_at \S+ None\b", "", call.clauses.get("why", ""))
     found = set().union(*(statuses for fault, statuses in FAULTS.items() if re.search(rf"\b{fault}\b", why)))
     found |= {"NULL"} if re.search(r"result ≢ (?:4|NULL)\b", why) else set()
     return found | (set() if "opened" in call.clauses else {"BROKEN"})

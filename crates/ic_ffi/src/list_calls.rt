@@ -8,14 +8,10 @@
 //! ic_list_pop_front(links, 64, &list, &first); // IC_OK, and first is 7
 //! ```
 
-ghost use Rattle.std.specs.Prelude.{◌≡◌, ◌≢◌, ◌↔◌, ◌∷◌, [], List, Some, None};
-ghost use Rattle.ic_unsafe_ref.specs.declared.place.Place.{Place};
-ghost use Rattle.ic_link_ops.specs.Sequences.{Cut, at_front, at_back, IsAfter, IsBefore};
-ghost use Rattle.ic_link_ops.specs.Chains.{no_members};
+ghost use Rattle.std.specs.Prelude.{None};
 ghost use Rattle.ic_raw.specs.declared.gap.Side.TheVariants.{After, Before};
 ghost use Rattle.ic_raw.specs.Words.{place_of};
-ghost use Rattle.ic_raw.specs.Doubly.{ShowsList, FreeIn, StandsIn, TellsGap, table_of, ends_of, words_of, fault_at, fault_of, Inserted, Removed, Popped, Replaced, Spliced, Split, Cleared};
-ghost use Rattle.ic_raw.specs.Answers.{IsStatus, refusal};
+ghost use Rattle.ic_raw.specs.ListCalls.{ClearCall, InsertCall, PopCall, RemoveCall, ReplaceCall, SpliceCall, SplitCall};
 
 use ic_raw::{NONE, RawEnds, RawTwo, Side, list_calls};
 
@@ -24,15 +20,7 @@ use ic_raw::{NONE, RawEnds, RawTwo, Side, list_calls};
 /// The place has to be one of the table, and not linked.
 #[unsafe(no_mangle)]
 pub extern "C" fn ic_list_push_front(table: &mut [RawTwo], list: &mut RawEnds, place: u32) -> u32
-    ensures inserted { (s : List Place) (p : Place) → place_of place ≡ Some p
-        → Inserted table.old table.new list.old list.new result (at_front s) p }
-    ensures free { (p : Place) → place_of place ≡ Some p → result ≡ 0 → FreeIn table.old p }
-    ensures none { place_of place ≡ None → result ≢ 0 }
-    ensures told { result ≡ 0 → TellsGap After (table_of table.old) (ends_of list.old) None }
-    ensures words { result ≡ 0 → list.new ≡ words_of (ends_of list.new) }
-    ensures refused { result ≢ 0 → (table.new ≡ table.old) × (list.new ≡ list.old) }
-    ensures why { result ≢ 0 → result ≡ refusal (fault_of table.old (place_of place) ∷ []) }
-    ensures status { IsStatus result }
+    ensures { InsertCall table.old table.new list.old list.new result After None (place_of place) }
 {
     list_calls::insert_at(table, list, Side::After, NONE, place)
 }
@@ -42,15 +30,7 @@ pub extern "C" fn ic_list_push_front(table: &mut [RawTwo], list: &mut RawEnds, p
 /// The place has to be one of the table, and not linked.
 #[unsafe(no_mangle)]
 pub extern "C" fn ic_list_push_back(table: &mut [RawTwo], list: &mut RawEnds, place: u32) -> u32
-    ensures inserted { (s : List Place) (p : Place) → place_of place ≡ Some p
-        → Inserted table.old table.new list.old list.new result (at_back s) p }
-    ensures free { (p : Place) → place_of place ≡ Some p → result ≡ 0 → FreeIn table.old p }
-    ensures none { place_of place ≡ None → result ≢ 0 }
-    ensures told { result ≡ 0 → TellsGap Before (table_of table.old) (ends_of list.old) None }
-    ensures words { list.old ≡ words_of (ends_of list.old) → list.new ≡ words_of (ends_of list.new) }
-    ensures refused { result ≢ 0 → (table.new ≡ table.old) × (list.new ≡ list.old) }
-    ensures why { result ≢ 0 → result ≡ refusal (fault_of table.old (place_of place) ∷ []) }
-    ensures status { IsStatus result }
+    ensures { InsertCall table.old table.new list.old list.new result Before None (place_of place) }
 {
     list_calls::push_back(table, list, place)
 }
@@ -62,16 +42,7 @@ pub extern "C" fn ic_list_pop_front(
     list: &mut RawEnds,
     popped: &mut u32,
 ) -> u32
-    ensures popped { (s : List Place) (p : Place) → Popped table.old table.new list.old list.new result popped.new p [] s }
-    ensures empty { ShowsList table.old list.old [] → result ≡ 4 }
-    ensures null { (result ≡ 4) ↔ ((ends_of list.old).head ≡ None) }
-    ensures stands { result ≡ 0 → StandsIn table.old (ends_of list.old).head }
-    ensures outer { result ≡ 0 → TellsGap After (table_of table.old) (ends_of list.old) None }
-    ensures inner { result ≡ 0 → TellsGap After (table_of table.old) (ends_of list.old) (ends_of list.old).head }
-    ensures words { list.old ≡ words_of (ends_of list.old) → list.new ≡ words_of (ends_of list.new) }
-    ensures refused { result ≢ 0 → (table.new ≡ table.old) × (list.new ≡ list.old) × (popped.new ≡ popped.old) }
-    ensures why { result ≢ 0 → result ≢ 4 → result ≡ 5 }
-    ensures status { IsStatus result }
+    ensures { PopCall table.old table.new list.old list.new result After popped.old popped.new }
 {
     list_calls::pop_front(table, list, popped)
 }
@@ -83,16 +54,7 @@ pub extern "C" fn ic_list_pop_back(
     list: &mut RawEnds,
     popped: &mut u32,
 ) -> u32
-    ensures popped { (s : List Place) (p : Place) → Popped table.old table.new list.old list.new result popped.new p s [] }
-    ensures empty { ShowsList table.old list.old [] → result ≡ 4 }
-    ensures null { (result ≡ 4) ↔ ((ends_of list.old).tail ≡ None) }
-    ensures stands { result ≡ 0 → StandsIn table.old (ends_of list.old).tail }
-    ensures outer { result ≡ 0 → TellsGap Before (table_of table.old) (ends_of list.old) None }
-    ensures inner { result ≡ 0 → TellsGap Before (table_of table.old) (ends_of list.old) (ends_of list.old).tail }
-    ensures words { result ≡ 0 → list.new ≡ words_of (ends_of list.new) }
-    ensures refused { result ≢ 0 → (table.new ≡ table.old) × (list.new ≡ list.old) × (popped.new ≡ popped.old) }
-    ensures why { result ≢ 0 → result ≢ 4 → result ≡ 5 }
-    ensures status { IsStatus result }
+    ensures { PopCall table.old table.new list.old list.new result Before popped.old popped.new }
 {
     list_calls::pop(table, list, Side::Before, popped)
 }
@@ -107,16 +69,7 @@ pub extern "C" fn ic_list_insert_after(
     at: u32,
     place: u32,
 ) -> u32
-    ensures inserted { (cut : Cut) (p : Place) → IsAfter cut (place_of at) → place_of place ≡ Some p
-        → Inserted table.old table.new list.old list.new result cut p }
-    ensures free { (p : Place) → place_of place ≡ Some p → result ≡ 0 → FreeIn table.old p }
-    ensures none { place_of place ≡ None → result ≢ 0 }
-    ensures stands { result ≡ 0 → StandsIn table.old (place_of at) }
-    ensures told { result ≡ 0 → TellsGap After (table_of table.old) (ends_of list.old) (place_of at) }
-    ensures words { result ≡ 0 → list.new ≡ words_of (ends_of list.new) }
-    ensures refused { result ≢ 0 → (table.new ≡ table.old) × (list.new ≡ list.old) }
-    ensures why { result ≢ 0 → result ≡ refusal (fault_at table.old (place_of at) ∷ fault_of table.old (place_of place) ∷ []) }
-    ensures status { IsStatus result }
+    ensures { InsertCall table.old table.new list.old list.new result After (place_of at) (place_of place) }
 {
     list_calls::insert_at(table, list, Side::After, at, place)
 }
@@ -131,16 +84,7 @@ pub extern "C" fn ic_list_insert_before(
     at: u32,
     place: u32,
 ) -> u32
-    ensures inserted { (cut : Cut) (p : Place) → IsBefore cut (place_of at) → place_of place ≡ Some p
-        → Inserted table.old table.new list.old list.new result cut p }
-    ensures free { (p : Place) → place_of place ≡ Some p → result ≡ 0 → FreeIn table.old p }
-    ensures none { place_of place ≡ None → result ≢ 0 }
-    ensures stands { result ≡ 0 → StandsIn table.old (place_of at) }
-    ensures told { result ≡ 0 → TellsGap Before (table_of table.old) (ends_of list.old) (place_of at) }
-    ensures words { result ≡ 0 → list.new ≡ words_of (ends_of list.new) }
-    ensures refused { result ≢ 0 → (table.new ≡ table.old) × (list.new ≡ list.old) }
-    ensures why { result ≢ 0 → result ≡ refusal (fault_at table.old (place_of at) ∷ fault_of table.old (place_of place) ∷ []) }
-    ensures status { IsStatus result }
+    ensures { InsertCall table.old table.new list.old list.new result Before (place_of at) (place_of place) }
 {
     list_calls::insert_at(table, list, Side::Before, at, place)
 }
@@ -148,16 +92,7 @@ pub extern "C" fn ic_list_insert_before(
 /// Takes the member `at` off, or returns [`NULL`](crate::NULL) at [`NONE`](crate::NONE). O(1).
 #[unsafe(no_mangle)]
 pub extern "C" fn ic_list_remove(table: &mut [RawTwo], list: &mut RawEnds, at: u32) -> u32
-    ensures removed { (front back : List Place) (p : Place) → place_of at ≡ Some p
-        → Removed table.old table.new list.old list.new result p front back }
-    ensures null { (result ≡ 4) ↔ (place_of at ≡ None) }
-    ensures stands { result ≡ 0 → StandsIn table.old (place_of at) }
-    ensures before { result ≡ 0 → TellsGap Before (table_of table.old) (ends_of list.old) (place_of at) }
-    ensures behind { result ≡ 0 → TellsGap After (table_of table.old) (ends_of list.old) (place_of at) }
-    ensures words { list.old ≡ words_of (ends_of list.old) → list.new ≡ words_of (ends_of list.new) }
-    ensures refused { result ≢ 0 → (table.new ≡ table.old) × (list.new ≡ list.old) }
-    ensures why { result ≢ 0 → result ≢ 4 → result ≡ refusal (fault_at table.old (place_of at) ∷ []) }
-    ensures status { IsStatus result }
+    ensures { RemoveCall table.old table.new list.old list.new result (place_of at) }
 {
     list_calls::remove(table, list, at)
 }
@@ -172,18 +107,7 @@ pub extern "C" fn ic_list_replace(
     at: u32,
     place: u32,
 ) -> u32
-    ensures replaced { (front back : List Place) (out p : Place) → place_of at ≡ Some out → place_of place ≡ Some p
-        → Replaced table.old table.new list.old list.new result out front back p }
-    ensures free { (p : Place) → place_of place ≡ Some p → result ≡ 0 → FreeIn table.old p }
-    ensures none { place_of place ≡ None → result ≢ 0 }
-    ensures null { (result ≡ 4) ↔ (place_of at ≡ None) }
-    ensures stands { result ≡ 0 → StandsIn table.old (place_of at) }
-    ensures before { result ≡ 0 → TellsGap Before (table_of table.old) (ends_of list.old) (place_of at) }
-    ensures behind { result ≡ 0 → TellsGap After (table_of table.old) (ends_of list.old) (place_of at) }
-    ensures words { result ≡ 0 → list.new ≡ words_of (ends_of list.new) }
-    ensures refused { result ≢ 0 → (table.new ≡ table.old) × (list.new ≡ list.old) }
-    ensures why { result ≢ 0 → result ≢ 4 → result ≡ refusal (fault_at table.old (place_of at) ∷ fault_of table.old (place_of place) ∷ []) }
-    ensures status { IsStatus result }
+    ensures { ReplaceCall table.old table.new list.old list.new result (place_of at) (place_of place) }
 {
     list_calls::replace(table, list, at, place)
 }
@@ -198,18 +122,7 @@ pub extern "C" fn ic_list_splice_after(
     at: u32,
     given: &mut RawEnds,
 ) -> u32
-    ensures spliced { (cut : Cut) (t : List Place) → IsAfter cut (place_of at)
-        → Spliced table.old table.new list.old list.new result given.old cut t }
-    ensures emptied { result ≡ 0 → given.new ≡ words_of no_members }
-    ensures stands { result ≡ 0 → StandsIn table.old (place_of at) }
-    ensures told { result ≡ 0 → TellsGap After (table_of table.old) (ends_of list.old) (place_of at) }
-    ensures front { result ≡ 0 → TellsGap After (table_of table.old) (ends_of given.old) None }
-    ensures back { result ≡ 0 → TellsGap Before (table_of table.old) (ends_of given.old) None }
-    ensures apart { result ≡ 0 → (p : Place) → (ends_of given.old).head ≡ Some p → (ends_of list.old).head ≢ Some p }
-    ensures words { result ≡ 0 → list.new ≡ words_of (ends_of list.new) }
-    ensures refused { result ≢ 0 → (table.new ≡ table.old) × (list.new ≡ list.old) × (given.new ≡ given.old) }
-    ensures why { result ≢ 0 → result ≡ refusal (fault_at table.old (place_of at) ∷ []) }
-    ensures status { IsStatus result }
+    ensures { SpliceCall table.old table.new list.old list.new result After (place_of at) given.old given.new }
 {
     list_calls::splice_at(table, list, at, given, Side::After)
 }
@@ -224,18 +137,7 @@ pub extern "C" fn ic_list_splice_before(
     at: u32,
     given: &mut RawEnds,
 ) -> u32
-    ensures spliced { (cut : Cut) (t : List Place) → IsBefore cut (place_of at)
-        → Spliced table.old table.new list.old list.new result given.old cut t }
-    ensures emptied { result ≡ 0 → given.new ≡ words_of no_members }
-    ensures stands { result ≡ 0 → StandsIn table.old (place_of at) }
-    ensures told { result ≡ 0 → TellsGap Before (table_of table.old) (ends_of list.old) (place_of at) }
-    ensures front { result ≡ 0 → TellsGap After (table_of table.old) (ends_of given.old) None }
-    ensures back { result ≡ 0 → TellsGap Before (table_of table.old) (ends_of given.old) None }
-    ensures apart { result ≡ 0 → (p : Place) → (ends_of given.old).head ≡ Some p → (ends_of list.old).head ≢ Some p }
-    ensures words { result ≡ 0 → list.new ≡ words_of (ends_of list.new) }
-    ensures refused { result ≢ 0 → (table.new ≡ table.old) × (list.new ≡ list.old) × (given.new ≡ given.old) }
-    ensures why { result ≢ 0 → result ≡ refusal (fault_at table.old (place_of at) ∷ []) }
-    ensures status { IsStatus result }
+    ensures { SpliceCall table.old table.new list.old list.new result Before (place_of at) given.old given.new }
 {
     list_calls::splice_at(table, list, at, given, Side::Before)
 }
@@ -249,16 +151,7 @@ pub extern "C" fn ic_list_append(
     list: &mut RawEnds,
     given: &mut RawEnds,
 ) -> u32
-    ensures spliced { (s t : List Place) → Spliced table.old table.new list.old list.new result given.old (at_back s) t }
-    ensures emptied { result ≡ 0 → given.new ≡ words_of no_members }
-    ensures told { result ≡ 0 → TellsGap Before (table_of table.old) (ends_of list.old) None }
-    ensures front { result ≡ 0 → TellsGap After (table_of table.old) (ends_of given.old) None }
-    ensures back { result ≡ 0 → TellsGap Before (table_of table.old) (ends_of given.old) None }
-    ensures apart { result ≡ 0 → (p : Place) → (ends_of given.old).head ≡ Some p → (ends_of list.old).head ≢ Some p }
-    ensures words { result ≡ 0 → list.new ≡ words_of (ends_of list.new) }
-    ensures refused { result ≢ 0 → (table.new ≡ table.old) × (list.new ≡ list.old) × (given.new ≡ given.old) }
-    ensures why { result ≢ 0 → result ≡ 5 }
-    ensures status { IsStatus result }
+    ensures { SpliceCall table.old table.new list.old list.new result Before None given.old given.new }
 {
     list_calls::splice_at(table, list, NONE, given, Side::Before)
 }
@@ -273,16 +166,7 @@ pub extern "C" fn ic_list_split_after(
     at: u32,
     rest: &mut RawEnds,
 ) -> u32
-    ensures split { (cut : Cut) → IsAfter cut (place_of at) → ends_of rest.old ≡ no_members
-        → Split After table.old table.new list.old list.new result rest.new cut }
-    ensures empty { result ≡ 0 → ends_of rest.old ≡ no_members }
-    ensures stands { result ≡ 0 → StandsIn table.old (place_of at) }
-    ensures told { result ≡ 0 → TellsGap After (table_of table.old) (ends_of list.old) (place_of at) }
-    ensures words { result ≡ 0 → list.new ≡ words_of (ends_of list.new) }
-    ensures rest { result ≡ 0 → rest.new ≡ words_of (ends_of rest.new) }
-    ensures refused { result ≢ 0 → (table.new ≡ table.old) × (list.new ≡ list.old) × (rest.new ≡ rest.old) }
-    ensures why { result ≢ 0 → result ≡ refusal (fault_at table.old (place_of at) ∷ []) }
-    ensures status { IsStatus result }
+    ensures { SplitCall table.old table.new list.old list.new result After (place_of at) rest.old rest.new }
 {
     list_calls::split_at(table, list, at, rest, Side::After)
 }
@@ -297,16 +181,7 @@ pub extern "C" fn ic_list_split_before(
     at: u32,
     rest: &mut RawEnds,
 ) -> u32
-    ensures split { (cut : Cut) → IsBefore cut (place_of at) → ends_of rest.old ≡ no_members
-        → Split Before table.old table.new list.old list.new result rest.new cut }
-    ensures empty { result ≡ 0 → ends_of rest.old ≡ no_members }
-    ensures stands { result ≡ 0 → StandsIn table.old (place_of at) }
-    ensures told { result ≡ 0 → TellsGap Before (table_of table.old) (ends_of list.old) (place_of at) }
-    ensures words { result ≡ 0 → list.new ≡ words_of (ends_of list.new) }
-    ensures rest { result ≡ 0 → rest.new ≡ words_of (ends_of rest.new) }
-    ensures refused { result ≢ 0 → (table.new ≡ table.old) × (list.new ≡ list.old) × (rest.new ≡ rest.old) }
-    ensures why { result ≢ 0 → result ≡ refusal (fault_at table.old (place_of at) ∷ []) }
-    ensures status { IsStatus result }
+    ensures { SplitCall table.old table.new list.old list.new result Before (place_of at) rest.old rest.new }
 {
     list_calls::split_at(table, list, at, rest, Side::Before)
 }
@@ -316,12 +191,7 @@ pub extern "C" fn ic_list_split_before(
 /// Where the places do not lead from the first member to the last, and back, it returns [`BROKEN`](crate::BROKEN).
 #[unsafe(no_mangle)]
 pub extern "C" fn ic_list_clear(table: &mut [RawTwo], list: &mut RawEnds) -> u32
-    ensures cleared { (s : List Place) → Cleared table.old table.new list.old list.new result s }
-    ensures ended { result ≡ 0 → (s : List Place) × ShowsList table.old list.old s }
-    ensures emptied { result ≡ 0 → list.new ≡ words_of no_members }
-    ensures refused { result ≢ 0 → (table.new ≡ table.old) × (list.new ≡ list.old) }
-    ensures why { result ≢ 0 → result ≡ 5 }
-    ensures status { IsStatus result }
+    ensures { ClearCall table.old table.new list.old list.new result }
 {
     list_calls::clear(table, list)
 }

@@ -5,7 +5,7 @@ use Rattle.ic_link_ops.specs.Sequences.{Cut, join, first, last}
 use Rattle.ic_link_ops.specs.Tables.{Table}
 use Rattle.ic_link_ops.specs.Chains.{Ends}
 use Rattle.ic_link_ops.specs.LinkedList.{IsBetween}
-use Rattle.ic_link_ops.proofs.SequenceLemmas.{first_of_back, last_of_front, last_of_push, last_or-append, none_not}
+use Rattle.ic_link_ops.proofs.SequenceLemmas.{first_of_back, last_of_front, last_of_push, last_or-append, none_not, nothing_first}
 use Rattle.ic_link_ops.proofs.ShownLists.{before_gap, behind_gap, shows_middle}
 use Rattle.ic_link_ops.proofs.DoublyLists.{between_linked}
 use Rattle.ic_raw.specs.declared.words.RawTwo.{RawTwo}
@@ -115,3 +115,7 @@ around_ends {t} {list} s shown {at} is =
       led_to = λ b e. (before_stands law s [] whole e, sym (next_shown s [] whole b e));
       followed = λ b e. (behind_stands law [] s shown e, sym (prev_shown [] s shown b e));
     })
+
+-- a cut in front of none is at the end
+pub at_end : (cut : Cut) → IsBeside Before cut None → cut ≡ record { front = cut.front; back = [] }
+at_end cut e = let empty : cut.back ≡ [] = nothing_first cut.back e in λ k. record { front = cut.front; back = empty k }

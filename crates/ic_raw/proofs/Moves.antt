@@ -4,12 +4,23 @@ use Rattle.ic_unsafe_ref.specs.declared.place.Place.{Place}
 use Rattle.ic_link_ops.specs.Sequences.{Cut, join, insert, first, last, IsAbsent, IsDistinct}
 use Rattle.ic_link_ops.specs.Chains.{Ends}
 use Rattle.ic_link_ops.proofs.SequenceLemmas.{none_not, some_same, absent_right, distinct_middle, last_not, gap_not, last_or-append, last_of_push}
+use Rattle.ic_raw.specs.declared.words.RawTwo.{RawTwo}
+use Rattle.ic_raw.specs.declared.table.RawTable.{RawTable}
 use Rattle.ic_raw.specs.declared.gap.Gap.{Gap}
 use Rattle.ic_raw.specs.declared.gap.Side.{Side}
 use Rattle.ic_raw.specs.declared.gap.Side.TheVariants.{After, Before}
-use Rattle.ic_raw.specs.Gaps.{IsApart, IsBeside, gap_of, outermost, toward}
-use Rattle.ic_raw.specs.Doubly.{IsEnd, end_on}
+use Rattle.ic_raw.specs.Gaps.{IsApart, IsBeside, Stands, gap_of, outermost, toward}
+use Rattle.ic_raw.specs.Tables.{raw_entries}
+use Rattle.ic_raw.specs.Words.{is_linked_two}
+use Rattle.ic_raw.specs.Doubly.{IsEnd, end_on, lent_table, table_of}
 use Rattle.ic_raw.proofs.Doubly.{first_kept, last_kept}
+
+-- what stands in a view stands among its words
+pub stands_back : (t : RawTable RawTwo) {words : List RawTwo} {at named : Option Place} → raw_entries t ≡ words → at ≡ named → Stands is_linked_two (lent_table t) at
+    → Stands is_linked_two (table_of words) named
+stands_back t {named = named} view is stands =
+    let back : Stands is_linked_two (table_of (raw_entries t)) named = rw is at stands in
+    subst (λ es. Stands is_linked_two (table_of es) named) view back
 
 -- the ends of a sequence
 abbrev pub ends : List Place → Ends

@@ -1,5 +1,5 @@
 -- What calls of a singly linked list read of what is shown, and of the places that lead to one another.
-use Rattle.std.proofs.Common.{◌≡◌, ◌≤◌, Option, Some, None, List, [], ◌∷◌, ◌++◌, length, true, refl, sym, ap, ◌∙◌, arith}
+use Rattle.std.proofs.Common.{◌≡◌, ◌≤◌, Option, Some, None, List, [], ◌∷◌, ◌++◌, length, true, refl, sym, ap, subst, ◌∙◌, arith}
 use Rattle.ic_unsafe_ref.specs.declared.place.Place.{Place}
 use Rattle.ic_unsafe_ref.specs.Places.{index_of}
 use Rattle.ic_link_ops.specs.Sequences.{Cut, join, first_or, first, last, IsAbsent, IsDistinct, IsAfter}
@@ -12,12 +12,13 @@ use Rattle.ic_link_ops.proofs.Chains.{chain_glue, chain_one}
 use Rattle.ic_link_ops.proofs.ShownLists.{before_gap}
 use Rattle.ic_link_ops.proofs.SinglyLists.{followed_linked, followed_one}
 use Rattle.ic_raw.specs.declared.words.RawOne.{RawOne}
+use Rattle.ic_raw.specs.declared.words.RawFront.{RawFront}
 use Rattle.ic_raw.specs.declared.table.RawTable.{RawTable}
 use Rattle.ic_raw.specs.declared.gap.Gap.{Gap}
 use Rattle.ic_raw.specs.Gaps.{gap_of}
 use Rattle.ic_raw.specs.Words.{no_word, is_linked_one}
 use Rattle.ic_raw.specs.Tables.{raw_entries}
-use Rattle.ic_raw.specs.Singly.{Shows, table_of, lent_table, successor, next_from}
+use Rattle.ic_raw.specs.Singly.{Shows, table_of, lent_table, list_of, successor, next_from}
 use Rattle.ic_raw.proofs.Views.{viewed}
 use Rattle.ic_raw.proofs.Lists.{kept}
 
@@ -40,6 +41,16 @@ pub gap_viewed : (t : RawTable RawOne) {words : List RawOne} {list shown : Front
     → ((cut : Cut) → Shows (lent_table t) list (join cut) → IsAfter cut at → found ≡ Some (gap_of cut))
     → (cut : Cut) → Shows (table_of words) shown (join cut) → IsAfter cut named → found ≡ Some (gap_of cut)
 gap_viewed t view same is finds cut shows after = finds cut (rw same (viewed no_word kept t view shows)) (is ∙ after)
+
+-- what is found behind a place by a view of the words stands there by the words themselves
+pub behind_told : (t : RawTable RawOne) {words : List RawOne} (list : RawFront) {shown : Front} {at named : Option Place} {gap : Gap} {q : Place}
+    → raw_entries t ≡ words → shown ≡ list_of list → at ≡ named → gap ≡ record { before = at; behind = next_from (lent_table t) shown at } → gap.behind ≡ Some q
+    → next_from (table_of words) (list_of list) named ≡ Some q
+behind_told t list {shown} {at} {named} {gap} {q} view same is found stands =
+    let seen : next_from (lent_table t) shown at ≡ Some q = sym (ap (λ (g : Gap). g.behind) found) ∙ stands in
+    let there = subst (λ l. next_from (lent_table t) l at ≡ Some q) same seen in
+    let back : next_from (table_of (raw_entries t)) (list_of list) named ≡ Some q = subst (λ a. next_from (lent_table t) (list_of list) a ≡ Some q) is there in
+    subst (λ es. next_from (table_of es) (list_of list) named ≡ Some q) view back
 
 -- A CHAIN THAT ENDS COMES TO NO PLACE TWICE: from there it would go on the same way, and end as soon
 module _ (t : Place → RawOne) where

@@ -87,3 +87,7 @@ module _ {W : Type 0} (unlinked : W) where
   unlinked_back is_linked b {fs} p f off =
       let back : IsUnlinked is_linked (table_of unlinked (raw_entries b)) p = off in
       rw f back
+
+-- what a call does stays said where the words before it, and those after it, are named otherwise
+pub renamed : {W : Type 0} (Does : List W → List W → Type 0) {old old' new new' : List W} → old' ≡ old → new ≡ new' → Does old' new' → Does old new
+renamed Does e f does = rw (← e, f) does

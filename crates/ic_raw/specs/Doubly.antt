@@ -45,6 +45,10 @@ ends_of l = record { head = place_in l.head; tail = place_in l.tail }
 abbrev pub words_of : Ends → RawEnds
 words_of list = record { head = word_of list.head; tail = word_of list.tail }
 
+-- the words of a list are as a call writes them
+abbrev pub IsWritten : RawEnds → Type 0
+IsWritten list = list ≡ words_of (ends_of list)
+
 -- what stands behind a place, and what before it; the first and the last of the list at none
 abbrev pub next_from : Table RawTwo → Ends → Option Place → Option Place
 next_from t list None = list.head

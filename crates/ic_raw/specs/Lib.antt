@@ -16,3 +16,6 @@ pub mod MarkedTree
 pub mod Ring
 pub mod RingCalls
 pub mod Hash
+pub mod ListCalls
+pub mod StackCalls
+pub mod HashCalls

@@ -1,5 +1,5 @@
 -- Singly linked lists over a caller's words.
-use Rattle.std.specs.Prelude.{ℕ, List, Option, Some, None}
+use Rattle.std.specs.Prelude.{◌≡◌, ℕ, List, Option, Some, None}
 use Rattle.ic_unsafe_ref.specs.declared.place.Place.{Place}
 use Rattle.ic_unsafe_ref.specs.Places.{word_of}
 use Rattle.ic_link_ops.specs.Sequences.{Cut}
@@ -37,6 +37,10 @@ front_of l = place_in l.head
 -- and the word of a front, as a call writes it: none is 0
 abbrev pub word_of_front : Option Place → RawFront
 word_of_front first = record { head = word_of first }
+
+-- the word of a list is as a call writes it
+abbrev pub IsWritten : RawFront → Type 0
+IsWritten l = l ≡ word_of_front (front_of l)
 
 -- and the list with that front
 abbrev pub list_of : RawFront → Front

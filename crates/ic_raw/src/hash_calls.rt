@@ -5,16 +5,14 @@
 //! find(table, keys, buckets, hash_of(30), 30, &mut found) // OK, and found is 7 where keys[7] is 30
 //! ```
 
-ghost use Rattle.std.specs.Prelude.{◌≡◌, ◌≢◌, ◌<◌, ◌≤◌, ◌↔◌, ◌⊎◌, ◌∷◌, ◌++◌, [], ℕ, List, Some, length, None};
+ghost use Rattle.std.specs.Prelude.{◌≡◌, ◌≢◌, ◌<◌, ◌↔◌, ◌∷◌, [], ℕ, List, Some, length, None};
 ghost use Rattle.ic_unsafe_ref.specs.declared.place.Place.{Place};
-ghost use Rattle.ic_link_ops.specs.NumberedCollections.{with_at};
-ghost use Rattle.ic_link_ops.specs.Sequences.{at_front, IsMember};
-ghost use Rattle.ic_hash_table.specs.Searches.{Finds};
-ghost use Rattle.ic_raw.specs.Answers.{IsStatus, HandsOut, refusal};
-ghost use Rattle.ic_raw.specs.Hash.{slot_of, chain_of, buckets_fault, ChangesOnlyChain, HoldsChains, has_key, NamesKey};
-ghost use Rattle.ic_raw.specs.Keys.{key_of, keys_fault};
-ghost use Rattle.ic_raw.specs.Singly.{ShowsList, FreeIn, StandsIn, front_of, word_of_front, fault_at, fault_of, Inserted, Removed};
+ghost use Rattle.ic_link_ops.specs.Sequences.{IsMember};
+ghost use Rattle.ic_raw.specs.Answers.{IsStatus, refusal};
+ghost use Rattle.ic_raw.specs.Hash.{slot_of};
+ghost use Rattle.ic_raw.specs.Singly.{ShowsList, StandsIn, front_of, word_of_front, fault_at, Removed};
 ghost use Rattle.ic_raw.specs.Words.{place_of};
+ghost use Rattle.ic_raw.specs.HashCalls.{FindCall, InsertCall, NextEqualCall, RemoveCall};
 
 use crate::chain::{look_from, place_before};
 use crate::number::{place_in, place_of};
@@ -44,20 +42,7 @@ fn slot(buckets: &[RawFront], hash: u64) -> Option<usize>
 /// returns [`BROKEN`](crate::BROKEN).
 #[inline]
 pub fn insert(table: &mut [RawOne], buckets: &mut [RawFront], hash: u64, place: u32) -> u32
-    ensures inserted { (s : List Place) (p : Place) → 1 ≤ length buckets.old → place_of place ≡ Some p
-        → Inserted table.old table.new (chain_of buckets.old hash) (chain_of buckets.new hash) result (at_front s) p }
-    ensures others { ChangesOnlyChain buckets.old buckets.new hash }
-    ensures holds { (chains : ℕ → List Place) (p : Place) → 1 ≤ length buckets.old → place_of place ≡ Some p → FreeIn table.old p
-        → HoldsChains table.old buckets.old chains
-        → HoldsChains table.new buckets.new (with_at chains (slot_of buckets.old hash) (p ∷ chains (slot_of buckets.old hash))) }
-    ensures free { (p : Place) → place_of place ≡ Some p → result ≡ 0 → FreeIn table.old p }
-    ensures none { place_of place ≡ None → result ≢ 0 }
-    ensures buckets { result ≡ 0 → 1 ≤ length buckets.old }
-    ensures told { result ≡ 0 → StandsIn table.old (front_of (chain_of buckets.old hash)) }
-    ensures words { result ≡ 0 → chain_of buckets.new hash ≡ word_of_front (front_of (chain_of buckets.new hash)) }
-    ensures refused { result ≢ 0 → (table.new ≡ table.old) × (buckets.new ≡ buckets.old) }
-    ensures why { result ≢ 0 → result ≡ refusal (buckets_fault buckets.old ∷ fault_of table.old (place_of place) ∷ []) }
-    ensures status { IsStatus result }
+    ensures { InsertCall table.old table.new buckets.old buckets.new result hash (place_of place) }
 {
     let Some(at) = slot(&*buckets, hash) else {
         return OUT_OF_RANGE;
@@ -93,21 +78,7 @@ fn remove_from(table: &mut [RawOne], list: &mut RawFront, member: Place) -> u32
 /// Where the chain has no such member, it returns [`BROKEN`](crate::BROKEN).
 #[inline]
 pub fn remove(table: &mut [RawOne], buckets: &mut [RawFront], hash: u64, place: u32) -> u32
-    ensures removed { (front back : List Place) (p : Place) → 1 ≤ length buckets.old → place_of place ≡ Some p
-        → Removed table.old table.new (chain_of buckets.old hash) (chain_of buckets.new hash) result p front back }
-    ensures member { (s : List Place) (p : Place) → place_of place ≡ Some p → ShowsList table.old (chain_of buckets.old hash) s → result ≡ 0
-        → IsMember p s }
-    ensures others { ChangesOnlyChain buckets.old buckets.new hash }
-    ensures holds { (chains : ℕ → List Place) (front back : List Place) (p : Place) → 1 ≤ length buckets.old → place_of place ≡ Some p
-        → chains (slot_of buckets.old hash) ≡ front ++ p ∷ back → HoldsChains table.old buckets.old chains
-        → HoldsChains table.new buckets.new (with_at chains (slot_of buckets.old hash) (front ++ back)) }
-    ensures null { (result ≡ 4) ↔ (place_of place ≡ None) }
-    ensures buckets { result ≡ 0 → 1 ≤ length buckets.old }
-    ensures stands { result ≡ 0 → StandsIn table.old (place_of place) }
-    ensures words { result ≡ 0 → chain_of buckets.new hash ≡ word_of_front (front_of (chain_of buckets.new hash)) }
-    ensures refused { result ≢ 0 → (table.new ≡ table.old) × (buckets.new ≡ buckets.old) }
-    ensures why { result ≢ 0 → result ≢ 4 → result ≡ refusal (buckets_fault buckets.old ∷ fault_at table.old (place_of place) ∷ []) }
-    ensures status { IsStatus result }
+    ensures { RemoveCall table.old table.new buckets.old buckets.new result hash (place_of place) }
 {
     let Some(member) = place_of(place) else {
         return NULL;
@@ -132,14 +103,7 @@ pub fn find(
     key: u64,
     found: &mut u32,
 ) -> u32
-    ensures found { (s : List Place) → length table.old ≤ length keys.now → 1 ≤ length buckets.now
-        → ShowsList table.old (chain_of buckets.now hash) s → HandsOut (Finds (has_key keys.now key) s) result found.new }
-    ensures linked { result ≡ 0 → NamesKey table.old keys.now key found.new }
-    ensures refused { result ≢ 0 → found.new ≡ found.old }
-    ensures same { table.new ≡ table.old }
-    ensures looked { (result ≡ 0) ⊎ (result ≡ 4) → (length table.old ≤ length keys.now) × (1 ≤ length buckets.now) }
-    ensures why { result ≢ 0 → result ≢ 4 → result ≡ refusal (keys_fault keys.now (length table.old) ∷ buckets_fault buckets.now ∷ []) }
-    ensures status { IsStatus result }
+    ensures { FindCall keys.now table.old table.new result found.old found.new buckets.now hash key }
 {
     let links = RawTable::new(table);
     if keys.len() < links.places() {
@@ -158,17 +122,7 @@ pub fn find(
 /// [`BROKEN`](crate::BROKEN).
 #[inline]
 pub fn next_equal(table: &mut [RawOne], keys: &[u64], at: u32, found: &mut u32) -> u32
-    ensures found { (list : RawFront) (front back : List Place) (p : Place) → place_of at ≡ Some p → length table.old ≤ length keys.now
-        → ShowsList table.old list (front ++ p ∷ back) → HandsOut (Finds (has_key keys.now (key_of keys.now p)) back) result found.new }
-    ensures linked { (p : Place) → place_of at ≡ Some p → result ≡ 0 → NamesKey table.old keys.now (key_of keys.now p) found.new }
-    ensures none { place_of at ≡ None → result ≡ 4 }
-    ensures refused { result ≢ 0 → found.new ≡ found.old }
-    ensures same { table.new ≡ table.old }
-    ensures keys { result ≡ 0 → length table.old ≤ length keys.now }
-    ensures stands { result ≡ 0 → StandsIn table.old (place_of at) }
-    ensures why { result ≢ 0 → result ≢ 4
-        → result ≡ refusal (keys_fault keys.now (length table.old) ∷ fault_at table.old (place_of at) ∷ []) }
-    ensures status { IsStatus result }
+    ensures { NextEqualCall keys.now table.old table.new result found.old found.new (place_of at) }
 {
     let Some(member) = place_of(at) else {
         return NULL;

@@ -5,15 +5,11 @@
 //! pop(table, list, Side::Before, &mut last)    // OK, and last is the number of the last member
 //! ```
 
-ghost use Rattle.std.specs.Prelude.{◌≡◌, ◌≢◌, ◌↔◌, ◌∷◌, [], List, Some, None};
-ghost use Rattle.ic_unsafe_ref.specs.declared.place.Place.{Place};
-ghost use Rattle.ic_link_ops.specs.Sequences.{Cut, at_back};
-ghost use Rattle.ic_link_ops.specs.Chains.{no_members};
+ghost use Rattle.std.specs.Prelude.{◌≡◌, ◌≢◌, ◌↔◌, None};
 ghost use Rattle.ic_raw.specs.declared.gap.Side.TheVariants.{After, Before};
-ghost use Rattle.ic_raw.specs.Gaps.{IsBeside};
 ghost use Rattle.ic_raw.specs.Words.{place_of};
-ghost use Rattle.ic_raw.specs.Doubly.{ShowsList, FreeIn, StandsIn, TellsGap, IsEnd, end_on, table_of, ends_of, words_of, fault_at, fault_of, Inserted, Removed, Popped, Replaced, Spliced, Split, Cleared};
-ghost use Rattle.ic_raw.specs.Answers.{IsStatus, refusal};
+ghost use Rattle.ic_raw.specs.Doubly.{end_on, ends_of, words_of};
+ghost use Rattle.ic_raw.specs.ListCalls.{ClearCall, InsertCall, PopCall, RemoveCall, ReplaceCall, SpliceCall, SplitCall};
 
 use crate::gap::Side;
 use crate::number::{number_of, place_in, place_of};
@@ -47,16 +43,7 @@ pub(crate) fn write_back(words: &mut RawEnds, list: list::List)
 /// places, or else [`BROKEN`].
 #[inline]
 pub fn insert_at(table: &mut [RawTwo], list: &mut RawEnds, side: Side, at: u32, place: u32) -> u32
-    ensures inserted { (cut : Cut) (p : Place) → IsBeside side cut (place_of at) → place_of place ≡ Some p
-        → Inserted table.old table.new list.old list.new result cut p }
-    ensures free { (p : Place) → place_of place ≡ Some p → result ≡ 0 → FreeIn table.old p }
-    ensures none { place_of place ≡ None → result ≢ 0 }
-    ensures stands { result ≡ 0 → StandsIn table.old (place_of at) }
-    ensures told { result ≡ 0 → TellsGap side (table_of table.old) (ends_of list.old) (place_of at) }
-    ensures words { result ≡ 0 → list.new ≡ words_of (ends_of list.new) }
-    ensures refused { result ≢ 0 → (table.new ≡ table.old) × (list.new ≡ list.old) }
-    ensures why { result ≢ 0 → result ≡ refusal (fault_at table.old (place_of at) ∷ fault_of table.old (place_of place) ∷ []) }
-    ensures status { IsStatus result }
+    ensures { InsertCall table.old table.new list.old list.new result side (place_of at) (place_of place) }
 {
     let mut links = RawTable::new(table);
     let mut edited = list_of(&*list);
@@ -72,15 +59,7 @@ pub fn insert_at(table: &mut [RawTwo], list: &mut RawEnds, side: Side, at: u32, 
 /// Where there is none, it returns [`NULL`], and where the words tell of none, [`BROKEN`]. Then nothing is changed.
 #[inline]
 pub fn pop(table: &mut [RawTwo], list: &mut RawEnds, side: Side, popped: &mut u32) -> u32
-    ensures popped { (front back : List Place) (p : Place) → IsEnd side front back
-        → Popped table.old table.new list.old list.new result popped.new p front back }
-    ensures null { (result ≡ 4) ↔ (end_on side (ends_of list.old) ≡ None) }
-    ensures stands { result ≡ 0 → StandsIn table.old (end_on side (ends_of list.old)) }
-    ensures outer { result ≡ 0 → TellsGap side (table_of table.old) (ends_of list.old) None }
-    ensures inner { result ≡ 0 → TellsGap side (table_of table.old) (ends_of list.old) (end_on side (ends_of list.old)) }
-    ensures words { result ≡ 0 → list.new ≡ words_of (ends_of list.new) }
-    ensures refused { result ≢ 0 → (table.new ≡ table.old) × (list.new ≡ list.old) × (popped.new ≡ popped.old) }
-    ensures why { result ≢ 0 → result ≢ 4 → result ≡ 5 }
+    ensures { PopCall table.old table.new list.old list.new result side popped.old popped.new }
 {
     let mut links = RawTable::new(table);
     let mut edited = list_of(&*list);
@@ -120,18 +99,7 @@ fn splice_any(
     given: &mut RawEnds,
     side: Side,
 ) -> u32
-    ensures spliced { (cut : Cut) (t : List Place) → IsBeside side cut (place_of at)
-        → Spliced table.old table.new list.old list.new result given.old cut t }
-    ensures emptied { result ≡ 0 → given.new ≡ words_of no_members }
-    ensures stands { result ≡ 0 → StandsIn table.old (place_of at) }
-    ensures told { result ≡ 0 → TellsGap side (table_of table.old) (ends_of list.old) (place_of at) }
-    ensures front { result ≡ 0 → TellsGap After (table_of table.old) (ends_of given.old) None }
-    ensures back { result ≡ 0 → TellsGap Before (table_of table.old) (ends_of given.old) None }
-    ensures apart { result ≡ 0 → (p : Place) → (ends_of given.old).head ≡ Some p → (ends_of list.old).head ≢ Some p }
-    ensures words { result ≡ 0 → list.new ≡ words_of (ends_of list.new) }
-    ensures refused { result ≢ 0 → (table.new ≡ table.old) × (list.new ≡ list.old) × (given.new ≡ given.old) }
-    ensures why { result ≢ 0 → result ≡ refusal (fault_at table.old (place_of at) ∷ []) }
-    ensures status { IsStatus result }
+    ensures { SpliceCall table.old table.new list.old list.new result side (place_of at) given.old given.new }
 {
     let mut links = RawTable::new(table);
     let mut edited = list_of(&*list);
@@ -157,18 +125,7 @@ pub fn splice_at(
     given: &mut RawEnds,
     side: Side,
 ) -> u32
-    ensures spliced { (cut : Cut) (t : List Place) → IsBeside side cut (place_of at)
-        → Spliced table.old table.new list.old list.new result given.old cut t }
-    ensures emptied { result ≡ 0 → given.new ≡ words_of no_members }
-    ensures stands { result ≡ 0 → StandsIn table.old (place_of at) }
-    ensures told { result ≡ 0 → TellsGap side (table_of table.old) (ends_of list.old) (place_of at) }
-    ensures front { result ≡ 0 → TellsGap After (table_of table.old) (ends_of given.old) None }
-    ensures back { result ≡ 0 → TellsGap Before (table_of table.old) (ends_of given.old) None }
-    ensures apart { result ≡ 0 → (p : Place) → (ends_of given.old).head ≡ Some p → (ends_of list.old).head ≢ Some p }
-    ensures words { result ≡ 0 → list.new ≡ words_of (ends_of list.new) }
-    ensures refused { result ≢ 0 → (table.new ≡ table.old) × (list.new ≡ list.old) × (given.new ≡ given.old) }
-    ensures why { result ≢ 0 → result ≡ refusal (fault_at table.old (place_of at) ∷ []) }
-    ensures status { IsStatus result }
+    ensures { SpliceCall table.old table.new list.old list.new result side (place_of at) given.old given.new }
 {
     let mut links = RawTable::new(table);
     let mut edited = list_of(&*list);
@@ -191,16 +148,7 @@ fn split_any(
     rest: &mut RawEnds,
     side: Side,
 ) -> u32
-    ensures split { (cut : Cut) → IsBeside side cut (place_of at) → ends_of rest.old ≡ no_members
-        → Split side table.old table.new list.old list.new result rest.new cut }
-    ensures empty { result ≡ 0 → ends_of rest.old ≡ no_members }
-    ensures stands { result ≡ 0 → StandsIn table.old (place_of at) }
-    ensures told { result ≡ 0 → TellsGap side (table_of table.old) (ends_of list.old) (place_of at) }
-    ensures words { result ≡ 0 → list.new ≡ words_of (ends_of list.new) }
-    ensures rest { result ≡ 0 → rest.new ≡ words_of (ends_of rest.new) }
-    ensures refused { result ≢ 0 → (table.new ≡ table.old) × (list.new ≡ list.old) × (rest.new ≡ rest.old) }
-    ensures why { result ≢ 0 → result ≡ refusal (fault_at table.old (place_of at) ∷ []) }
-    ensures status { IsStatus result }
+    ensures { SplitCall table.old table.new list.old list.new result side (place_of at) rest.old rest.new }
 {
     let mut links = RawTable::new(table);
     let mut edited = list_of(&*list);
@@ -227,16 +175,7 @@ pub fn split_at(
     rest: &mut RawEnds,
     side: Side,
 ) -> u32
-    ensures split { (cut : Cut) → IsBeside side cut (place_of at) → ends_of rest.old ≡ no_members
-        → Split side table.old table.new list.old list.new result rest.new cut }
-    ensures empty { result ≡ 0 → ends_of rest.old ≡ no_members }
-    ensures stands { result ≡ 0 → StandsIn table.old (place_of at) }
-    ensures told { result ≡ 0 → TellsGap side (table_of table.old) (ends_of list.old) (place_of at) }
-    ensures words { result ≡ 0 → list.new ≡ words_of (ends_of list.new) }
-    ensures rest { result ≡ 0 → rest.new ≡ words_of (ends_of rest.new) }
-    ensures refused { result ≢ 0 → (table.new ≡ table.old) × (list.new ≡ list.old) × (rest.new ≡ rest.old) }
-    ensures why { result ≢ 0 → result ≡ refusal (fault_at table.old (place_of at) ∷ []) }
-    ensures status { IsStatus result }
+    ensures { SplitCall table.old table.new list.old list.new result side (place_of at) rest.old rest.new }
 {
     let mut links = RawTable::new(table);
     let mut edited = list_of(&*list);
@@ -255,15 +194,7 @@ pub fn split_at(
 #[cold]
 #[inline(never)]
 fn push_back_any(table: &mut [RawTwo], list: &mut RawEnds, place: u32) -> u32
-    ensures inserted { (s : List Place) (p : Place) → place_of place ≡ Some p
-        → Inserted table.old table.new list.old list.new result (at_back s) p }
-    ensures free { (p : Place) → place_of place ≡ Some p → result ≡ 0 → FreeIn table.old p }
-    ensures none { place_of place ≡ None → result ≢ 0 }
-    ensures told { result ≡ 0 → TellsGap Before (table_of table.old) (ends_of list.old) None }
-    ensures words { result ≡ 0 → list.new ≡ words_of (ends_of list.new) }
-    ensures refused { result ≢ 0 → (table.new ≡ table.old) × (list.new ≡ list.old) }
-    ensures why { result ≢ 0 → result ≡ refusal (fault_of table.old (place_of place) ∷ []) }
-    ensures status { IsStatus result }
+    ensures { InsertCall table.old table.new list.old list.new result Before None (place_of place) }
 {
     insert_at(table, list, Side::Before, NONE, place)
 }
@@ -273,15 +204,7 @@ fn push_back_any(table: &mut [RawTwo], list: &mut RawEnds, place: u32) -> u32
 /// The place has to be one of the table, and not linked.
 #[inline]
 pub fn push_back(table: &mut [RawTwo], list: &mut RawEnds, place: u32) -> u32
-    ensures inserted { (s : List Place) (p : Place) → place_of place ≡ Some p
-        → Inserted table.old table.new list.old list.new result (at_back s) p }
-    ensures free { (p : Place) → place_of place ≡ Some p → result ≡ 0 → FreeIn table.old p }
-    ensures none { place_of place ≡ None → result ≢ 0 }
-    ensures told { result ≡ 0 → TellsGap Before (table_of table.old) (ends_of list.old) None }
-    ensures words { list.old ≡ words_of (ends_of list.old) → list.new ≡ words_of (ends_of list.new) }
-    ensures refused { result ≢ 0 → (table.new ≡ table.old) × (list.new ≡ list.old) }
-    ensures why { result ≢ 0 → result ≡ refusal (fault_of table.old (place_of place) ∷ []) }
-    ensures status { IsStatus result }
+    ensures { InsertCall table.old table.new list.old list.new result Before None (place_of place) }
 {
     let mut links = RawTable::new(table);
     let mut edited = list_of(&*list);
@@ -296,16 +219,7 @@ pub fn push_back(table: &mut [RawTwo], list: &mut RawEnds, place: u32) -> u32
 #[cold]
 #[inline(never)]
 fn pop_front_any(table: &mut [RawTwo], list: &mut RawEnds, popped: &mut u32) -> u32
-    ensures popped { (s : List Place) (p : Place) → Popped table.old table.new list.old list.new result popped.new p [] s }
-    ensures empty { ShowsList table.old list.old [] → result ≡ 4 }
-    ensures null { (result ≡ 4) ↔ ((ends_of list.old).head ≡ None) }
-    ensures stands { result ≡ 0 → StandsIn table.old (ends_of list.old).head }
-    ensures outer { result ≡ 0 → TellsGap After (table_of table.old) (ends_of list.old) None }
-    ensures inner { result ≡ 0 → TellsGap After (table_of table.old) (ends_of list.old) (ends_of list.old).head }
-    ensures words { result ≡ 0 → list.new ≡ words_of (ends_of list.new) }
-    ensures refused { result ≢ 0 → (table.new ≡ table.old) × (list.new ≡ list.old) × (popped.new ≡ popped.old) }
-    ensures why { result ≢ 0 → result ≢ 4 → result ≡ 5 }
-    ensures status { IsStatus result }
+    ensures { PopCall table.old table.new list.old list.new result After popped.old popped.new }
 {
     pop(table, list, Side::After, popped)
 }
@@ -313,16 +227,7 @@ fn pop_front_any(table: &mut [RawTwo], list: &mut RawEnds, popped: &mut u32) -> 
 /// Takes the first member off and hands it out, or returns [`NULL`] where there is none. O(1).
 #[inline]
 pub fn pop_front(table: &mut [RawTwo], list: &mut RawEnds, popped: &mut u32) -> u32
-    ensures popped { (s : List Place) (p : Place) → Popped table.old table.new list.old list.new result popped.new p [] s }
-    ensures empty { ShowsList table.old list.old [] → result ≡ 4 }
-    ensures null { (result ≡ 4) ↔ ((ends_of list.old).head ≡ None) }
-    ensures stands { result ≡ 0 → StandsIn table.old (ends_of list.old).head }
-    ensures outer { result ≡ 0 → TellsGap After (table_of table.old) (ends_of list.old) None }
-    ensures inner { result ≡ 0 → TellsGap After (table_of table.old) (ends_of list.old) (ends_of list.old).head }
-    ensures words { list.old ≡ words_of (ends_of list.old) → list.new ≡ words_of (ends_of list.new) }
-    ensures refused { result ≢ 0 → (table.new ≡ table.old) × (list.new ≡ list.old) × (popped.new ≡ popped.old) }
-    ensures why { result ≢ 0 → result ≢ 4 → result ≡ 5 }
-    ensures status { IsStatus result }
+    ensures { PopCall table.old table.new list.old list.new result After popped.old popped.new }
 {
     let mut links = RawTable::new(table);
     let mut edited = list_of(&*list);
@@ -338,16 +243,7 @@ pub fn pop_front(table: &mut [RawTwo], list: &mut RawEnds, popped: &mut u32) -> 
 #[cold]
 #[inline(never)]
 fn remove_any(table: &mut [RawTwo], list: &mut RawEnds, at: u32) -> u32
-    ensures removed { (front back : List Place) (p : Place) → place_of at ≡ Some p
-        → Removed table.old table.new list.old list.new result p front back }
-    ensures null { (result ≡ 4) ↔ (place_of at ≡ None) }
-    ensures stands { result ≡ 0 → StandsIn table.old (place_of at) }
-    ensures before { result ≡ 0 → TellsGap Before (table_of table.old) (ends_of list.old) (place_of at) }
-    ensures behind { result ≡ 0 → TellsGap After (table_of table.old) (ends_of list.old) (place_of at) }
-    ensures words { result ≡ 0 → list.new ≡ words_of (ends_of list.new) }
-    ensures refused { result ≢ 0 → (table.new ≡ table.old) × (list.new ≡ list.old) }
-    ensures why { result ≢ 0 → result ≢ 4 → result ≡ refusal (fault_at table.old (place_of at) ∷ []) }
-    ensures status { IsStatus result }
+    ensures { RemoveCall table.old table.new list.old list.new result (place_of at) }
 {
     let Some(member) = place_of(at) else {
         return NULL;
@@ -364,16 +260,7 @@ fn remove_any(table: &mut [RawTwo], list: &mut RawEnds, at: u32) -> u32
 /// Takes the member `at` off, or returns [`NULL`] at [`NONE`]. O(1).
 #[inline]
 pub fn remove(table: &mut [RawTwo], list: &mut RawEnds, at: u32) -> u32
-    ensures removed { (front back : List Place) (p : Place) → place_of at ≡ Some p
-        → Removed table.old table.new list.old list.new result p front back }
-    ensures null { (result ≡ 4) ↔ (place_of at ≡ None) }
-    ensures stands { result ≡ 0 → StandsIn table.old (place_of at) }
-    ensures before { result ≡ 0 → TellsGap Before (table_of table.old) (ends_of list.old) (place_of at) }
-    ensures behind { result ≡ 0 → TellsGap After (table_of table.old) (ends_of list.old) (place_of at) }
-    ensures words { list.old ≡ words_of (ends_of list.old) → list.new ≡ words_of (ends_of list.new) }
-    ensures refused { result ≢ 0 → (table.new ≡ table.old) × (list.new ≡ list.old) }
-    ensures why { result ≢ 0 → result ≢ 4 → result ≡ refusal (fault_at table.old (place_of at) ∷ []) }
-    ensures status { IsStatus result }
+    ensures { RemoveCall table.old table.new list.old list.new result (place_of at) }
 {
     let Some(member) = place_of(at) else {
         return NULL;
@@ -390,18 +277,7 @@ pub fn remove(table: &mut [RawTwo], list: &mut RawEnds, at: u32) -> u32
 /// The place has to be one of the table, and not linked.
 #[inline]
 pub fn replace(table: &mut [RawTwo], list: &mut RawEnds, at: u32, place: u32) -> u32
-    ensures replaced { (front back : List Place) (out p : Place) → place_of at ≡ Some out → place_of place ≡ Some p
-        → Replaced table.old table.new list.old list.new result out front back p }
-    ensures free { (p : Place) → place_of place ≡ Some p → result ≡ 0 → FreeIn table.old p }
-    ensures none { place_of place ≡ None → result ≢ 0 }
-    ensures null { (result ≡ 4) ↔ (place_of at ≡ None) }
-    ensures stands { result ≡ 0 → StandsIn table.old (place_of at) }
-    ensures before { result ≡ 0 → TellsGap Before (table_of table.old) (ends_of list.old) (place_of at) }
-    ensures behind { result ≡ 0 → TellsGap After (table_of table.old) (ends_of list.old) (place_of at) }
-    ensures words { result ≡ 0 → list.new ≡ words_of (ends_of list.new) }
-    ensures refused { result ≢ 0 → (table.new ≡ table.old) × (list.new ≡ list.old) }
-    ensures why { result ≢ 0 → result ≢ 4 → result ≡ refusal (fault_at table.old (place_of at) ∷ fault_of table.old (place_of place) ∷ []) }
-    ensures status { IsStatus result }
+    ensures { ReplaceCall table.old table.new list.old list.new result (place_of at) (place_of place) }
 {
     let Some(member) = place_of(at) else {
         return NULL;
@@ -420,12 +296,7 @@ pub fn replace(table: &mut [RawTwo], list: &mut RawEnds, at: u32, place: u32) ->
 /// Where the places do not lead from the first member to the last, and back, it returns [`BROKEN`].
 #[inline]
 pub fn clear(table: &mut [RawTwo], list: &mut RawEnds) -> u32
-    ensures cleared { (s : List Place) → Cleared table.old table.new list.old list.new result s }
-    ensures ended { result ≡ 0 → (s : List Place) × ShowsList table.old list.old s }
-    ensures emptied { result ≡ 0 → list.new ≡ words_of no_members }
-    ensures refused { result ≢ 0 → (table.new ≡ table.old) × (list.new ≡ list.old) }
-    ensures why { result ≢ 0 → result ≡ 5 }
-    ensures status { IsStatus result }
+    ensures { ClearCall table.old table.new list.old list.new result }
 {
     let mut links = RawTable::new(table);
     if !whole::clear_list(&mut links, &mut list_of(&*list)) {

@@ -5,15 +5,8 @@
 //! move_at(table, list, Side::After, 9, 7)  // OK: and now it is behind 9
 //! ```
 
-ghost use Rattle.std.specs.Prelude.{◌≡◌, ◌≢◌, ◌↔◌, ◌++◌, ◌∷◌, [], List, Some, None};
-ghost use Rattle.ic_unsafe_ref.specs.declared.place.Place.{Place};
-ghost use Rattle.ic_link_ops.specs.Sequences.{Cut, join};
-ghost use Rattle.ic_link_ops.specs.Tables.{KeepsLinked};
-ghost use Rattle.ic_raw.specs.declared.gap.Side.TheVariants.{After, Before};
-ghost use Rattle.ic_raw.specs.Gaps.{IsBeside, outermost};
-ghost use Rattle.ic_raw.specs.Words.{place_of, is_linked_two};
-ghost use Rattle.ic_raw.specs.Doubly.{StandsIn, TellsGap, IsEnd, table_of, ends_of, words_of, fault_at, Moved, Stayed};
-ghost use Rattle.ic_raw.specs.Answers.{IsStatus, refusal};
+ghost use Rattle.ic_raw.specs.Words.{place_of};
+ghost use Rattle.ic_raw.specs.ListCalls.{MoveCall, MoveToEndCall};
 
 use crate::gap::Side;
 use crate::list::{between, gap_at_end};
@@ -29,23 +22,7 @@ use crate::words::{RawEnds, RawTwo};
 #[cold]
 #[inline(never)]
 fn move_any(table: &mut [RawTwo], list: &mut RawEnds, side: Side, at: u32, place: u32) -> u32
-    ensures moved { (cut : Cut) (front back : List Place) (p : Place) → IsBeside side cut (place_of at) → place_of place ≡ Some p
-        → join cut ≡ front ++ back → Moved table.old table.new list.old list.new result p front back cut }
-    ensures itself { (front back : List Place) (p : Place) → place_of at ≡ Some p → place_of place ≡ Some p
-        → Stayed table.old table.new list.old list.new result p front back }
-    ensures there { (front back : List Place) (p : Place) → IsBeside side (record { front = front; back = back }) (place_of at)
-        → place_of place ≡ Some p → Stayed table.old table.new list.old list.new result p front back }
-    ensures null { (result ≡ 4) ↔ (place_of place ≡ None) }
-    ensures stands { result ≡ 0 → StandsIn table.old (place_of at) }
-    ensures told { result ≡ 0 → TellsGap side (table_of table.old) (ends_of list.old) (place_of at) }
-    ensures member { result ≡ 0 → StandsIn table.old (place_of place) }
-    ensures before { result ≡ 0 → TellsGap Before (table_of table.old) (ends_of list.old) (place_of place) }
-    ensures behind { result ≡ 0 → TellsGap After (table_of table.old) (ends_of list.old) (place_of place) }
-    ensures linked { KeepsLinked is_linked_two (table_of table.old) (table_of table.new) }
-    ensures words { list.old ≡ words_of (ends_of list.old) → list.new ≡ words_of (ends_of list.new) }
-    ensures refused { result ≢ 0 → (table.new ≡ table.old) × (list.new ≡ list.old) }
-    ensures why { result ≢ 0 → result ≢ 4 → result ≡ refusal (fault_at table.old (place_of at) ∷ fault_at table.old (place_of place) ∷ []) }
-    ensures status { IsStatus result }
+    ensures { MoveCall table.old table.new list.old list.new result side (place_of at) (place_of place) }
 {
     let Some(member) = place_of(place) else {
         return NULL;
@@ -69,23 +46,7 @@ fn move_any(table: &mut [RawTwo], list: &mut RawEnds, side: Side, at: u32, place
 /// [`BROKEN`](crate::BROKEN). A refused edit leaves the words as they are.
 #[inline(always)]
 pub fn move_at(table: &mut [RawTwo], list: &mut RawEnds, side: Side, at: u32, place: u32) -> u32
-    ensures moved { (cut : Cut) (front back : List Place) (p : Place) → IsBeside side cut (place_of at) → place_of place ≡ Some p
-        → join cut ≡ front ++ back → Moved table.old table.new list.old list.new result p front back cut }
-    ensures itself { (front back : List Place) (p : Place) → place_of at ≡ Some p → place_of place ≡ Some p
-        → Stayed table.old table.new list.old list.new result p front back }
-    ensures there { (front back : List Place) (p : Place) → IsBeside side (record { front = front; back = back }) (place_of at)
-        → place_of place ≡ Some p → Stayed table.old table.new list.old list.new result p front back }
-    ensures null { (result ≡ 4) ↔ (place_of place ≡ None) }
-    ensures stands { result ≡ 0 → StandsIn table.old (place_of at) }
-    ensures told { result ≡ 0 → TellsGap side (table_of table.old) (ends_of list.old) (place_of at) }
-    ensures member { result ≡ 0 → StandsIn table.old (place_of place) }
-    ensures before { result ≡ 0 → TellsGap Before (table_of table.old) (ends_of list.old) (place_of place) }
-    ensures behind { result ≡ 0 → TellsGap After (table_of table.old) (ends_of list.old) (place_of place) }
-    ensures linked { KeepsLinked is_linked_two (table_of table.old) (table_of table.new) }
-    ensures words { list.old ≡ words_of (ends_of list.old) → list.new ≡ words_of (ends_of list.new) }
-    ensures refused { result ≢ 0 → (table.new ≡ table.old) × (list.new ≡ list.old) }
-    ensures why { result ≢ 0 → result ≢ 4 → result ≡ refusal (fault_at table.old (place_of at) ∷ fault_at table.old (place_of place) ∷ []) }
-    ensures status { IsStatus result }
+    ensures { MoveCall table.old table.new list.old list.new result side (place_of at) (place_of place) }
 {
     let Some(member) = place_of(place) else {
         return NULL;
@@ -107,20 +68,7 @@ pub fn move_at(table: &mut [RawTwo], list: &mut RawEnds, side: Side, at: u32, pl
 #[cold]
 #[inline(never)]
 fn move_to_end_any(table: &mut [RawTwo], list: &mut RawEnds, side: Side, place: u32) -> u32
-    ensures moved { (front back : List Place) (p : Place) → place_of place ≡ Some p
-        → Moved table.old table.new list.old list.new result p front back (outermost side (front ++ back)) }
-    ensures there { (front back : List Place) (p : Place) → IsEnd side front back → place_of place ≡ Some p
-        → Stayed table.old table.new list.old list.new result p front back }
-    ensures null { (result ≡ 4) ↔ (place_of place ≡ None) }
-    ensures told { result ≡ 0 → TellsGap side (table_of table.old) (ends_of list.old) None }
-    ensures member { result ≡ 0 → StandsIn table.old (place_of place) }
-    ensures before { result ≡ 0 → TellsGap Before (table_of table.old) (ends_of list.old) (place_of place) }
-    ensures behind { result ≡ 0 → TellsGap After (table_of table.old) (ends_of list.old) (place_of place) }
-    ensures linked { KeepsLinked is_linked_two (table_of table.old) (table_of table.new) }
-    ensures words { list.old ≡ words_of (ends_of list.old) → list.new ≡ words_of (ends_of list.new) }
-    ensures refused { result ≢ 0 → (table.new ≡ table.old) × (list.new ≡ list.old) }
-    ensures why { result ≢ 0 → result ≢ 4 → result ≡ refusal (fault_at table.old (place_of place) ∷ []) }
-    ensures status { IsStatus result }
+    ensures { MoveToEndCall table.old table.new list.old list.new result side (place_of place) }
 {
     let Some(member) = place_of(place) else {
         return NULL;
@@ -143,20 +91,7 @@ fn move_to_end_any(table: &mut [RawTwo], list: &mut RawEnds, side: Side, place: 
 /// [`BROKEN`](crate::BROKEN). A refused edit leaves the words as they are.
 #[inline(always)]
 pub fn move_to_end(table: &mut [RawTwo], list: &mut RawEnds, side: Side, place: u32) -> u32
-    ensures moved { (front back : List Place) (p : Place) → place_of place ≡ Some p
-        → Moved table.old table.new list.old list.new result p front back (outermost side (front ++ back)) }
-    ensures there { (front back : List Place) (p : Place) → IsEnd side front back → place_of place ≡ Some p
-        → Stayed table.old table.new list.old list.new result p front back }
-    ensures null { (result ≡ 4) ↔ (place_of place ≡ None) }
-    ensures told { result ≡ 0 → TellsGap side (table_of table.old) (ends_of list.old) None }
-    ensures member { result ≡ 0 → StandsIn table.old (place_of place) }
-    ensures before { result ≡ 0 → TellsGap Before (table_of table.old) (ends_of list.old) (place_of place) }
-    ensures behind { result ≡ 0 → TellsGap After (table_of table.old) (ends_of list.old) (place_of place) }
-    ensures linked { KeepsLinked is_linked_two (table_of table.old) (table_of table.new) }
-    ensures words { list.old ≡ words_of (ends_of list.old) → list.new ≡ words_of (ends_of list.new) }
-    ensures refused { result ≢ 0 → (table.new ≡ table.old) × (list.new ≡ list.old) }
-    ensures why { result ≢ 0 → result ≢ 4 → result ≡ refusal (fault_at table.old (place_of place) ∷ []) }
-    ensures status { IsStatus result }
+    ensures { MoveToEndCall table.old table.new list.old list.new result side (place_of place) }
 {
     let Some(member) = place_of(place) else {
         return NULL;

@@ -5,16 +5,36 @@ use Rattle.ic_raw.proofs.Views.{free_viewed, viewed, inserted_back}
 use Rattle.ic_raw.proofs.Lists.{kept}
 use Rattle.ic_raw.proofs.list_calls.insert_at.Goals as goal
 
-pub returns-then-not-insert-clause-inserted : goal.returns-then-not-insert-clause-inserted
-returns-then-not-insert-clause-inserted c cut p beside is shown free =
-    let view = c.new-links.ensures.1 in
-    let done = c.insert.ensures.inserted cut p (rw c.list_of-edited.ensures (viewed no_words kept c.new-links.result view shown)) (rw c.place_of.ensures beside)
-    (c.place_of-2.ensures ∙ is) (free_viewed no_words c.new-links.result view free) in
-    absurd (never c.if-not-insert.true done.0)
+pub returns-then-not-insert : goal.returns-then-not-insert
+returns-then-not-insert c = record {
+  inserted = λ cut p beside is shown free.
+      let view = c.new-links.ensures.1 in
+      let done = c.insert.ensures.inserted cut p (rw c.list_of-edited.ensures (viewed no_words kept c.new-links.result view shown)) (rw c.place_of.ensures beside)
+      (c.place_of-2.ensures ∙ is) (free_viewed no_words c.new-links.result view free) in
+      absurd (never c.if-not-insert.true done.0);
+  free = search rules;
+  no_place = search rules;
+  stands = search rules;
+  told = search rules;
+  words = search rules;
+  refused = search rules;
+  why = search rules;
+  is_status = search rules;
+}
 
-pub returns-clause-inserted : goal.returns-clause-inserted
-returns-clause-inserted c cut p beside is shown free =
-    let view = c.new-links.ensures.1 in
-    let done = c.insert.ensures.inserted cut p (rw c.list_of-edited.ensures (viewed no_words kept c.new-links.result view shown)) (rw c.place_of.ensures beside)
-    (c.place_of-2.ensures ∙ is) (free_viewed no_words c.new-links.result view free) in
-    record { accepted = refl; done = inserted_back no_words kept c.new-links.result c.insert.new.links view (search rules) (search rules) done.1 }
+pub returns : goal.returns
+returns c = record {
+  inserted = λ cut p beside is shown free.
+      let view = c.new-links.ensures.1 in
+      let done = c.insert.ensures.inserted cut p (rw c.list_of-edited.ensures (viewed no_words kept c.new-links.result view shown)) (rw c.place_of.ensures beside)
+      (c.place_of-2.ensures ∙ is) (free_viewed no_words c.new-links.result view free) in
+      record { accepted = refl; done = inserted_back no_words kept c.new-links.result c.insert.new.links view (search rules) (search rules) done.1 };
+  free = search rules;
+  no_place = search rules;
+  stands = search rules;
+  told = search rules;
+  words = search rules;
+  refused = search rules;
+  why = search rules;
+  is_status = search rules;
+}

@@ -1,112 +1,126 @@
 use Rattle.std.proofs.Common.{◌≡◌, inl, inr, Some, ◌∷◌, ◌++◌, refl, sym, ap, subst, ◌∙◌, rules}
 use Rattle.ic_link_ops.proofs.SequenceLemmas.{some_same, distinct_middle}
 use Rattle.ic_raw.specs.declared.gap.Side.TheVariants.{After, Before}
-use Rattle.ic_raw.specs.Gaps.{Stands}
-use Rattle.ic_raw.specs.Tables.{raw_entries}
-use Rattle.ic_raw.specs.Words.{no_words, is_linked_two, place_of}
-use Rattle.ic_raw.specs.Doubly.{Shows, TellsGap, ends_of, lent_table, table_of}
+use Rattle.ic_raw.specs.Words.{no_words, place_of}
+use Rattle.ic_raw.specs.Doubly.{Shows, TellsGap, ends_of, lent_table}
 use Rattle.ic_raw.proofs.Doubly.{told_back}
 use Rattle.ic_raw.proofs.Gaps.{never}
 use Rattle.ic_raw.proofs.Views.{viewed, inserted_back}
 use Rattle.ic_raw.proofs.Lists.{kept}
-use Rattle.ic_raw.proofs.Moves.{own_gap, gap_beside_itself, goes}
+use Rattle.ic_raw.proofs.Moves.{own_gap, gap_beside_itself, goes, stands_back}
 use Rattle.ic_raw.proofs.move_calls.move_at.Goals as goal
 
-pub returns-then-not-is_apart-clause-moved : goal.returns-then-not-is_apart-clause-moved
-returns-then-not-is_apart-clause-moved c cut front back p beside is same shown' =
-    let one : p ≡ c.in-Some.member = some_same (sym is ∙ sym c.place_of.ensures ∙ c.in-Some.is) in
-    let shown = rw one at shown' in
-    let seen : Shows (lent_table c.new-links.result) c.list_of-edited.result (front ++ c.in-Some.member ∷ back) = rw c.list_of-edited.ensures (viewed no_words kept c.new-links.result c.new-links.ensures.1 shown) in
-    let gap = goes c.args.side c.in-Some.member front back cut (rw same (distinct_middle front back c.in-Some.member shown.distinct)) beside same in
-    let found = c.gaps_inside.ensures.shown _ _ c.list_of-edited.result front back gap.0 c.in-Some-gaps_inside.is seen gap.1.same (rw c.place_of-2.ensures gap.1.beside) in
-    elim gap.2 [
-      | inl there ↦ rw one (record {
-        accepted = refl;
-        done = inserted_back no_words kept c.new-links.result c.new-links.result {h = c.list_of-edited.result} c.new-links.ensures.1 (search rules) (search rules)
-            (record { shows = rw there.1 seen; frame = record { extent = refl; others = λ q away. refl } });
-      })
-      | inr away ↦ absurd (never c.if-not-is_apart.true (c.is_apart.ensures.1 (rw found.1 away.0)))
-    ]
+pub returns-then-not-is_apart : goal.returns-then-not-is_apart
+returns-then-not-is_apart c = record {
+  moved = λ cut front back p beside is same shown'.
+      let one : p ≡ c.in-Some.member = some_same (sym is ∙ sym c.place_of.ensures ∙ c.in-Some.is) in
+      let shown = rw one at shown' in
+      let seen : Shows (lent_table c.new-links.result) c.list_of-edited.result (front ++ c.in-Some.member ∷ back) = rw c.list_of-edited.ensures (viewed no_words kept c.new-links.result c.new-links.ensures.1 shown) in
+      let gap = goes c.args.side c.in-Some.member front back cut (rw same (distinct_middle front back c.in-Some.member shown.distinct)) beside same in
+      let found = c.gaps_inside.ensures.shown _ _ c.list_of-edited.result front back gap.0 c.in-Some-gaps_inside.is seen gap.1.same (rw c.place_of-2.ensures gap.1.beside) in
+      elim gap.2 [
+        | inl there ↦ rw one (record {
+          accepted = refl;
+          done = inserted_back no_words kept c.new-links.result c.new-links.result {h = c.list_of-edited.result} c.new-links.ensures.1 (search rules) (search rules)
+              (record { shows = rw there.1 seen; frame = record { extent = refl; others = λ q away. refl } });
+        })
+        | inr away ↦ absurd (never c.if-not-is_apart.true (c.is_apart.ensures.1 (rw found.1 away.0)))
+      ];
+  itself = search rules;
+  there = search rules;
+  null = search rules;
+  stands = λ made. stands_back c.new-links.result c.new-links.ensures.1 c.place_of-2.ensures (c.gaps_inside.ensures.at _ _ c.in-Some-gaps_inside.is);
+  told = λ made.
+      let list = ends_of c.args.list.now in
+      let told = c.gaps_inside.ensures.told _ _ list c.in-Some-gaps_inside.is in
+      told_back c.args.side c.new-links.result list (place_of c.args.at) c.new-links.ensures.1 (subst (λ at. TellsGap c.args.side (lent_table c.new-links.result) list at) c.place_of-2.ensures told);
+  member = λ made. stands_back c.new-links.result c.new-links.ensures.1 (sym c.in-Some.is ∙ c.place_of.ensures) (c.gaps_inside.ensures.member _ _ c.in-Some-gaps_inside.is);
+  before = λ made.
+      let list = ends_of c.args.list.now in
+      let told = c.gaps_inside.ensures.before _ _ list c.in-Some-gaps_inside.is in
+      told_back Before c.new-links.result list (place_of c.args.place) c.new-links.ensures.1
+      (subst (λ at. TellsGap Before (lent_table c.new-links.result) list at) (sym c.in-Some.is ∙ c.place_of.ensures) told);
+  behind = λ made.
+      let list = ends_of c.args.list.now in
+      let told = c.gaps_inside.ensures.behind _ _ list c.in-Some-gaps_inside.is in
+      told_back After c.new-links.result list (place_of c.args.place) c.new-links.ensures.1
+      (subst (λ at. TellsGap After (lent_table c.new-links.result) list at) (sym c.in-Some.is ∙ c.place_of.ensures) told);
+  linked = search rules;
+  words = search rules;
+  refused = search rules;
+  why = search rules;
+  is_status = search rules;
+}
 
-pub returns-clause-moved : goal.returns-clause-moved
-returns-clause-moved c cut front back p beside is same shown' =
-    let one : p ≡ c.in-Some.member = some_same (sym is ∙ sym c.place_of.ensures ∙ c.in-Some.is) in
-    let shown = rw one at shown' in
-    let seen : Shows (lent_table c.new-links.result) c.list_of-edited.result (front ++ c.in-Some.member ∷ back) = rw c.list_of-edited.ensures (viewed no_words kept c.new-links.result c.new-links.ensures.1 shown) in
-    let gap = goes c.args.side c.in-Some.member front back cut (rw same (distinct_middle front back c.in-Some.member shown.distinct)) beside same in
-    let found = c.gaps_inside.ensures.shown _ _ c.list_of-edited.result front back gap.0 c.in-Some-gaps_inside.is seen gap.1.same (rw c.place_of-2.ensures gap.1.beside) in
-    elim gap.2 [
-      | inl there ↦ absurd (there.0 (rw found.1 at (c.is_apart.ensures.0 c.if-not-is_apart.false)))
-      | inr away ↦ rw one (record {
-        accepted = refl;
-        done = inserted_back no_words kept c.new-links.result c.relocate.new.links c.new-links.ensures.1 (search rules) (search rules)
-            (c.relocate.ensures.moved front back cut seen same found.0 (found.1 ∙ away.1));
-      })
-    ]
+pub returns : goal.returns
+returns c = record {
+  moved = λ cut front back p beside is same shown'.
+      let one : p ≡ c.in-Some.member = some_same (sym is ∙ sym c.place_of.ensures ∙ c.in-Some.is) in
+      let shown = rw one at shown' in
+      let seen : Shows (lent_table c.new-links.result) c.list_of-edited.result (front ++ c.in-Some.member ∷ back) = rw c.list_of-edited.ensures (viewed no_words kept c.new-links.result c.new-links.ensures.1 shown) in
+      let gap = goes c.args.side c.in-Some.member front back cut (rw same (distinct_middle front back c.in-Some.member shown.distinct)) beside same in
+      let found = c.gaps_inside.ensures.shown _ _ c.list_of-edited.result front back gap.0 c.in-Some-gaps_inside.is seen gap.1.same (rw c.place_of-2.ensures gap.1.beside) in
+      elim gap.2 [
+        | inl there ↦ absurd (there.0 (rw found.1 at (c.is_apart.ensures.0 c.if-not-is_apart.false)))
+        | inr away ↦ rw one (record {
+          accepted = refl;
+          done = inserted_back no_words kept c.new-links.result c.relocate.new.links c.new-links.ensures.1 (search rules) (search rules)
+              (c.relocate.ensures.moved front back cut seen same found.0 (found.1 ∙ away.1));
+        })
+      ];
+  itself = λ front back p at is shown'.
+      let one : p ≡ c.in-Some.member = some_same (sym is ∙ sym c.place_of.ensures ∙ c.in-Some.is) in
+      let seen : Shows (lent_table c.new-links.result) c.list_of-edited.result (front ++ c.in-Some.member ∷ back) = rw c.list_of-edited.ensures (viewed no_words kept c.new-links.result c.new-links.ensures.1 (rw one at shown')) in
+      let gap = gap_beside_itself c.args.side c.in-Some.member front back in
+      let there = c.place_of-2.ensures ∙ at ∙ ap (λ q. Some q) one in
+      let found = c.gaps_inside.ensures.shown _ _ c.list_of-edited.result front back gap.0 c.in-Some-gaps_inside.is seen gap.1.same (rw there gap.1.beside) in
+      absurd (gap.2 (rw found.1 at (c.is_apart.ensures.0 c.if-not-is_apart.false)));
+  there = λ front back p beside is shown'.
+      let one : p ≡ c.in-Some.member = some_same (sym is ∙ sym c.place_of.ensures ∙ c.in-Some.is) in
+      let seen : Shows (lent_table c.new-links.result) c.list_of-edited.result (front ++ c.in-Some.member ∷ back) = rw c.list_of-edited.ensures (viewed no_words kept c.new-links.result c.new-links.ensures.1 (rw one at shown')) in
+      let gap = own_gap c.args.side c.in-Some.member front back beside in
+      let found = c.gaps_inside.ensures.shown _ _ c.list_of-edited.result front back gap.0 c.in-Some-gaps_inside.is seen gap.1.same (rw c.place_of-2.ensures gap.1.beside) in
+      absurd (gap.2 (rw found.1 at (c.is_apart.ensures.0 c.if-not-is_apart.false)));
+  null = search rules;
+  stands = λ made. stands_back c.new-links.result c.new-links.ensures.1 c.place_of-2.ensures (c.gaps_inside.ensures.at _ _ c.in-Some-gaps_inside.is);
+  told = λ made.
+      let list = ends_of c.args.list.now in
+      let told = c.gaps_inside.ensures.told _ _ list c.in-Some-gaps_inside.is in
+      told_back c.args.side c.new-links.result list (place_of c.args.at) c.new-links.ensures.1 (subst (λ at. TellsGap c.args.side (lent_table c.new-links.result) list at) c.place_of-2.ensures told);
+  member = λ made. stands_back c.new-links.result c.new-links.ensures.1 (sym c.in-Some.is ∙ c.place_of.ensures) (c.gaps_inside.ensures.member _ _ c.in-Some-gaps_inside.is);
+  before = λ made.
+      let list = ends_of c.args.list.now in
+      let told = c.gaps_inside.ensures.before _ _ list c.in-Some-gaps_inside.is in
+      told_back Before c.new-links.result list (place_of c.args.place) c.new-links.ensures.1
+      (subst (λ at. TellsGap Before (lent_table c.new-links.result) list at) (sym c.in-Some.is ∙ c.place_of.ensures) told);
+  behind = λ made.
+      let list = ends_of c.args.list.now in
+      let told = c.gaps_inside.ensures.behind _ _ list c.in-Some-gaps_inside.is in
+      told_back After c.new-links.result list (place_of c.args.place) c.new-links.ensures.1
+      (subst (λ at. TellsGap After (lent_table c.new-links.result) list at) (sym c.in-Some.is ∙ c.place_of.ensures) told);
+  linked = search rules;
+  words = search rules;
+  refused = search rules;
+  why = search rules;
+  is_status = search rules;
+}
 
-pub returns-clause-itself : goal.returns-clause-itself
-returns-clause-itself c front back p at is shown' =
-    let one : p ≡ c.in-Some.member = some_same (sym is ∙ sym c.place_of.ensures ∙ c.in-Some.is) in
-    let seen : Shows (lent_table c.new-links.result) c.list_of-edited.result (front ++ c.in-Some.member ∷ back) = rw c.list_of-edited.ensures (viewed no_words kept c.new-links.result c.new-links.ensures.1 (rw one at shown')) in
-    let gap = gap_beside_itself c.args.side c.in-Some.member front back in
-    let there = c.place_of-2.ensures ∙ at ∙ ap (λ q. Some q) one in
-    let found = c.gaps_inside.ensures.shown _ _ c.list_of-edited.result front back gap.0 c.in-Some-gaps_inside.is seen gap.1.same (rw there gap.1.beside) in
-    absurd (gap.2 (rw found.1 at (c.is_apart.ensures.0 c.if-not-is_apart.false)))
-
-pub returns-clause-there : goal.returns-clause-there
-returns-clause-there c front back p beside is shown' =
-    let one : p ≡ c.in-Some.member = some_same (sym is ∙ sym c.place_of.ensures ∙ c.in-Some.is) in
-    let seen : Shows (lent_table c.new-links.result) c.list_of-edited.result (front ++ c.in-Some.member ∷ back) = rw c.list_of-edited.ensures (viewed no_words kept c.new-links.result c.new-links.ensures.1 (rw one at shown')) in
-    let gap = own_gap c.args.side c.in-Some.member front back beside in
-    let found = c.gaps_inside.ensures.shown _ _ c.list_of-edited.result front back gap.0 c.in-Some-gaps_inside.is seen gap.1.same (rw c.place_of-2.ensures gap.1.beside) in
-    absurd (gap.2 (rw found.1 at (c.is_apart.ensures.0 c.if-not-is_apart.false)))
-
-pub returns-then-not-is_apart-clause-stands : goal.returns-then-not-is_apart-clause-stands
-returns-then-not-is_apart-clause-stands c made =
-    let stands : Stands is_linked_two (table_of (raw_entries c.new-links.result)) (place_of c.args.at) = rw c.place_of-2.ensures at (c.gaps_inside.ensures.at _ _ c.in-Some-gaps_inside.is) in
-    subst (λ es. Stands is_linked_two (table_of es) (place_of c.args.at)) c.new-links.ensures.1 stands
-
-pub returns-in_default-gaps_inside-clause-moved : goal.returns-in_default-gaps_inside-clause-moved
-returns-in_default-gaps_inside-clause-moved c cut front back p beside is same =
-    let done = c.move_any.ensures.moved cut front back p beside is same in
-    search (rules, done)
-
-pub returns-then-not-is_apart-clause-told : goal.returns-then-not-is_apart-clause-told
-returns-then-not-is_apart-clause-told c made =
-    let list = ends_of c.args.list.now in
-    let told = c.gaps_inside.ensures.told _ _ list c.in-Some-gaps_inside.is in
-    told_back c.args.side c.new-links.result list (place_of c.args.at) c.new-links.ensures.1 (subst (λ at. TellsGap c.args.side (lent_table c.new-links.result) list at) c.place_of-2.ensures told)
-
-pub returns-then-not-is_apart-clause-before : goal.returns-then-not-is_apart-clause-before
-returns-then-not-is_apart-clause-before c made =
-    let list = ends_of c.args.list.now in
-    let told = c.gaps_inside.ensures.before _ _ list c.in-Some-gaps_inside.is in
-    told_back Before c.new-links.result list (place_of c.args.place) c.new-links.ensures.1
-    (subst (λ at. TellsGap Before (lent_table c.new-links.result) list at) (sym c.in-Some.is ∙ c.place_of.ensures) told)
-
-pub returns-then-not-is_apart-clause-behind : goal.returns-then-not-is_apart-clause-behind
-returns-then-not-is_apart-clause-behind c made =
-    let list = ends_of c.args.list.now in
-    let told = c.gaps_inside.ensures.behind _ _ list c.in-Some-gaps_inside.is in
-    told_back After c.new-links.result list (place_of c.args.place) c.new-links.ensures.1
-    (subst (λ at. TellsGap After (lent_table c.new-links.result) list at) (sym c.in-Some.is ∙ c.place_of.ensures) told)
-
-pub returns-clause-told : goal.returns-clause-told
-returns-clause-told c made =
-    let list = ends_of c.args.list.now in
-    let told = c.gaps_inside.ensures.told _ _ list c.in-Some-gaps_inside.is in
-    told_back c.args.side c.new-links.result list (place_of c.args.at) c.new-links.ensures.1 (subst (λ at. TellsGap c.args.side (lent_table c.new-links.result) list at) c.place_of-2.ensures told)
-
-pub returns-clause-before : goal.returns-clause-before
-returns-clause-before c made =
-    let list = ends_of c.args.list.now in
-    let told = c.gaps_inside.ensures.before _ _ list c.in-Some-gaps_inside.is in
-    told_back Before c.new-links.result list (place_of c.args.place) c.new-links.ensures.1
-    (subst (λ at. TellsGap Before (lent_table c.new-links.result) list at) (sym c.in-Some.is ∙ c.place_of.ensures) told)
-
-pub returns-clause-behind : goal.returns-clause-behind
-returns-clause-behind c made =
-    let list = ends_of c.args.list.now in
-    let told = c.gaps_inside.ensures.behind _ _ list c.in-Some-gaps_inside.is in
-    told_back After c.new-links.result list (place_of c.args.place) c.new-links.ensures.1
-    (subst (λ at. TellsGap After (lent_table c.new-links.result) list at) (sym c.in-Some.is ∙ c.place_of.ensures) told)
+pub returns-in_default-gaps_inside : goal.returns-in_default-gaps_inside
+returns-in_default-gaps_inside c = record {
+  moved = λ cut front back p beside is same.
+      let done = c.move_any.ensures.moved cut front back p beside is same in
+      search (rules, done);
+  itself = search rules;
+  there = search rules;
+  null = search rules;
+  stands = search rules;
+  told = search rules;
+  member = search rules;
+  before = search rules;
+  behind = search rules;
+  linked = search rules;
+  words = search rules;
+  refused = search rules;
+  why = search rules;
+  is_status = search rules;
+}

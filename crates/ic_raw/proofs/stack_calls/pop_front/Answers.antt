@@ -1,23 +1,35 @@
-use Rattle.std.proofs.Common.{◌≡◌, [], ◌∷◌, refl, sym, ◌∙◌, rules}
+use Rattle.std.proofs.Common.{◌≡◌, [], ◌∷◌, refl, sym, ap, subst, ◌∙◌, rules}
 use Rattle.ic_link_ops.proofs.SequenceLemmas.{some_same}
-use Rattle.ic_raw.specs.Words.{no_word, is_linked_one}
+use Rattle.ic_link_ops.specs.SinglyLinkedList.{Front}
+use Rattle.ic_raw.specs.Words.{no_word, is_linked_one, HasNumber}
 use Rattle.ic_raw.specs.Singly.{Shows, lent_table}
 use Rattle.ic_raw.proofs.Views.{viewed, removed_back, unlinked_back}
 use Rattle.ic_raw.proofs.Lists.{kept}
 use Rattle.ic_raw.proofs.stack_calls.pop_front.Goals as goal
 
-pub returns-then-is_linked-clause-popped : goal.returns-then-is_linked-clause-popped
-returns-then-is_linked-clause-popped c s p shown =
-    let view = c.new-links.ensures.1 in
-    let seen : Shows (lent_table c.new-links.result) c.stack_of-edited.result (p ∷ s) =
-    rw c.stack_of-edited.ensures (viewed no_word kept c.new-links.result view shown) in
-    let one : p ≡ c.in-Some.member = some_same (sym (c.first.ensures ∙ seen.head) ∙ c.in-Some.is) in
-    let off = c.remove.ensures.removed [] s (rw one at seen) refl in
-    rw one (record {
-      accepted = refl;
-      done = (
-        removed_back no_word kept c.new-links.result c.remove.new.links view (search rules) (search rules) off.0,
-        unlinked_back no_word is_linked_one c.remove.new.links _ (search rules) off.1,
-        c.number_of.ensures,
-      );
-    })
+pub returns-then-is_linked : goal.returns-then-is_linked
+returns-then-is_linked c = record {
+  taken = λ s p shown.
+      let view = c.new-links.ensures.1 in
+      let seen : Shows (lent_table c.new-links.result) c.stack_of-edited.result (p ∷ s) =
+      rw c.stack_of-edited.ensures (viewed no_word kept c.new-links.result view shown) in
+      let one : p ≡ c.in-Some.member = some_same (sym (c.first.ensures ∙ seen.head) ∙ c.in-Some.is) in
+      let off = c.remove.ensures.removed [] s (rw one at seen) refl in
+      rw one (record {
+        accepted = refl;
+        done = (
+          removed_back no_word kept c.new-links.result c.remove.new.links view (search rules) (search rules) off.0,
+          unlinked_back no_word is_linked_one c.remove.new.links _ (search rules) off.1,
+          c.number_of.ensures,
+        );
+      });
+  handed = λ p is made.
+      let first = sym c.in-Some.is ∙ c.first.ensures ∙ ap (λ (l : Front). l.head) c.stack_of-edited.ensures in
+      subst (λ q. HasNumber q c.number_of.result) (some_same (first ∙ is)) c.number_of.ensures;
+  null = search rules;
+  stands = search rules;
+  words = search rules;
+  refused = search rules;
+  why = search rules;
+  is_status = search rules;
+}

@@ -1,18 +1,15 @@
-use Rattle.std.proofs.Common.{[], refl}
+use Rattle.std.proofs.Common.{[], refl, rules}
 use Rattle.ic_raw.proofs.Numbers.{none_named}
 use Rattle.ic_raw.proofs.stack_calls.pop_front_any.Goals as goal
 
-pub returns-clause-popped : goal.returns-clause-popped
-returns-clause-popped c s p shown = c.remove_after.ensures.removed [] s p none_named shown
-
-pub returns-clause-empty : goal.returns-clause-empty
-returns-clause-empty c shown = c.remove_after.ensures.nothing [] shown none_named
-
-pub returns-clause-null : goal.returns-clause-null
-returns-clause-null c = let null = rw none_named at c.remove_after.ensures.null in ((λ e. (null.0 e).1), (λ e. null.1 (refl, e)))
-
-pub returns-clause-stands : goal.returns-clause-stands
-returns-clause-stands c made = rw none_named at (c.remove_after.ensures.told made)
-
-pub returns-clause-why : goal.returns-clause-why
-returns-clause-why c refused other = rw none_named at (c.remove_after.ensures.why refused other)
+pub returns : goal.returns
+returns c = record {
+  taken = λ s p shown. c.remove_after.ensures.taken [] s p none_named shown;
+  handed = λ p is made. (rw none_named at c.remove_after.ensures.handed) p is made;
+  null = let null = rw none_named at c.remove_after.ensures.null in ((λ e. (null.0 e).1), (λ e. null.1 (refl, e)));
+  stands = λ made. rw none_named at (c.remove_after.ensures.told made);
+  words = search rules;
+  refused = search rules;
+  why = λ refused other. rw none_named at (c.remove_after.ensures.why refused other);
+  is_status = search rules;
+}

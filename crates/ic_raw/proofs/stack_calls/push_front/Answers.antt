@@ -1,5 +1,5 @@
 use Rattle.std.proofs.Common.{refl, ◌∙◌, rules}
-use Rattle.ic_link_ops.specs.Sequences.{at_front}
+use Rattle.ic_link_ops.specs.Sequences.{join}
 use Rattle.ic_raw.specs.Words.{no_word}
 use Rattle.ic_raw.specs.Singly.{Shows, lent_table}
 use Rattle.ic_raw.proofs.Views.{viewed, free_viewed, inserted_back}
@@ -7,15 +7,35 @@ use Rattle.ic_raw.proofs.Lists.{kept}
 use Rattle.ic_raw.proofs.Gaps.{never}
 use Rattle.ic_raw.proofs.stack_calls.push_front.Goals as goal
 
-pub returns-then-not-insert-clause-inserted : goal.returns-then-not-insert-clause-inserted
-returns-then-not-insert-clause-inserted c s p is shown free =
-    let view = c.new-links.ensures.1 in
-    let seen : Shows (lent_table c.new-links.result) c.stack_of-edited.result s = rw c.stack_of-edited.ensures (viewed no_word kept c.new-links.result view shown) in
-    absurd (never c.if-not-insert.true (c.insert.ensures.inserted (at_front s) p seen refl (c.place_of.ensures ∙ is) (free_viewed no_word c.new-links.result view free)).0)
+pub returns-then-not-insert : goal.returns-then-not-insert
+returns-then-not-insert c = record {
+  inserted = λ cut p after is shown free.
+      let view = c.new-links.ensures.1 in
+      let seen : Shows (lent_table c.new-links.result) c.stack_of-edited.result (join cut) = rw c.stack_of-edited.ensures (viewed no_word kept c.new-links.result view shown) in
+      absurd (never c.if-not-insert.true (c.insert.ensures.inserted cut p seen after (c.place_of.ensures ∙ is) (free_viewed no_word c.new-links.result view free)).0);
+  free = search rules;
+  no_place = search rules;
+  stands = search rules;
+  told = search rules;
+  words = search rules;
+  refused = search rules;
+  why = search rules;
+  is_status = search rules;
+}
 
-pub returns-clause-inserted : goal.returns-clause-inserted
-returns-clause-inserted c s p is shown free =
-    let view = c.new-links.ensures.1 in
-    let seen : Shows (lent_table c.new-links.result) c.stack_of-edited.result s = rw c.stack_of-edited.ensures (viewed no_word kept c.new-links.result view shown) in
-    let put = c.insert.ensures.inserted (at_front s) p seen refl (c.place_of.ensures ∙ is) (free_viewed no_word c.new-links.result view free) in
-    record { accepted = refl; done = inserted_back no_word kept c.new-links.result c.insert.new.links view (search rules) (search rules) put.1 }
+pub returns : goal.returns
+returns c = record {
+  inserted = λ cut p after is shown free.
+      let view = c.new-links.ensures.1 in
+      let seen : Shows (lent_table c.new-links.result) c.stack_of-edited.result (join cut) = rw c.stack_of-edited.ensures (viewed no_word kept c.new-links.result view shown) in
+      let put = c.insert.ensures.inserted cut p seen after (c.place_of.ensures ∙ is) (free_viewed no_word c.new-links.result view free) in
+      record { accepted = refl; done = inserted_back no_word kept c.new-links.result c.insert.new.links view (search rules) (search rules) put.1 };
+  free = search rules;
+  no_place = search rules;
+  stands = search rules;
+  told = search rules;
+  words = search rules;
+  refused = search rules;
+  why = search rules;
+  is_status = search rules;
+}

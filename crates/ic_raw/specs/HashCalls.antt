@@ -1,0 +1,74 @@
+-- WHAT THE CALLS OF HASH TABLES DO: each record is the whole contract of a call.
+use Rattle.std.specs.Prelude.{◌≡◌, ◌≢◌, ◌≤◌, ◌↔◌, ◌⊎◌, ◌++◌, ◌∷◌, ℕ, List, [], Option, Some, None, length}
+use Rattle.ic_unsafe_ref.specs.declared.place.Place.{Place}
+use Rattle.ic_hash_table.specs.Searches.{Finds}
+use Rattle.ic_link_ops.specs.NumberedCollections.{with_at}
+use Rattle.ic_link_ops.specs.Sequences.{at_front, IsMember}
+use Rattle.ic_raw.specs.declared.status.TheConstants.{OK, NULL}
+use Rattle.ic_raw.specs.declared.words.RawFront.{RawFront}
+use Rattle.ic_raw.specs.declared.words.RawOne.{RawOne}
+use Rattle.ic_raw.specs.Answers.{IsStatus, HandsOut, refusal}
+use Rattle.ic_raw.specs.Hash.{slot_of, chain_of, buckets_fault, ChangesOnlyChain, HoldsChains, has_key, NamesKey}
+use Rattle.ic_raw.specs.Keys.{key_of, keys_fault}
+use Rattle.ic_raw.specs.Singly.{ShowsList, FreeIn, StandsIn, IsWritten, front_of, fault_at, fault_of, Inserted, Removed}
+
+-- `old`, `new`: the words of the table before the call and after it. `buckets`, `buckets'`: those of the buckets
+module _ (old new : List RawOne) (buckets buckets' : List RawFront) (status hash : ℕ) where
+  -- A PLACE GOES IN IN FRONT OF THE CHAIN of its hash
+  pub record InsertCall (place : Option Place) : Type 0 where
+    pub inserted : (s : List Place) (p : Place) → 1 ≤ length buckets → place ≡ Some p
+        → Inserted old new (chain_of buckets hash) (chain_of buckets' hash) status (at_front s) p
+    pub others : ChangesOnlyChain buckets buckets' hash
+    pub holds : (chains : ℕ → List Place) (p : Place) → 1 ≤ length buckets → place ≡ Some p → FreeIn old p → HoldsChains old buckets chains
+        → HoldsChains new buckets' (with_at chains (slot_of buckets hash) (p ∷ chains (slot_of buckets hash)))
+    pub free : (p : Place) → place ≡ Some p → status ≡ OK → FreeIn old p
+    pub no_place : place ≡ None → status ≢ OK
+    pub any : status ≡ OK → 1 ≤ length buckets
+    pub told : status ≡ OK → StandsIn old (front_of (chain_of buckets hash))
+    pub words : status ≡ OK → IsWritten (chain_of buckets' hash)
+    pub refused : status ≢ OK → (new ≡ old) × (buckets' ≡ buckets)
+    pub why : status ≢ OK → status ≡ refusal (buckets_fault buckets ∷ fault_of old place ∷ [])
+    pub is_status : IsStatus status
+
+  -- A PLACE LEAVES THE CHAIN of its hash
+  pub record RemoveCall (place : Option Place) : Type 0 where
+    pub removed : (front back : List Place) (p : Place) → 1 ≤ length buckets → place ≡ Some p
+        → Removed old new (chain_of buckets hash) (chain_of buckets' hash) status p front back
+    pub member : (s : List Place) (p : Place) → place ≡ Some p → ShowsList old (chain_of buckets hash) s → status ≡ OK → IsMember p s
+    pub others : ChangesOnlyChain buckets buckets' hash
+    pub holds : (chains : ℕ → List Place) (front back : List Place) (p : Place) → 1 ≤ length buckets → place ≡ Some p
+        → chains (slot_of buckets hash) ≡ front ++ p ∷ back → HoldsChains old buckets chains
+        → HoldsChains new buckets' (with_at chains (slot_of buckets hash) (front ++ back))
+    pub null : (status ≡ NULL) ↔ (place ≡ None)
+    pub any : status ≡ OK → 1 ≤ length buckets
+    pub stands : status ≡ OK → StandsIn old place
+    pub words : status ≡ OK → IsWritten (chain_of buckets' hash)
+    pub refused : status ≢ OK → (new ≡ old) × (buckets' ≡ buckets)
+    pub why : status ≢ OK → status ≢ NULL → status ≡ refusal (buckets_fault buckets ∷ fault_at old place ∷ [])
+    pub is_status : IsStatus status
+
+-- `keys`: those of the places. The number of a member is handed out, in words that said `was`
+module _ (keys : List ℕ) (old new : List RawOne) (status was number : ℕ) where
+  -- THE FIRST MEMBER OF A CHAIN WITH A KEY IS HANDED OUT
+  pub record FindCall (buckets : List RawFront) (hash key : ℕ) : Type 0 where
+    pub found : (s : List Place) → length old ≤ length keys → 1 ≤ length buckets → ShowsList old (chain_of buckets hash) s
+        → HandsOut (Finds (has_key keys key) s) status number
+    pub linked : status ≡ OK → NamesKey old keys key number
+    pub refused : status ≢ OK → number ≡ was
+    pub same : new ≡ old
+    pub looked : (status ≡ OK) ⊎ (status ≡ NULL) → (length old ≤ length keys) × (1 ≤ length buckets)
+    pub why : status ≢ OK → status ≢ NULL → status ≡ refusal (keys_fault keys (length old) ∷ buckets_fault buckets ∷ [])
+    pub is_status : IsStatus status
+
+  -- THE NEXT MEMBER WITH THE KEY OF `at` IS HANDED OUT, behind that one
+  pub record NextEqualCall (at : Option Place) : Type 0 where
+    pub found : (list : RawFront) (front back : List Place) (p : Place) → at ≡ Some p → length old ≤ length keys → ShowsList old list (front ++ p ∷ back)
+        → HandsOut (Finds (has_key keys (key_of keys p)) back) status number
+    pub linked : (p : Place) → at ≡ Some p → status ≡ OK → NamesKey old keys (key_of keys p) number
+    pub none : at ≡ None → status ≡ NULL
+    pub refused : status ≢ OK → number ≡ was
+    pub same : new ≡ old
+    pub enough : status ≡ OK → length old ≤ length keys
+    pub stands : status ≡ OK → StandsIn old at
+    pub why : status ≢ OK → status ≢ NULL → status ≡ refusal (keys_fault keys (length old) ∷ fault_at old at ∷ [])
+    pub is_status : IsStatus status

@@ -1,0 +1,152 @@
+-- WHAT THE CALLS OF DOUBLY LINKED LISTS DO: each record is the whole contract of a call. It says first what the call does to a list that the table
+-- shows, and then what holds whatever the words say: what an accepted call has found before it edits, and what a refused one leaves, and why.
+use Rattle.std.specs.Prelude.{◌≡◌, ◌≢◌, ◌↔◌, ◌++◌, ◌∷◌, ℕ, List, [], Option, Some, None}
+use Rattle.ic_unsafe_ref.specs.declared.place.Place.{Place}
+use Rattle.ic_link_ops.specs.Sequences.{Cut, join, at_back}
+use Rattle.ic_link_ops.specs.Tables.{KeepsLinked}
+use Rattle.ic_link_ops.specs.Chains.{no_members}
+use Rattle.ic_raw.specs.declared.gap.Side.{Side}
+use Rattle.ic_raw.specs.declared.gap.Side.TheVariants.{After, Before}
+use Rattle.ic_raw.specs.declared.status.TheConstants.{OK, NULL, BROKEN}
+use Rattle.ic_raw.specs.declared.words.RawEnds.{RawEnds}
+use Rattle.ic_raw.specs.declared.words.RawTwo.{RawTwo}
+use Rattle.ic_raw.specs.Answers.{IsStatus, refusal}
+use Rattle.ic_raw.specs.Doubly.{ShowsList, FreeIn, StandsIn, TellsGap, IsEnd, IsWritten, IsFreeRunIn, end_on, table_of, ends_of, words_of, fault_at, fault_of}
+use Rattle.ic_raw.specs.Doubly.{Inserted, Removed, Popped, Replaced, Moved, Stayed, Spliced, Split, Cleared, Filled}
+use Rattle.ic_raw.specs.Fills.{run_faults}
+use Rattle.ic_raw.specs.Gaps.{IsBeside, outermost}
+use Rattle.ic_raw.specs.Words.{is_linked_two, HasNumber}
+
+-- `old`, `new`: the words of the table before the call and after it. `list`, `list'`: those of the list. `status`: what the call returns
+module _ (old new : List RawTwo) (list list' : RawEnds) (status : ℕ) where
+  -- A PLACE GOES INTO THE GAP on this side of the member `at`, at none into the outermost one
+  pub record InsertCall (side : Side) (at place : Option Place) : Type 0 where
+    pub inserted : (cut : Cut) (p : Place) → IsBeside side cut at → place ≡ Some p → Inserted old new list list' status cut p
+    pub free : (p : Place) → place ≡ Some p → status ≡ OK → FreeIn old p
+    pub no_place : place ≡ None → status ≢ OK
+    pub stands : status ≡ OK → StandsIn old at
+    pub told : status ≡ OK → TellsGap side (table_of old) (ends_of list) at
+    pub words : IsWritten list → IsWritten list'
+    pub refused : status ≢ OK → (new ≡ old) × (list' ≡ list)
+    pub why : status ≢ OK → status ≡ refusal (fault_at old at ∷ fault_of old place ∷ [])
+    pub is_status : IsStatus status
+
+  -- THE FIRST MEMBER LEAVES, on the side Before the last one, and its number is handed out, in words that said `was`
+  pub record PopCall (side : Side) (was popped : ℕ) : Type 0 where
+    pub taken : (front back : List Place) (p : Place) → IsEnd side front back → Popped old new list list' status popped p front back
+    pub handed : (p : Place) → end_on side (ends_of list) ≡ Some p → status ≡ OK → HasNumber p popped
+    pub null : (status ≡ NULL) ↔ (end_on side (ends_of list) ≡ None)
+    pub stands : status ≡ OK → StandsIn old (end_on side (ends_of list))
+    pub outer : status ≡ OK → TellsGap side (table_of old) (ends_of list) None
+    pub inner : status ≡ OK → TellsGap side (table_of old) (ends_of list) (end_on side (ends_of list))
+    pub words : IsWritten list → IsWritten list'
+    pub refused : status ≢ OK → (new ≡ old) × (list' ≡ list) × (popped ≡ was)
+    pub why : status ≢ OK → status ≢ NULL → status ≡ BROKEN
+    pub is_status : IsStatus status
+
+  -- A MEMBER LEAVES
+  pub record RemoveCall (at : Option Place) : Type 0 where
+    pub removed : (front back : List Place) (p : Place) → at ≡ Some p → Removed old new list list' status p front back
+    pub null : (status ≡ NULL) ↔ (at ≡ None)
+    pub stands : status ≡ OK → StandsIn old at
+    pub before : status ≡ OK → TellsGap Before (table_of old) (ends_of list) at
+    pub behind : status ≡ OK → TellsGap After (table_of old) (ends_of list) at
+    pub words : IsWritten list → IsWritten list'
+    pub refused : status ≢ OK → (new ≡ old) × (list' ≡ list)
+    pub why : status ≢ OK → status ≢ NULL → status ≡ refusal (fault_at old at ∷ [])
+    pub is_status : IsStatus status
+
+  -- A PLACE STANDS WHERE A MEMBER DID, which leaves
+  pub record ReplaceCall (at place : Option Place) : Type 0 where
+    pub replaced : (front back : List Place) (out p : Place) → at ≡ Some out → place ≡ Some p → Replaced old new list list' status out front back p
+    pub free : (p : Place) → place ≡ Some p → status ≡ OK → FreeIn old p
+    pub no_place : place ≡ None → status ≢ OK
+    pub null : (status ≡ NULL) ↔ (at ≡ None)
+    pub stands : status ≡ OK → StandsIn old at
+    pub before : status ≡ OK → TellsGap Before (table_of old) (ends_of list) at
+    pub behind : status ≡ OK → TellsGap After (table_of old) (ends_of list) at
+    pub words : status ≡ OK → IsWritten list'
+    pub refused : status ≢ OK → (new ≡ old) × (list' ≡ list)
+    pub why : status ≢ OK → status ≢ NULL → status ≡ refusal (fault_at old at ∷ fault_of old place ∷ [])
+    pub is_status : IsStatus status
+
+  -- A MEMBER MOVES into the gap on this side of the member `at`, at none into the outermost one. Beside itself it stays
+  pub record MoveCall (side : Side) (at place : Option Place) : Type 0 where
+    pub moved : (cut : Cut) (front back : List Place) (p : Place) → IsBeside side cut at → place ≡ Some p → join cut ≡ front ++ back
+        → Moved old new list list' status p front back cut
+    pub itself : (front back : List Place) (p : Place) → at ≡ Some p → place ≡ Some p → Stayed old new list list' status p front back
+    pub there : (front back : List Place) (p : Place) → IsBeside side (record { front = front; back = back }) at → place ≡ Some p
+        → Stayed old new list list' status p front back
+    pub null : (status ≡ NULL) ↔ (place ≡ None)
+    pub stands : status ≡ OK → StandsIn old at
+    pub told : status ≡ OK → TellsGap side (table_of old) (ends_of list) at
+    pub member : status ≡ OK → StandsIn old place
+    pub before : status ≡ OK → TellsGap Before (table_of old) (ends_of list) place
+    pub behind : status ≡ OK → TellsGap After (table_of old) (ends_of list) place
+    pub linked : KeepsLinked is_linked_two (table_of old) (table_of new)
+    pub words : IsWritten list → IsWritten list'
+    pub refused : status ≢ OK → (new ≡ old) × (list' ≡ list)
+    pub why : status ≢ OK → status ≢ NULL → status ≡ refusal (fault_at old at ∷ fault_at old place ∷ [])
+    pub is_status : IsStatus status
+
+  -- A MEMBER MOVES TO THE FRONT, on the side Before to the back
+  pub record MoveToEndCall (side : Side) (place : Option Place) : Type 0 where
+    pub moved : (front back : List Place) (p : Place) → place ≡ Some p → Moved old new list list' status p front back (outermost side (front ++ back))
+    pub there : (front back : List Place) (p : Place) → IsEnd side front back → place ≡ Some p → Stayed old new list list' status p front back
+    pub null : (status ≡ NULL) ↔ (place ≡ None)
+    pub told : status ≡ OK → TellsGap side (table_of old) (ends_of list) None
+    pub member : status ≡ OK → StandsIn old place
+    pub before : status ≡ OK → TellsGap Before (table_of old) (ends_of list) place
+    pub behind : status ≡ OK → TellsGap After (table_of old) (ends_of list) place
+    pub linked : KeepsLinked is_linked_two (table_of old) (table_of new)
+    pub words : IsWritten list → IsWritten list'
+    pub refused : status ≢ OK → (new ≡ old) × (list' ≡ list)
+    pub why : status ≢ OK → status ≢ NULL → status ≡ refusal (fault_at old place ∷ [])
+    pub is_status : IsStatus status
+
+  -- ALL MEMBERS OF A SECOND LIST GO INTO THE GAP on this side of the member `at`, at none into the outermost one. `given`, `given'`: its words
+  pub record SpliceCall (side : Side) (at : Option Place) (given given' : RawEnds) : Type 0 where
+    pub spliced : (cut : Cut) (t : List Place) → IsBeside side cut at → Spliced old new list list' status given cut t
+    pub emptied : status ≡ OK → given' ≡ words_of no_members
+    pub stands : status ≡ OK → StandsIn old at
+    pub told : status ≡ OK → TellsGap side (table_of old) (ends_of list) at
+    pub front : status ≡ OK → TellsGap After (table_of old) (ends_of given) None
+    pub back : status ≡ OK → TellsGap Before (table_of old) (ends_of given) None
+    pub apart : status ≡ OK → (p : Place) → (ends_of given).head ≡ Some p → (ends_of list).head ≢ Some p
+    pub words : status ≡ OK → IsWritten list'
+    pub refused : status ≢ OK → (new ≡ old) × (list' ≡ list) × (given' ≡ given)
+    pub why : status ≢ OK → status ≡ refusal (fault_at old at ∷ [])
+    pub is_status : IsStatus status
+
+  -- THE LIST IS CUT at the gap on this side of the member `at`, at none at the outermost one, and the part on that side handed out, in words
+  -- that say no member. `rest`, `rest'`: these words
+  pub record SplitCall (side : Side) (at : Option Place) (rest rest' : RawEnds) : Type 0 where
+    pub split : (cut : Cut) → IsBeside side cut at → ends_of rest ≡ no_members → Split side old new list list' status rest' cut
+    pub empty : status ≡ OK → ends_of rest ≡ no_members
+    pub stands : status ≡ OK → StandsIn old at
+    pub told : status ≡ OK → TellsGap side (table_of old) (ends_of list) at
+    pub words : status ≡ OK → IsWritten list'
+    pub rest_words : status ≡ OK → IsWritten rest'
+    pub refused : status ≢ OK → (new ≡ old) × (list' ≡ list) × (rest' ≡ rest)
+    pub why : status ≢ OK → status ≡ refusal (fault_at old at ∷ [])
+    pub is_status : IsStatus status
+
+  -- A RUN OF `count` PLACES GOES IN BEHIND ALL MEMBERS
+  pub record FillCall (first count : ℕ) : Type 0 where
+    pub filled : (s : List Place) → Filled old new list list' status (at_back s) first count
+    pub free : status ≡ OK → IsFreeRunIn old first count
+    pub nothing : count ≡ 0 → (status ≡ OK) × (new ≡ old) × (list' ≡ list)
+    pub told : status ≡ OK → count ≢ 0 → TellsGap Before (table_of old) (ends_of list) None
+    pub words : status ≡ OK → count ≢ 0 → IsWritten list'
+    pub refused : status ≢ OK → (new ≡ old) × (list' ≡ list)
+    pub why : status ≢ OK → status ≡ refusal (run_faults (fault_of old) first count)
+    pub is_status : IsStatus status
+
+  -- ALL MEMBERS LEAVE
+  pub record ClearCall : Type 0 where
+    pub cleared : (s : List Place) → Cleared old new list list' status s
+    pub ended : status ≡ OK → (s : List Place) × ShowsList old list s
+    pub emptied : status ≡ OK → list' ≡ words_of no_members
+    pub refused : status ≢ OK → (new ≡ old) × (list' ≡ list)
+    pub why : status ≢ OK → status ≡ BROKEN
+    pub is_status : IsStatus status
