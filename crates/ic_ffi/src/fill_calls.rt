@@ -6,17 +6,9 @@
 //! ic_list_fill(links, 64, &vacant, 0, 64); // IC_OK: 0, 1, .., 63
 //! ```
 
-ghost use Rattle.std.specs.Prelude.{◌≡◌, ◌≢◌, List, None};
-ghost use Rattle.ic_unsafe_ref.specs.declared.place.Place.{Place};
-ghost use Rattle.ic_link_ops.specs.Sequences.{at_front, at_back};
-ghost use Rattle.ic_raw.specs.declared.gap.Side.TheVariants.{Before};
-ghost use Rattle.ic_raw.specs.Answers.{IsStatus, refusal};
-ghost use Rattle.ic_raw.specs.Fills.{run_faults};
-ghost use Rattle.ic_raw.specs.Doubly as doubly;
-ghost use Rattle.ic_raw.specs.Doubly.{ends_of, words_of};
-ghost use Rattle.ic_raw.specs.Singly as singly;
-ghost use Rattle.ic_raw.specs.Singly.{front_of, word_of_front};
-ghost use Rattle.ic_raw.specs.Xor as xor;
+ghost use Rattle.ic_raw.specs.ListCalls as lists;
+ghost use Rattle.ic_raw.specs.StackCalls as stacks;
+ghost use Rattle.ic_raw.specs.XorCalls as xor_lists;
 
 use ic_raw::{RawEnds, RawFront, RawOne, RawTwo, fill_calls};
 
@@ -31,14 +23,7 @@ pub extern "C" fn ic_list_fill(
     first: u32,
     count: u32,
 ) -> u32
-    ensures filled { (s : List Place) → doubly.Filled table.old table.new list.old list.new result (at_back s) first count }
-    ensures free { result ≡ 0 → doubly.IsFreeRunIn table.old first count }
-    ensures nothing { count ≡ 0 → (result ≡ 0) × (table.new ≡ table.old) × (list.new ≡ list.old) }
-    ensures told { result ≡ 0 → count ≢ 0 → doubly.TellsGap Before (doubly.table_of table.old) (ends_of list.old) None }
-    ensures words { result ≡ 0 → count ≢ 0 → list.new ≡ words_of (ends_of list.new) }
-    ensures refused { result ≢ 0 → (table.new ≡ table.old) × (list.new ≡ list.old) }
-    ensures why { result ≢ 0 → result ≡ refusal (run_faults (doubly.fault_of table.old) first count) }
-    ensures status { IsStatus result }
+    ensures { lists.FillCall table.old table.new list.old list.new result first count }
 {
     fill_calls::fill_list(table, list, first, count)
 }
@@ -54,14 +39,7 @@ pub extern "C" fn ic_stack_fill(
     first: u32,
     count: u32,
 ) -> u32
-    ensures filled { (s : List Place) → singly.Filled table.old table.new list.old list.new result (at_front s) first count }
-    ensures free { result ≡ 0 → singly.IsFreeRunIn table.old first count }
-    ensures nothing { count ≡ 0 → (result ≡ 0) × (table.new ≡ table.old) × (list.new ≡ list.old) }
-    ensures told { result ≡ 0 → count ≢ 0 → singly.StandsIn table.old (front_of list.old) }
-    ensures words { result ≡ 0 → count ≢ 0 → list.new ≡ word_of_front (front_of list.new) }
-    ensures refused { result ≢ 0 → (table.new ≡ table.old) × (list.new ≡ list.old) }
-    ensures why { result ≢ 0 → result ≡ refusal (run_faults (singly.fault_of table.old) first count) }
-    ensures status { IsStatus result }
+    ensures { stacks.FillCall table.old table.new list.old list.new result first count }
 {
     fill_calls::fill_stack(table, list, first, count)
 }
@@ -77,14 +55,7 @@ pub extern "C" fn ic_xor_fill(
     first: u32,
     count: u32,
 ) -> u32
-    ensures filled { (s : List Place) → xor.Filled table.old table.new list.old list.new result (at_back s) first count }
-    ensures free { result ≡ 0 → singly.IsFreeRunIn table.old first count }
-    ensures nothing { count ≡ 0 → (result ≡ 0) × (table.new ≡ table.old) × (list.new ≡ list.old) }
-    ensures told { result ≡ 0 → count ≢ 0 → xor.TellsGap (singly.table_of table.old) (ends_of list.old) (ends_of list.old).tail None }
-    ensures words { result ≡ 0 → count ≢ 0 → list.new ≡ words_of (ends_of list.new) }
-    ensures refused { result ≢ 0 → (table.new ≡ table.old) × (list.new ≡ list.old) }
-    ensures why { result ≢ 0 → result ≡ refusal (run_faults (xor.fault_of table.old) first count) }
-    ensures status { IsStatus result }
+    ensures { xor_lists.FillCall table.old table.new list.old list.new result first count }
 {
     fill_calls::fill_xor_list(table, list, first, count)
 }

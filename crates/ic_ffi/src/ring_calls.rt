@@ -7,16 +7,10 @@
 //! ic_ring_remove(links, 65, 7);            // IC_OK, from whichever ring it is in
 //! ```
 
-ghost use Rattle.std.specs.Prelude.{◌≡◌, ◌≢◌, ◌↔◌, ◌⊎◌, ◌++◌, ◌∷◌, List, [], Some, None};
-ghost use Rattle.ic_unsafe_ref.specs.declared.place.Place.{Place};
-ghost use Rattle.ic_link_ops.specs.Sequences.{IsDisjoint, last};
-ghost use Rattle.ic_link_ops.specs.Tables.{IsUnlinked, ChangesOnly};
 ghost use Rattle.ic_raw.specs.declared.gap.Side.TheVariants.{After, Before};
-ghost use Rattle.ic_raw.specs.Answers.{IsStatus, IsAccepted, refusal};
-ghost use Rattle.ic_raw.specs.Doubly.{table_of, FreeIn, fault_at, fault_of};
-ghost use Rattle.ic_raw.specs.Ring.{IsCircle, IsTold, Makes, MakesTwo};
 ghost use Rattle.ic_raw.specs.RingCalls.{PopCall, ReplaceCall, MoveCall, SpliceCall};
-ghost use Rattle.ic_raw.specs.Words.{place_of, is_linked_two};
+ghost use Rattle.ic_raw.specs.Words.{place_of};
+ghost use Rattle.ic_raw.specs.RingCalls.{ExchangeCall, InitCall, InsertCall, RemoveCall};
 
 use ic_raw::{RawTwo, Side, ring_calls};
 
@@ -25,13 +19,7 @@ use ic_raw::{RawTwo, Side, ring_calls};
 /// The place has to be one of the table, and not linked. Linux: `INIT_LIST_HEAD`.
 #[unsafe(no_mangle)]
 pub extern "C" fn ic_ring_init(table: &mut [RawTwo], head: u32) -> u32
-    ensures opened { (h : Place) → place_of head ≡ Some h → FreeIn table.old h
-        → IsAccepted result (IsCircle (table_of table.new) (h ∷ []) × ChangesOnly (table_of table.old) (table_of table.new) h) }
-    ensures free { (h : Place) → place_of head ≡ Some h → result ≡ 0 → FreeIn table.old h }
-    ensures none { place_of head ≡ None → result ≢ 0 }
-    ensures refused { result ≢ 0 → table.new ≡ table.old }
-    ensures why { result ≢ 0 → result ≡ refusal (fault_of table.old (place_of head) ∷ []) }
-    ensures status { IsStatus result }
+    ensures { InitCall table.old table.new result (place_of head) }
 {
     ring_calls::init(table, head)
 }
@@ -41,16 +29,7 @@ pub extern "C" fn ic_ring_init(table: &mut [RawTwo], head: u32) -> u32
 /// The place has to be one of the table, and not linked. Linux: `list_add`.
 #[unsafe(no_mangle)]
 pub extern "C" fn ic_ring_insert_after(table: &mut [RawTwo], at: u32, place: u32) -> u32
-    ensures inserted { (h p : Place) (r : List Place) → place_of at ≡ Some h → place_of place ≡ Some p → FreeIn table.old p
-        → IsCircle (table_of table.old) (h ∷ r)
-        → IsAccepted result (Makes (table_of table.old) (table_of table.new) (p ∷ h ∷ r) (h ∷ p ∷ r)) }
-    ensures free { (p : Place) → place_of place ≡ Some p → result ≡ 0 → FreeIn table.old p }
-    ensures none { place_of place ≡ None → result ≢ 0 }
-    ensures null { (result ≡ 4) ↔ (place_of at ≡ None) }
-    ensures told { (h : Place) → place_of at ≡ Some h → result ≡ 0 → (q : Place) × IsTold (table_of table.old) h q }
-    ensures refused { result ≢ 0 → table.new ≡ table.old }
-    ensures why { result ≢ 0 → result ≢ 4 → result ≡ refusal (fault_at table.old (place_of at) ∷ fault_of table.old (place_of place) ∷ []) }
-    ensures status { IsStatus result }
+    ensures { InsertCall table.old table.new result After (place_of at) (place_of place) }
 {
     ring_calls::insert(table, Side::After, at, place)
 }
@@ -60,16 +39,7 @@ pub extern "C" fn ic_ring_insert_after(table: &mut [RawTwo], at: u32, place: u32
 /// The place has to be one of the table, and not linked. Linux: `list_add_tail`.
 #[unsafe(no_mangle)]
 pub extern "C" fn ic_ring_insert_before(table: &mut [RawTwo], at: u32, place: u32) -> u32
-    ensures inserted { (h p : Place) (r : List Place) → place_of at ≡ Some h → place_of place ≡ Some p → FreeIn table.old p
-        → IsCircle (table_of table.old) (h ∷ r)
-        → IsAccepted result (Makes (table_of table.old) (table_of table.new) (p ∷ h ∷ r) (p ∷ h ∷ r)) }
-    ensures free { (p : Place) → place_of place ≡ Some p → result ≡ 0 → FreeIn table.old p }
-    ensures none { place_of place ≡ None → result ≢ 0 }
-    ensures null { (result ≡ 4) ↔ (place_of at ≡ None) }
-    ensures told { (h : Place) → place_of at ≡ Some h → result ≡ 0 → (q : Place) × IsTold (table_of table.old) q h }
-    ensures refused { result ≢ 0 → table.new ≡ table.old }
-    ensures why { result ≢ 0 → result ≢ 4 → result ≡ refusal (fault_at table.old (place_of at) ∷ fault_of table.old (place_of place) ∷ []) }
-    ensures status { IsStatus result }
+    ensures { InsertCall table.old table.new result Before (place_of at) (place_of place) }
 {
     ring_calls::insert(table, Side::Before, at, place)
 }
@@ -79,14 +49,7 @@ pub extern "C" fn ic_ring_insert_before(table: &mut [RawTwo], at: u32, place: u3
 /// A head that has no members leaves, too, and its ring is gone then. Linux: `list_del`.
 #[unsafe(no_mangle)]
 pub extern "C" fn ic_ring_remove(table: &mut [RawTwo], place: u32) -> u32
-    ensures removed { (p : Place) (r : List Place) → place_of place ≡ Some p → IsCircle (table_of table.old) (p ∷ r)
-        → IsAccepted result (Makes (table_of table.old) (table_of table.new) (p ∷ r) r × IsUnlinked is_linked_two (table_of table.new) p) }
-    ensures null { (result ≡ 4) ↔ (place_of place ≡ None) }
-    ensures before { (p : Place) → place_of place ≡ Some p → result ≡ 0 → (q : Place) × IsTold (table_of table.old) q p }
-    ensures behind { (p : Place) → place_of place ≡ Some p → result ≡ 0 → (q : Place) × IsTold (table_of table.old) p q }
-    ensures refused { result ≢ 0 → table.new ≡ table.old }
-    ensures why { result ≢ 0 → result ≢ 4 → result ≡ refusal (fault_at table.old (place_of place) ∷ []) }
-    ensures status { IsStatus result }
+    ensures { RemoveCall table.old table.new result (place_of place) }
 {
     ring_calls::remove(table, place)
 }
@@ -97,18 +60,7 @@ pub extern "C" fn ic_ring_remove(table: &mut [RawTwo], place: u32) -> u32
 /// it back.
 #[unsafe(no_mangle)]
 pub extern "C" fn ic_ring_exchange(table: &mut [RawTwo], one: u32, other: u32) -> u32
-    ensures joins { (x y : Place) (r s : List Place) → place_of one ≡ Some x → place_of other ≡ Some y
-        → IsCircle (table_of table.old) r → IsCircle (table_of table.old) s → IsDisjoint r s → last r ≡ Some x → last s ≡ Some y
-        → IsAccepted result (Makes (table_of table.old) (table_of table.new) (r ++ s) (r ++ s)) }
-    ensures cuts { (x y : Place) (r s : List Place) → place_of one ≡ Some x → place_of other ≡ Some y
-        → IsCircle (table_of table.old) (r ++ s) → last r ≡ Some x → last s ≡ Some y
-        → IsAccepted result (MakesTwo (table_of table.old) (table_of table.new) (r ++ s) r s) }
-    ensures null { (result ≡ 4) ↔ ((place_of one ≡ None) ⊎ (place_of other ≡ None)) }
-    ensures told { (x : Place) → place_of one ≡ Some x → result ≡ 0 → (q : Place) × IsTold (table_of table.old) x q }
-    ensures other { (y : Place) → place_of other ≡ Some y → result ≡ 0 → (q : Place) × IsTold (table_of table.old) y q }
-    ensures refused { result ≢ 0 → table.new ≡ table.old }
-    ensures why { result ≢ 0 → result ≢ 4 → result ≡ refusal (fault_at table.old (place_of one) ∷ fault_at table.old (place_of other) ∷ []) }
-    ensures status { IsStatus result }
+    ensures { ExchangeCall table.old table.new result (place_of one) (place_of other) }
 {
     ring_calls::exchange(table, one, other)
 }

@@ -18,4 +18,5 @@ pub mod RingCalls
 pub mod Hash
 pub mod ListCalls
 pub mod StackCalls
+pub mod XorCalls
 pub mod HashCalls

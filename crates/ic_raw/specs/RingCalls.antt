@@ -1,15 +1,15 @@
--- WHAT THE CALLS OF RINGS DO that are made of several edits: each record is the whole contract of a call, in its order: what it does to rings,
+-- WHAT THE CALLS OF RINGS DO: each record is the whole contract of a call, in its order: what it does to rings,
 -- whatever holds of an accepted call, and what holds of a refused one.
 use Rattle.std.specs.Prelude.{◌≡◌, ◌≢◌, ◌↔◌, ◌⊎◌, ◌++◌, ◌∷◌, ℕ, List, [], Option, Some, None}
 use Rattle.ic_unsafe_ref.specs.declared.place.Place.{Place}
-use Rattle.ic_link_ops.specs.Sequences.{IsDisjoint}
-use Rattle.ic_link_ops.specs.Tables.{IsLinked, IsUnlinked}
+use Rattle.ic_link_ops.specs.Sequences.{IsDisjoint, last}
+use Rattle.ic_link_ops.specs.Tables.{ChangesOnly, IsLinked, IsUnlinked}
 use Rattle.ic_raw.specs.declared.gap.Side.{Side}
 use Rattle.ic_raw.specs.declared.words.RawTwo.{RawTwo}
 use Rattle.ic_raw.specs.declared.status.TheConstants.{OK, NULL}
 use Rattle.ic_raw.specs.Answers.{IsStatus, IsAccepted, refusal}
 use Rattle.ic_raw.specs.Doubly.{table_of, FreeIn, fault_at, fault_of}
-use Rattle.ic_raw.specs.Ring.{IsCircle, IsTold, Makes, MakesTwo, put_in, all_put_in}
+use Rattle.ic_raw.specs.Ring.{IsCircle, IsTold, Makes, MakesTwo, own_on, put_in, all_put_in}
 use Rattle.ic_raw.specs.Words.{is_linked_two, HasNumber}
 
 -- both neighbors of the place are told
@@ -21,6 +21,51 @@ pub record IsAmid (words : List RawTwo) (p : Place) : Type 0 where
 
 -- `old`, `new`: the words of the table before the call and after it
 module _ (old new : List RawTwo) (status : ℕ) where
+  -- A HEAD STANDS ALONE in a ring with no members
+  pub record InitCall (head : Option Place) : Type 0 where
+    pub opened : (h : Place) → head ≡ Some h → FreeIn old h
+        → IsAccepted status (IsCircle (table_of new) (h ∷ []) × ChangesOnly (table_of old) (table_of new) h)
+    pub free : (h : Place) → head ≡ Some h → status ≡ OK → FreeIn old h
+    pub no_place : head ≡ None → status ≢ OK
+    pub refused : status ≢ OK → new ≡ old
+    pub why : status ≢ OK → status ≡ refusal (fault_of old head ∷ [])
+    pub is_status : IsStatus status
+
+  -- A PLACE GOES IN on that side of a place of a ring
+  pub record InsertCall (side : Side) (at place : Option Place) : Type 0 where
+    pub inserted : (h p : Place) (r : List Place) → at ≡ Some h → place ≡ Some p → FreeIn old p → IsCircle (table_of old) (h ∷ r)
+        → IsAccepted status (Makes (table_of old) (table_of new) (p ∷ h ∷ r) (put_in side h p r))
+    pub free : (p : Place) → place ≡ Some p → status ≡ OK → FreeIn old p
+    pub no_place : place ≡ None → status ≢ OK
+    pub null : (status ≡ NULL) ↔ (at ≡ None)
+    pub told : (h : Place) → at ≡ Some h → status ≡ OK → (x : Place × Place) × IsTold (table_of old) x.0 x.1 × (own_on side x ≡ h)
+    pub refused : status ≢ OK → new ≡ old
+    pub why : status ≢ OK → status ≢ NULL → status ≡ refusal (fault_at old at ∷ fault_of old place ∷ [])
+    pub is_status : IsStatus status
+
+  -- A PLACE LEAVES its ring
+  pub record RemoveCall (place : Option Place) : Type 0 where
+    pub removed : (p : Place) (r : List Place) → place ≡ Some p → IsCircle (table_of old) (p ∷ r)
+        → IsAccepted status (Makes (table_of old) (table_of new) (p ∷ r) r × IsUnlinked is_linked_two (table_of new) p)
+    pub null : (status ≡ NULL) ↔ (place ≡ None)
+    pub told : (p : Place) → place ≡ Some p → status ≡ OK → IsAmid old p
+    pub refused : status ≢ OK → new ≡ old
+    pub why : status ≢ OK → status ≢ NULL → status ≡ refusal (fault_at old place ∷ [])
+    pub is_status : IsStatus status
+
+  -- TWO PLACES EXCHANGE what stands behind them: two rings become one, and one becomes two
+  pub record ExchangeCall (one other : Option Place) : Type 0 where
+    pub joins : (x y : Place) (r s : List Place) → one ≡ Some x → other ≡ Some y → IsCircle (table_of old) r → IsCircle (table_of old) s → IsDisjoint r s
+        → last r ≡ Some x → last s ≡ Some y → IsAccepted status (Makes (table_of old) (table_of new) (r ++ s) (r ++ s))
+    pub cuts : (x y : Place) (r s : List Place) → one ≡ Some x → other ≡ Some y → IsCircle (table_of old) (r ++ s) → last r ≡ Some x → last s ≡ Some y
+        → IsAccepted status (MakesTwo (table_of old) (table_of new) (r ++ s) r s)
+    pub null : (status ≡ NULL) ↔ ((one ≡ None) ⊎ (other ≡ None))
+    pub told : (x : Place) → one ≡ Some x → status ≡ OK → (q : Place) × IsTold (table_of old) x q
+    pub told_other : (y : Place) → other ≡ Some y → status ≡ OK → (q : Place) × IsTold (table_of old) y q
+    pub refused : status ≢ OK → new ≡ old
+    pub why : status ≢ OK → status ≢ NULL → status ≡ refusal (fault_at old one ∷ fault_at old other ∷ [])
+    pub is_status : IsStatus status
+
   -- THE PLACE BESIDE A HEAD LEAVES ITS RING, and its number is handed out, in words that said `was`
   pub record PopCall (was popped : ℕ) (side : Side) (head : Option Place) : Type 0 where
     pub taken : (h p : Place) (r : List Place) → head ≡ Some h → IsCircle (table_of old) (put_in side h p r)

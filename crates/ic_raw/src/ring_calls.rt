@@ -6,16 +6,14 @@
 //! remove(table, 7)                   // OK, from whichever ring it is in
 //! ```
 
-ghost use Rattle.std.specs.Prelude.{◌≡◌, ◌≢◌, ◌↔◌, ◌⊎◌, ◌++◌, ◌∷◌, List, [], Some, None};
-ghost use Rattle.ic_unsafe_ref.specs.declared.place.Place.{Place};
-ghost use Rattle.ic_link_ops.specs.Sequences.{IsDisjoint, last};
-ghost use Rattle.ic_link_ops.specs.Tables.{IsUnlinked, ChangesOnly};
-ghost use Rattle.ic_raw.specs.Answers.{IsStatus, IsAccepted, refusal};
-ghost use Rattle.ic_raw.specs.Doubly.{lent_table, table_of, FreeIn, fault_at, fault_of};
-ghost use Rattle.ic_raw.specs.Ring.{IsCircle, IsTold, Makes, MakesTwo, own_on, put_in};
+ghost use Rattle.std.specs.Prelude.{◌≡◌, ◌≢◌, ◌↔◌, ◌∷◌, [], Some};
+ghost use Rattle.ic_raw.specs.Answers.{refusal};
+ghost use Rattle.ic_raw.specs.Doubly.{lent_table};
+ghost use Rattle.ic_raw.specs.Ring.{IsTold};
 ghost use Rattle.ic_raw.specs.RingCalls.{PopCall, ReplaceCall, MoveCall, SpliceCall};
 ghost use Rattle.ic_raw.specs.Tables.{member_fault};
 ghost use Rattle.ic_raw.specs.Words.{place_of, is_linked_two};
+ghost use Rattle.ic_raw.specs.RingCalls.{ExchangeCall, InitCall, InsertCall, RemoveCall};
 
 use crate::gap::Side;
 use crate::number::{number_of, place_of};
@@ -30,13 +28,7 @@ use ic_unsafe_ref::Place;
 /// The place has to be one of the table, and not linked.
 #[inline]
 pub fn init(table: &mut [RawTwo], head: u32) -> u32
-    ensures opened { (h : Place) → place_of head ≡ Some h → FreeIn table.old h
-        → IsAccepted result (IsCircle (table_of table.new) (h ∷ []) × ChangesOnly (table_of table.old) (table_of table.new) h) }
-    ensures free { (h : Place) → place_of head ≡ Some h → result ≡ 0 → FreeIn table.old h }
-    ensures none { place_of head ≡ None → result ≢ 0 }
-    ensures refused { result ≢ 0 → table.new ≡ table.old }
-    ensures why { result ≢ 0 → result ≡ refusal (fault_of table.old (place_of head) ∷ []) }
-    ensures status { IsStatus result }
+    ensures { InitCall table.old table.new result (place_of head) }
 {
     let mut links = RawTable::new(table);
     let Some(_) = ring::close(&mut links, place_of(head)) else {
@@ -51,17 +43,7 @@ pub fn init(table: &mut [RawTwo], head: u32) -> u32
 /// the two, or [`BROKEN`](crate::BROKEN). A refused edit leaves the words as they are.
 #[inline]
 pub fn insert(table: &mut [RawTwo], side: Side, at: u32, place: u32) -> u32
-    ensures inserted { (h p : Place) (r : List Place) → place_of at ≡ Some h → place_of place ≡ Some p → FreeIn table.old p
-        → IsCircle (table_of table.old) (h ∷ r)
-        → IsAccepted result (Makes (table_of table.old) (table_of table.new) (p ∷ h ∷ r) (put_in side h p r)) }
-    ensures free { (p : Place) → place_of place ≡ Some p → result ≡ 0 → FreeIn table.old p }
-    ensures none { place_of place ≡ None → result ≢ 0 }
-    ensures null { (result ≡ 4) ↔ (place_of at ≡ None) }
-    ensures told { (h : Place) → place_of at ≡ Some h → result ≡ 0
-        → (x : Place × Place) × IsTold (table_of table.old) x.0 x.1 × (own_on side x ≡ h) }
-    ensures refused { result ≢ 0 → table.new ≡ table.old }
-    ensures why { result ≢ 0 → result ≢ 4 → result ≡ refusal (fault_at table.old (place_of at) ∷ fault_of table.old (place_of place) ∷ []) }
-    ensures status { IsStatus result }
+    ensures { InsertCall table.old table.new result side (place_of at) (place_of place) }
 {
     let Some(member) = place_of(at) else {
         return NULL;
@@ -78,14 +60,7 @@ pub fn insert(table: &mut [RawTwo], side: Side, at: u32, place: u32) -> u32
 /// A head that has no members leaves, too, and its ring is gone then.
 #[inline]
 pub fn remove(table: &mut [RawTwo], place: u32) -> u32
-    ensures removed { (p : Place) (r : List Place) → place_of place ≡ Some p → IsCircle (table_of table.old) (p ∷ r)
-        → IsAccepted result (Makes (table_of table.old) (table_of table.new) (p ∷ r) r × IsUnlinked is_linked_two (table_of table.new) p) }
-    ensures null { (result ≡ 4) ↔ (place_of place ≡ None) }
-    ensures before { (p : Place) → place_of place ≡ Some p → result ≡ 0 → (q : Place) × IsTold (table_of table.old) q p }
-    ensures behind { (p : Place) → place_of place ≡ Some p → result ≡ 0 → (q : Place) × IsTold (table_of table.old) p q }
-    ensures refused { result ≢ 0 → table.new ≡ table.old }
-    ensures why { result ≢ 0 → result ≢ 4 → result ≡ refusal (fault_at table.old (place_of place) ∷ []) }
-    ensures status { IsStatus result }
+    ensures { RemoveCall table.old table.new result (place_of place) }
 {
     let Some(member) = place_of(place) else {
         return NULL;
@@ -103,18 +78,7 @@ pub fn remove(table: &mut [RawTwo], place: u32) -> u32
 /// it back.
 #[inline]
 pub fn exchange(table: &mut [RawTwo], one: u32, other: u32) -> u32
-    ensures joins { (x y : Place) (r s : List Place) → place_of one ≡ Some x → place_of other ≡ Some y
-        → IsCircle (table_of table.old) r → IsCircle (table_of table.old) s → IsDisjoint r s → last r ≡ Some x → last s ≡ Some y
-        → IsAccepted result (Makes (table_of table.old) (table_of table.new) (r ++ s) (r ++ s)) }
-    ensures cuts { (x y : Place) (r s : List Place) → place_of one ≡ Some x → place_of other ≡ Some y
-        → IsCircle (table_of table.old) (r ++ s) → last r ≡ Some x → last s ≡ Some y
-        → IsAccepted result (MakesTwo (table_of table.old) (table_of table.new) (r ++ s) r s) }
-    ensures null { (result ≡ 4) ↔ ((place_of one ≡ None) ⊎ (place_of other ≡ None)) }
-    ensures told { (x : Place) → place_of one ≡ Some x → result ≡ 0 → (q : Place) × IsTold (table_of table.old) x q }
-    ensures other { (y : Place) → place_of other ≡ Some y → result ≡ 0 → (q : Place) × IsTold (table_of table.old) y q }
-    ensures refused { result ≢ 0 → table.new ≡ table.old }
-    ensures why { result ≢ 0 → result ≢ 4 → result ≡ refusal (fault_at table.old (place_of one) ∷ fault_at table.old (place_of other) ∷ []) }
-    ensures status { IsStatus result }
+    ensures { ExchangeCall table.old table.new result (place_of one) (place_of other) }
 {
     let Some(first) = place_of(one) else {
         return NULL;

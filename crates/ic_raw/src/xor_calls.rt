@@ -6,18 +6,20 @@
 //! insert_between(table, list, 7, 8, 9) // OK: 7, 8, 9
 //! ```
 
-ghost use Rattle.std.specs.Prelude.{◌≡◌, ◌≢◌, ◌↔◌, ◌++◌, ◌∷◌, [], List, reverse, Option, Some, None, true, false};
+ghost use Rattle.std.specs.Prelude.{◌≡◌, ◌≢◌, ◌++◌, ◌∷◌, [], List, reverse, Some, None, true, false};
 ghost use Rattle.ic_unsafe_ref.specs.declared.place.Place.{Place};
-ghost use Rattle.ic_link_ops.specs.Sequences.{Cut, join, at_front, at_back, first, last, IsAfter, IsBefore, IsDisjoint};
+ghost use Rattle.ic_link_ops.specs.Sequences.{Cut, join, last, IsAfter, IsBefore, IsDisjoint};
 ghost use Rattle.ic_link_ops.specs.Tables.{Table};
 ghost use Rattle.ic_link_ops.specs.Chains.{no_members};
+ghost use Rattle.ic_raw.specs.declared.gap.Side.TheVariants.{After, Before};
 ghost use Rattle.ic_raw.specs.declared.words.RawOne.{RawOne};
 ghost use Rattle.ic_raw.specs.Words.{place_in, place_of, is_linked_one};
 ghost use Rattle.ic_raw.specs.Tables.{member_fault, place_fault};
 ghost use Rattle.ic_raw.specs.Doubly.{ends_of, words_of};
 ghost use Rattle.ic_raw.specs.Singly.{table_of, lent_table};
-ghost use Rattle.ic_raw.specs.Xor.{Shows, ShowsList, FreeIn, StandsIn, TellsGap, TellsMemberBehind, TellsMemberBefore, TellsEnds, LeadsThrough, fault_at, fault_of, Inserted, Removed, Popped, Replaced, Spliced, Split, Cleared};
+ghost use Rattle.ic_raw.specs.Xor.{Shows, ShowsList, FreeIn, StandsIn, TellsGap, TellsMemberBehind, TellsMemberBefore, TellsEnds, Inserted, Removed, Spliced};
 ghost use Rattle.ic_raw.specs.Answers.{IsStatus, refusal};
+ghost use Rattle.ic_raw.specs.XorCalls.{AppendCall, ClearCall, InsertCall, PopCall, PushCall, RemoveCall, ReplaceCall, SpliceCall, SplitCall};
 
 use crate::number::{number_of, place_in, place_of};
 use crate::status::{BROKEN, NULL, OK};
@@ -114,15 +116,7 @@ fn has_neighbor(table: &mut [RawOne], end: Option<Place>) -> bool
 #[cold]
 #[inline(never)]
 fn put_any(table: &mut [RawOne], list: &mut RawEnds, place: u32, before: u64, behind: u64) -> u32
-    ensures inserted { (cut : Cut) (p : Place) → IsAfter cut (place_in before) → IsBefore cut (place_in behind) → place_of place ≡ Some p
-        → Inserted table.old table.new list.old list.new result cut p }
-    ensures free { (p : Place) → place_of place ≡ Some p → result ≡ 0 → FreeIn table.old p }
-    ensures none { place_of place ≡ None → result ≢ 0 }
-    ensures told { result ≡ 0 → TellsGap (table_of table.old) (ends_of list.old) (place_in before) (place_in behind) }
-    ensures words { result ≡ 0 → list.new ≡ words_of (ends_of list.new) }
-    ensures refused { result ≢ 0 → (table.new ≡ table.old) × (list.new ≡ list.old) }
-    ensures why { result ≢ 0 → result ≡ refusal (fault_of table.old (place_of place) ∷ []) }
-    ensures status { IsStatus result }
+    ensures { PushCall table.old table.new list.old list.new result (place_in before) (place_in behind) (place_of place) }
 {
     if !put(
         table,
@@ -141,15 +135,7 @@ fn put_any(table: &mut [RawOne], list: &mut RawEnds, place: u32, before: u64, be
 /// The place has to be one of the table, and not linked. Where the first member is none of the table, it returns [`BROKEN`].
 #[inline]
 pub fn push_front(table: &mut [RawOne], list: &mut RawEnds, place: u32) -> u32
-    ensures inserted { (s : List Place) (p : Place) → place_of place ≡ Some p
-        → Inserted table.old table.new list.old list.new result (at_front s) p }
-    ensures free { (p : Place) → place_of place ≡ Some p → result ≡ 0 → FreeIn table.old p }
-    ensures none { place_of place ≡ None → result ≢ 0 }
-    ensures told { result ≡ 0 → TellsGap (table_of table.old) (ends_of list.old) None (ends_of list.old).head }
-    ensures words { result ≡ 0 → list.new ≡ words_of (ends_of list.new) }
-    ensures refused { result ≢ 0 → (table.new ≡ table.old) × (list.new ≡ list.old) }
-    ensures why { result ≢ 0 → result ≡ refusal (fault_of table.old (place_of place) ∷ []) }
-    ensures status { IsStatus result }
+    ensures { PushCall table.old table.new list.old list.new result None (ends_of list.old).head (place_of place) }
 {
     let word = list.head;
     let first = place_in(word);
@@ -164,15 +150,7 @@ pub fn push_front(table: &mut [RawOne], list: &mut RawEnds, place: u32) -> u32
 /// The place has to be one of the table, and not linked. Where the last member is none of the table, it returns [`BROKEN`].
 #[inline]
 pub fn push_back(table: &mut [RawOne], list: &mut RawEnds, place: u32) -> u32
-    ensures inserted { (s : List Place) (p : Place) → place_of place ≡ Some p
-        → Inserted table.old table.new list.old list.new result (at_back s) p }
-    ensures free { (p : Place) → place_of place ≡ Some p → result ≡ 0 → FreeIn table.old p }
-    ensures none { place_of place ≡ None → result ≢ 0 }
-    ensures told { result ≡ 0 → TellsGap (table_of table.old) (ends_of list.old) (ends_of list.old).tail None }
-    ensures words { result ≡ 0 → list.new ≡ words_of (ends_of list.new) }
-    ensures refused { result ≢ 0 → (table.new ≡ table.old) × (list.new ≡ list.old) }
-    ensures why { result ≢ 0 → result ≡ refusal (fault_of table.old (place_of place) ∷ []) }
-    ensures status { IsStatus result }
+    ensures { PushCall table.old table.new list.old list.new result (ends_of list.old).tail None (place_of place) }
 {
     let word = list.tail;
     let last = place_in(word);
@@ -225,15 +203,7 @@ fn take_last(table: &mut [RawOne], list: &mut RawEnds, member: Place) -> bool
 #[cold]
 #[inline(never)]
 fn pop_front_any(table: &mut [RawOne], list: &mut RawEnds, popped: &mut u32) -> u32
-    ensures popped { (s : List Place) (p : Place) → Popped table.old table.new list.old list.new result popped.new p [] s }
-    ensures empty { ShowsList table.old list.old [] → result ≡ 4 }
-    ensures null { (result ≡ 4) ↔ ((ends_of list.old).head ≡ None) }
-    ensures stands { result ≡ 0 → StandsIn table.old (ends_of list.old).head }
-    ensures told { result ≡ 0 → TellsMemberBehind (table_of table.old) (ends_of list.old) None (ends_of list.old).head }
-    ensures words { result ≡ 0 → list.new ≡ words_of (ends_of list.new) }
-    ensures refused { result ≢ 0 → (table.new ≡ table.old) × (list.new ≡ list.old) × (popped.new ≡ popped.old) }
-    ensures why { result ≢ 0 → result ≢ 4 → result ≡ 5 }
-    ensures status { IsStatus result }
+    ensures { PopCall table.old table.new list.old list.new result After popped.old popped.new }
 {
     let Some(member) = place_in(list.head) else {
         return NULL;
@@ -250,15 +220,7 @@ fn pop_front_any(table: &mut [RawOne], list: &mut RawEnds, popped: &mut u32) -> 
 /// Where the words tell of no such member, it returns [`BROKEN`].
 #[inline]
 pub fn pop_front(table: &mut [RawOne], list: &mut RawEnds, popped: &mut u32) -> u32
-    ensures popped { (s : List Place) (p : Place) → Popped table.old table.new list.old list.new result popped.new p [] s }
-    ensures empty { ShowsList table.old list.old [] → result ≡ 4 }
-    ensures null { (result ≡ 4) ↔ ((ends_of list.old).head ≡ None) }
-    ensures stands { result ≡ 0 → StandsIn table.old (ends_of list.old).head }
-    ensures told { result ≡ 0 → TellsMemberBehind (table_of table.old) (ends_of list.old) None (ends_of list.old).head }
-    ensures words { list.old ≡ words_of (ends_of list.old) → list.new ≡ words_of (ends_of list.new) }
-    ensures refused { result ≢ 0 → (table.new ≡ table.old) × (list.new ≡ list.old) × (popped.new ≡ popped.old) }
-    ensures why { result ≢ 0 → result ≢ 4 → result ≡ 5 }
-    ensures status { IsStatus result }
+    ensures { PopCall table.old table.new list.old list.new result After popped.old popped.new }
 {
     let mut links = RawTable::new(table);
     let mut edited = list_of(&*list);
@@ -275,15 +237,7 @@ pub fn pop_front(table: &mut [RawOne], list: &mut RawEnds, popped: &mut u32) -> 
 /// Where the words tell of no such member, it returns [`BROKEN`].
 #[inline]
 pub fn pop_back(table: &mut [RawOne], list: &mut RawEnds, popped: &mut u32) -> u32
-    ensures popped { (s : List Place) (p : Place) → Popped table.old table.new list.old list.new result popped.new p s [] }
-    ensures empty { ShowsList table.old list.old [] → result ≡ 4 }
-    ensures null { (result ≡ 4) ↔ ((ends_of list.old).tail ≡ None) }
-    ensures stands { result ≡ 0 → StandsIn table.old (ends_of list.old).tail }
-    ensures told { result ≡ 0 → TellsMemberBefore (table_of table.old) (ends_of list.old) None (ends_of list.old).tail }
-    ensures words { result ≡ 0 → list.new ≡ words_of (ends_of list.new) }
-    ensures refused { result ≢ 0 → (table.new ≡ table.old) × (list.new ≡ list.old) × (popped.new ≡ popped.old) }
-    ensures why { result ≢ 0 → result ≢ 4 → result ≡ 5 }
-    ensures status { IsStatus result }
+    ensures { PopCall table.old table.new list.old list.new result Before popped.old popped.new }
 {
     let Some(member) = place_in(list.tail) else {
         return NULL;
@@ -306,18 +260,7 @@ pub fn insert_between(
     place: u32,
     behind: u32,
 ) -> u32
-    ensures inserted { (cut : Cut) (p : Place) → IsAfter cut (place_of before) → IsBefore cut (place_of behind) → place_of place ≡ Some p
-        → Inserted table.old table.new list.old list.new result cut p }
-    ensures free { (p : Place) → place_of place ≡ Some p → result ≡ 0 → FreeIn table.old p }
-    ensures none { place_of place ≡ None → result ≢ 0 }
-    ensures before { result ≡ 0 → StandsIn table.old (place_of before) }
-    ensures behind { result ≡ 0 → StandsIn table.old (place_of behind) }
-    ensures told { result ≡ 0 → TellsGap (table_of table.old) (ends_of list.old) (place_of before) (place_of behind) }
-    ensures words { result ≡ 0 → list.new ≡ words_of (ends_of list.new) }
-    ensures refused { result ≢ 0 → (table.new ≡ table.old) × (list.new ≡ list.old) }
-    ensures why { result ≢ 0 → result ≡ refusal (fault_at table.old (place_of before) ∷ fault_at table.old (place_of behind)
-        ∷ fault_of table.old (place_of place) ∷ []) }
-    ensures status { IsStatus result }
+    ensures { InsertCall table.old table.new list.old list.new result (place_of before) (place_of behind) (place_of place) }
 {
     let (front, new, back) = (place_of(before), place_of(place), place_of(behind));
     if !put(table, list, front, new, back) {
@@ -331,17 +274,7 @@ pub fn insert_between(
 /// Where the words tell of no such member, it returns [`BROKEN`].
 #[inline]
 pub fn remove(table: &mut [RawOne], list: &mut RawEnds, before: u32, at: u32) -> u32
-    ensures removed { (front back : List Place) (p : Place) → place_of before ≡ last front → place_of at ≡ Some p
-        → Removed table.old table.new list.old list.new result p front back }
-    ensures null { (result ≡ 4) ↔ (place_of at ≡ None) }
-    ensures stands { result ≡ 0 → StandsIn table.old (place_of at) }
-    ensures before { result ≡ 0 → StandsIn table.old (place_of before) }
-    ensures told { result ≡ 0 → TellsMemberBehind (table_of table.old) (ends_of list.old) (place_of before) (place_of at) }
-    ensures words { result ≡ 0 → list.new ≡ words_of (ends_of list.new) }
-    ensures refused { result ≢ 0 → (table.new ≡ table.old) × (list.new ≡ list.old) }
-    ensures why { result ≢ 0 → result ≢ 4
-        → result ≡ refusal (fault_at table.old (place_of at) ∷ fault_at table.old (place_of before) ∷ []) }
-    ensures status { IsStatus result }
+    ensures { RemoveCall table.old table.new list.old list.new result (place_of before) (place_of at) }
 {
     let Some(member) = place_of(at) else {
         return NULL;
@@ -358,19 +291,7 @@ pub fn remove(table: &mut [RawOne], list: &mut RawEnds, before: u32, at: u32) ->
 /// The place has to be one of the table, and not linked. Where the words tell of no such member, it returns [`BROKEN`].
 #[inline]
 pub fn replace(table: &mut [RawOne], list: &mut RawEnds, before: u32, at: u32, place: u32) -> u32
-    ensures replaced { (front back : List Place) (out p : Place) → place_of before ≡ last front → place_of at ≡ Some out
-        → place_of place ≡ Some p → Replaced table.old table.new list.old list.new result out front back p }
-    ensures free { (p : Place) → place_of place ≡ Some p → result ≡ 0 → FreeIn table.old p }
-    ensures none { place_of place ≡ None → result ≢ 0 }
-    ensures null { (result ≡ 4) ↔ (place_of at ≡ None) }
-    ensures stands { result ≡ 0 → StandsIn table.old (place_of at) }
-    ensures before { result ≡ 0 → StandsIn table.old (place_of before) }
-    ensures told { result ≡ 0 → TellsMemberBehind (table_of table.old) (ends_of list.old) (place_of before) (place_of at) }
-    ensures words { result ≡ 0 → list.new ≡ words_of (ends_of list.new) }
-    ensures refused { result ≢ 0 → (table.new ≡ table.old) × (list.new ≡ list.old) }
-    ensures why { result ≢ 0 → result ≢ 4 → result ≡ refusal (fault_at table.old (place_of at) ∷ fault_at table.old (place_of before)
-        ∷ fault_of table.old (place_of place) ∷ []) }
-    ensures status { IsStatus result }
+    ensures { ReplaceCall table.old table.new list.old list.new result (place_of before) (place_of at) (place_of place) }
 {
     let Some(member) = place_of(at) else {
         return NULL;
@@ -428,18 +349,7 @@ pub fn splice_between(
     given: &mut RawEnds,
     behind: u32,
 ) -> u32
-    ensures spliced { (cut : Cut) (t : List Place) → IsAfter cut (place_of before) → IsBefore cut (place_of behind)
-        → Spliced table.old table.new list.old list.new result given.old cut t }
-    ensures emptied { result ≡ 0 → given.new ≡ words_of no_members }
-    ensures before { result ≡ 0 → StandsIn table.old (place_of before) }
-    ensures behind { result ≡ 0 → StandsIn table.old (place_of behind) }
-    ensures told { result ≡ 0 → TellsGap (table_of table.old) (ends_of list.old) (place_of before) (place_of behind) }
-    ensures ends { result ≡ 0 → TellsEnds (table_of table.old) (ends_of given.old) }
-    ensures apart { result ≡ 0 → (p : Place) → (ends_of given.old).head ≡ Some p → (ends_of list.old).head ≢ Some p }
-    ensures words { result ≡ 0 → list.new ≡ words_of (ends_of list.new) }
-    ensures refused { result ≢ 0 → (table.new ≡ table.old) × (list.new ≡ list.old) × (given.new ≡ given.old) }
-    ensures why { result ≢ 0 → result ≡ refusal (fault_at table.old (place_of before) ∷ fault_at table.old (place_of behind) ∷ []) }
-    ensures status { IsStatus result }
+    ensures { SpliceCall table.old table.new list.old list.new result (place_of before) (place_of behind) given.old given.new }
 {
     if !splice(table, list, place_of(before), given, place_of(behind)) {
         return RawTable::new(table).refusal_at_both(before, behind);
@@ -452,16 +362,7 @@ pub fn splice_between(
 /// A list that begins with the same member, as the list itself, is [`BROKEN`], and so are two whose ends are none of the table.
 #[inline]
 pub fn append(table: &mut [RawOne], list: &mut RawEnds, given: &mut RawEnds) -> u32
-    ensures spliced { (s t : List Place) → Spliced table.old table.new list.old list.new result given.old (at_back s) t }
-    ensures emptied { result ≡ 0 → given.new ≡ words_of no_members }
-    ensures stands { result ≡ 0 → StandsIn table.old (ends_of list.old).tail }
-    ensures told { result ≡ 0 → TellsGap (table_of table.old) (ends_of list.old) (ends_of list.old).tail None }
-    ensures ends { result ≡ 0 → TellsEnds (table_of table.old) (ends_of given.old) }
-    ensures apart { result ≡ 0 → (p : Place) → (ends_of given.old).head ≡ Some p → (ends_of list.old).head ≢ Some p }
-    ensures words { result ≡ 0 → list.new ≡ words_of (ends_of list.new) }
-    ensures refused { result ≢ 0 → (table.new ≡ table.old) × (list.new ≡ list.old) × (given.new ≡ given.old) }
-    ensures why { result ≢ 0 → result ≡ 5 }
-    ensures status { IsStatus result }
+    ensures { AppendCall table.old table.new list.old list.new result given.old given.new }
 {
     let last = place_in(list.tail);
     if !splice(table, list, last, given, None) {
@@ -481,17 +382,7 @@ pub fn split_between(
     behind: u32,
     rest: &mut RawEnds,
 ) -> u32
-    ensures split { (cut : Cut) → IsAfter cut (place_of before) → IsBefore cut (place_of behind) → ends_of rest.old ≡ no_members
-        → Split table.old table.new list.old list.new result rest.new cut }
-    ensures empty { result ≡ 0 → ends_of rest.old ≡ no_members }
-    ensures before { result ≡ 0 → StandsIn table.old (place_of before) }
-    ensures behind { result ≡ 0 → StandsIn table.old (place_of behind) }
-    ensures told { result ≡ 0 → TellsGap (table_of table.old) (ends_of list.old) (place_of before) (place_of behind) }
-    ensures words { result ≡ 0 → list.new ≡ words_of (ends_of list.new) }
-    ensures rest { result ≡ 0 → rest.new ≡ words_of (ends_of rest.new) }
-    ensures refused { result ≢ 0 → (table.new ≡ table.old) × (list.new ≡ list.old) × (rest.new ≡ rest.old) }
-    ensures why { result ≢ 0 → result ≡ refusal (fault_at table.old (place_of before) ∷ fault_at table.old (place_of behind) ∷ []) }
-    ensures status { IsStatus result }
+    ensures { SplitCall table.old table.new list.old list.new result (place_of before) (place_of behind) rest.old rest.new }
 {
     let mut links = RawTable::new(table);
     let mut edited = list_of(&*list);
@@ -510,12 +401,7 @@ pub fn split_between(
 /// Where the places do not lead from the first member to the last, it returns [`BROKEN`].
 #[inline]
 pub fn clear(table: &mut [RawOne], list: &mut RawEnds) -> u32
-    ensures cleared { (s : List Place) → Cleared table.old table.new list.old list.new result s }
-    ensures ended { result ≡ 0 → (s : List Place) × LeadsThrough (table_of table.old) (ends_of list.old) s }
-    ensures emptied { result ≡ 0 → list.new ≡ words_of no_members }
-    ensures refused { result ≢ 0 → (table.new ≡ table.old) × (list.new ≡ list.old) }
-    ensures why { result ≢ 0 → result ≡ 5 }
-    ensures status { IsStatus result }
+    ensures { ClearCall table.old table.new list.old list.new result }
 {
     let mut links = RawTable::new(table);
     if !xor_list::clear(&mut links, &list_of(&*list)) {

@@ -11,38 +11,52 @@ use Rattle.ic_link_ops.proofs.XorLists.{joined_linked}
 use Rattle.ic_raw.proofs.Runs.{free_none, none_left, splices_none, run_viewed, run_back, why_back}
 use Rattle.ic_raw.proofs.fill_calls.fill_xor_list.Goals as goal
 
-pub returns-then-count-eq0-clause-filled : goal.returns-then-count-eq0-clause-filled
-returns-then-count-eq0-clause-filled c s shown free =
-    record { accepted = refl; done = splices_none (at_back s) shown (none_left is_linked_one _ c.args.first c.args.count free c.if-count-eq0.true) }
+pub returns-then-count-eq0 : goal.returns-then-count-eq0
+returns-then-count-eq0 c = record {
+  filled = λ s shown free. record { accepted = refl; done = splices_none (at_back s) shown (none_left is_linked_one _ c.args.first c.args.count free c.if-count-eq0.true) };
+  free = λ made. free_none c.if-count-eq0.true;
+  nothing = search rules;
+  told = search rules;
+  words = search rules;
+  refused = search rules;
+  why = search rules;
+  is_status = search rules;
+}
 
-pub returns-then-count-eq0-clause-free : goal.returns-then-count-eq0-clause-free
-returns-then-count-eq0-clause-free c made = free_none c.if-count-eq0.true
+pub returns-then-status-ne-OK : goal.returns-then-status-ne-OK
+returns-then-status-ne-OK c = record {
+  filled = λ s shown free.
+      let view = c.new-links.ensures.1 in
+      let seen : Shows (lent_table c.new-links.result) c.list_of-edited.result (join (at_back s)) = rw c.list_of-edited.ensures (viewed no_word kept c.new-links.result view shown) in
+      let gap = c.gap_behind_last_of_xor-gap.ensures.shown s seen in
+      absurd (c.if-status-ne-OK.true (c.fill-status.ensures.filled joined_linked (at_back s) (run_viewed is_linked_one no_word c.new-links.result view free) seen gap).0);
+  free = search rules;
+  nothing = search rules;
+  told = search rules;
+  words = search rules;
+  refused = search rules;
+  why = λ refused. why_back is_linked_one no_word c.new-links.result c.args.first c.args.count c.new-links.ensures.1 (c.fill-status.ensures.why refused);
+  is_status = search rules;
+}
 
-pub returns-then-status-ne-OK-clause-filled : goal.returns-then-status-ne-OK-clause-filled
-returns-then-status-ne-OK-clause-filled c s shown free =
-    let view = c.new-links.ensures.1 in
-    let seen : Shows (lent_table c.new-links.result) c.list_of-edited.result (join (at_back s)) = rw c.list_of-edited.ensures (viewed no_word kept c.new-links.result view shown) in
-    let gap = c.gap_behind_last_of_xor-gap.ensures.shown s seen in
-    absurd (c.if-status-ne-OK.true (c.fill-status.ensures.filled joined_linked (at_back s) (run_viewed is_linked_one no_word c.new-links.result view free) seen gap).0)
-
-pub returns-then-status-ne-OK-clause-why : goal.returns-then-status-ne-OK-clause-why
-returns-then-status-ne-OK-clause-why c refused = why_back is_linked_one no_word c.new-links.result c.args.first c.args.count c.new-links.ensures.1 (c.fill-status.ensures.why refused)
-
-pub returns-clause-filled : goal.returns-clause-filled
+pub returns : goal.returns
 unfolding run_viewed
-returns-clause-filled c s shown free =
-    let view = c.new-links.ensures.1 in
-    let seen : Shows (lent_table c.new-links.result) c.list_of-edited.result (join (at_back s)) = rw c.list_of-edited.ensures (viewed no_word kept c.new-links.result view shown) in
-    let gap = c.gap_behind_last_of_xor-gap.ensures.shown s seen in
-    let done = (c.fill-status.ensures.filled joined_linked (at_back s) (run_viewed is_linked_one no_word c.new-links.result view free) seen gap).1 in
-    record { accepted = refl; done = spliced_back no_word kept c.new-links.result c.fill-status.new.links view (search rules) (search rules) done }
-
-pub returns-clause-free : goal.returns-clause-free
-returns-clause-free c made = run_back is_linked_one no_word c.new-links.result c.new-links.ensures.1 (c.fill-status.ensures.free c.if-status-ne-OK.false)
-
-pub returns-clause-told : goal.returns-clause-told
-returns-clause-told c made some =
-    let gap = c.fill-status.ensures.gap c.if-status-ne-OK.false in
-    let there : TellsGap (lent_table c.new-links.result) (ends_of c.args.list.now) (ends_of c.args.list.now).tail None =
-    subst (λ (list : Ends). TellsGap (lent_table c.new-links.result) list list.tail None) c.list_of-edited.ensures (c.gap_behind_last_of_xor-gap.ensures.told gap.0 gap.1) in
-    subst (λ es. TellsGap (table_of es) (ends_of c.args.list.now) (ends_of c.args.list.now).tail None) c.new-links.ensures.1 there
+returns c = record {
+  filled = λ s shown free.
+      let view = c.new-links.ensures.1 in
+      let seen : Shows (lent_table c.new-links.result) c.list_of-edited.result (join (at_back s)) = rw c.list_of-edited.ensures (viewed no_word kept c.new-links.result view shown) in
+      let gap = c.gap_behind_last_of_xor-gap.ensures.shown s seen in
+      let done = (c.fill-status.ensures.filled joined_linked (at_back s) (run_viewed is_linked_one no_word c.new-links.result view free) seen gap).1 in
+      record { accepted = refl; done = spliced_back no_word kept c.new-links.result c.fill-status.new.links view (search rules) (search rules) done };
+  free = λ made. run_back is_linked_one no_word c.new-links.result c.new-links.ensures.1 (c.fill-status.ensures.free c.if-status-ne-OK.false);
+  nothing = search rules;
+  told = λ made some.
+      let gap = c.fill-status.ensures.gap c.if-status-ne-OK.false in
+      let there : TellsGap (lent_table c.new-links.result) (ends_of c.args.list.now) (ends_of c.args.list.now).tail None =
+      subst (λ (list : Ends). TellsGap (lent_table c.new-links.result) list list.tail None) c.list_of-edited.ensures (c.gap_behind_last_of_xor-gap.ensures.told gap.0 gap.1) in
+      subst (λ es. TellsGap (table_of es) (ends_of c.args.list.now) (ends_of c.args.list.now).tail None) c.new-links.ensures.1 there;
+  words = search rules;
+  refused = search rules;
+  why = search rules;
+  is_status = search rules;
+}

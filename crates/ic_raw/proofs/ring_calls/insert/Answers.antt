@@ -8,23 +8,38 @@ use Rattle.ic_raw.proofs.Rings.{circle_viewed, told_back, makes_back}
 use Rattle.ic_raw.proofs.Views.{free_viewed}
 use Rattle.ic_raw.proofs.ring_calls.insert.Goals as goal
 
-pub returns-then-not-insert-clause-inserted : goal.returns-then-not-insert-clause-inserted
-returns-then-not-insert-clause-inserted c h p r is_at is_place free circle =
-    let view = c.new-links.ensures.1 in
-    let same : c.in-Some.member ≡ h = some_same (sym c.in-Some.is ∙ c.place_of.ensures ∙ is_at) in
-    let here : IsCircle (lent_table c.new-links.result) (c.in-Some.member ∷ r) = rw same (circle_viewed c.new-links.result view circle) in
-    absurd (never c.if-not-insert.true (c.insert.ensures.inserted p r (c.place_of-2.ensures ∙ is_place) (free_viewed no_words c.new-links.result view free) here).0)
+pub returns-then-not-insert : goal.returns-then-not-insert
+returns-then-not-insert c = record {
+  inserted = λ h p r is_at is_place free circle.
+      let view = c.new-links.ensures.1 in
+      let same : c.in-Some.member ≡ h = some_same (sym c.in-Some.is ∙ c.place_of.ensures ∙ is_at) in
+      let here : IsCircle (lent_table c.new-links.result) (c.in-Some.member ∷ r) = rw same (circle_viewed c.new-links.result view circle) in
+      absurd (never c.if-not-insert.true (c.insert.ensures.inserted p r (c.place_of-2.ensures ∙ is_place) (free_viewed no_words c.new-links.result view free) here).0);
+  free = search rules;
+  no_place = search rules;
+  null = search rules;
+  told = search rules;
+  refused = search rules;
+  why = search rules;
+  is_status = search rules;
+}
 
-pub returns-clause-inserted : goal.returns-clause-inserted
-returns-clause-inserted c h p r is_at is_place free circle =
-    let view = c.new-links.ensures.1 in
-    let same : c.in-Some.member ≡ h = some_same (sym c.in-Some.is ∙ c.place_of.ensures ∙ is_at) in
-    let here : IsCircle (lent_table c.new-links.result) (c.in-Some.member ∷ r) = rw same (circle_viewed c.new-links.result view circle) in
-    let done = (c.insert.ensures.inserted p r (c.place_of-2.ensures ∙ is_place) (free_viewed no_words c.new-links.result view free) here).1 in
-    let named : Makes (lent_table c.new-links.result) (lent_table c.insert.new.links) (p ∷ h ∷ r) (put_in c.args.side h p r) = rw same at done in
-    record { accepted = refl; done = makes_back c.new-links.result c.insert.new.links view (search rules) named }
-
-pub returns-clause-told : goal.returns-clause-told
-returns-clause-told c h is_at made =
-    let told = c.insert.ensures.told c.if-not-insert.false in
-    (told.0, told_back c.new-links.result c.new-links.ensures.1 told.1, told.2 ∙ some_same (sym c.in-Some.is ∙ c.place_of.ensures ∙ is_at))
+pub returns : goal.returns
+returns c = record {
+  inserted = λ h p r is_at is_place free circle.
+      let view = c.new-links.ensures.1 in
+      let same : c.in-Some.member ≡ h = some_same (sym c.in-Some.is ∙ c.place_of.ensures ∙ is_at) in
+      let here : IsCircle (lent_table c.new-links.result) (c.in-Some.member ∷ r) = rw same (circle_viewed c.new-links.result view circle) in
+      let done = (c.insert.ensures.inserted p r (c.place_of-2.ensures ∙ is_place) (free_viewed no_words c.new-links.result view free) here).1 in
+      let named : Makes (lent_table c.new-links.result) (lent_table c.insert.new.links) (p ∷ h ∷ r) (put_in c.args.side h p r) = rw same at done in
+      record { accepted = refl; done = makes_back c.new-links.result c.insert.new.links view (search rules) named };
+  free = search rules;
+  no_place = search rules;
+  null = search rules;
+  told = λ h is_at made.
+      let told = c.insert.ensures.told c.if-not-insert.false in
+      (told.0, told_back c.new-links.result c.new-links.ensures.1 told.1, told.2 ∙ some_same (sym c.in-Some.is ∙ c.place_of.ensures ∙ is_at));
+  refused = search rules;
+  why = search rules;
+  is_status = search rules;
+}

@@ -4,40 +4,44 @@ use Rattle.ic_raw.specs.Doubly.{lent_table}
 use Rattle.ic_raw.specs.Ring.{IsCircle, Makes}
 use Rattle.ic_raw.specs.Words.{no_words, is_linked_two}
 use Rattle.ic_raw.proofs.Gaps.{never}
-use Rattle.ic_raw.proofs.Rings.{circle_viewed, told_back, makes_back}
+use Rattle.ic_raw.proofs.Rings.{circle_viewed, makes_back, amid_back}
 use Rattle.ic_raw.proofs.Views.{unlinked_back}
 use Rattle.ic_raw.proofs.ring_calls.remove.Goals as goal
 
-pub returns-then-not-remove-clause-removed : goal.returns-then-not-remove-clause-removed
-returns-then-not-remove-clause-removed c p r is_place circle =
-    let same : c.in-Some.member ≡ p = some_same (sym c.in-Some.is ∙ c.place_of.ensures ∙ is_place) in
-    let here : IsCircle (lent_table c.new-links.result) (c.in-Some.member ∷ r) = rw same (circle_viewed c.new-links.result c.new-links.ensures.1 circle) in
-    absurd (never c.if-not-remove.true (c.remove.ensures.removed r here).0)
+pub returns-then-not-remove : goal.returns-then-not-remove
+returns-then-not-remove c = record {
+  removed = λ p r is_place circle.
+      let same : c.in-Some.member ≡ p = some_same (sym c.in-Some.is ∙ c.place_of.ensures ∙ is_place) in
+      let here : IsCircle (lent_table c.new-links.result) (c.in-Some.member ∷ r) = rw same (circle_viewed c.new-links.result c.new-links.ensures.1 circle) in
+      absurd (never c.if-not-remove.true (c.remove.ensures.removed r here).0);
+  null = search rules;
+  told = search rules;
+  refused = search rules;
+  why = search rules;
+  is_status = search rules;
+}
 
-pub returns-clause-removed : goal.returns-clause-removed
-returns-clause-removed c p r is_place circle =
-    let view = c.new-links.ensures.1 in
-    let same : c.in-Some.member ≡ p = some_same (sym c.in-Some.is ∙ c.place_of.ensures ∙ is_place) in
-    let here : IsCircle (lent_table c.new-links.result) (c.in-Some.member ∷ r) = rw same (circle_viewed c.new-links.result view circle) in
-    let off = c.remove.ensures.unlinked c.if-not-remove.false in
-    let done = (c.remove.ensures.removed r here).1 in
-    let named : Makes (lent_table c.new-links.result) (lent_table c.remove.new.links) (p ∷ r) r = rw same at done in
-    record {
-      accepted = refl;
-      done = (
-        makes_back c.new-links.result c.remove.new.links view (search rules) named,
-        unlinked_back no_words is_linked_two c.remove.new.links p (search rules) (rw same at off),
-      );
-    }
-
-pub returns-clause-before : goal.returns-clause-before
-returns-clause-before c p is_place made =
-    let k = c.remove.ensures.before c.if-not-remove.false in
-    let same : c.in-Some.member ≡ p = some_same (sym c.in-Some.is ∙ c.place_of.ensures ∙ is_place) in
-    (k.0, rw same at (told_back c.new-links.result c.new-links.ensures.1 k.1))
-
-pub returns-clause-behind : goal.returns-clause-behind
-returns-clause-behind c p is_place made =
-    let k = c.remove.ensures.behind c.if-not-remove.false in
-    let same : c.in-Some.member ≡ p = some_same (sym c.in-Some.is ∙ c.place_of.ensures ∙ is_place) in
-    (k.0, rw same at (told_back c.new-links.result c.new-links.ensures.1 k.1))
+pub returns : goal.returns
+returns c = record {
+  removed = λ p r is_place circle.
+      let view = c.new-links.ensures.1 in
+      let same : c.in-Some.member ≡ p = some_same (sym c.in-Some.is ∙ c.place_of.ensures ∙ is_place) in
+      let here : IsCircle (lent_table c.new-links.result) (c.in-Some.member ∷ r) = rw same (circle_viewed c.new-links.result view circle) in
+      let off = c.remove.ensures.unlinked c.if-not-remove.false in
+      let done = (c.remove.ensures.removed r here).1 in
+      let named : Makes (lent_table c.new-links.result) (lent_table c.remove.new.links) (p ∷ r) r = rw same at done in
+      record {
+        accepted = refl;
+        done = (
+          makes_back c.new-links.result c.remove.new.links view (search rules) named,
+          unlinked_back no_words is_linked_two c.remove.new.links p (search rules) (rw same at off),
+        );
+      };
+  null = search rules;
+  told = λ p is made.
+      let same : c.in-Some.member ≡ p = some_same (sym c.in-Some.is ∙ c.place_of.ensures ∙ is) in
+      rw same at (amid_back c.new-links.result c.new-links.ensures.1 (c.remove.ensures.before c.if-not-remove.false) (c.remove.ensures.behind c.if-not-remove.false));
+  refused = search rules;
+  why = search rules;
+  is_status = search rules;
+}

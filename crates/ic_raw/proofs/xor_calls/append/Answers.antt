@@ -1,12 +1,32 @@
-use Rattle.std.proofs.Common.{refl, ap, ◌∙◌, append-nil}
+use Rattle.std.proofs.Common.{refl, ap, ◌∙◌, append-nil, rules}
 use Rattle.ic_link_ops.specs.Sequences.{at_back, last}
 use Rattle.ic_raw.proofs.Gaps.{never}
 use Rattle.ic_raw.proofs.xor_calls.append.Goals as goal
 
-pub returns-then-not-splice-clause-spliced : goal.returns-then-not-splice-clause-spliced
-returns-then-not-splice-clause-spliced c s t shown given apart =
-    absurd (never c.if-not-splice.true (c.splice.ensures.spliced (at_back s) t (c.place_in-last.ensures ∙ shown.tail ∙ ap last (append-nil s)) refl shown given apart).0)
+pub returns-then-not-splice : goal.returns-then-not-splice
+returns-then-not-splice c = record {
+  spliced = λ s t shown given apart. absurd (never c.if-not-splice.true (c.splice.ensures.spliced (at_back s) t (c.place_in-last.ensures ∙ shown.tail ∙ ap last (append-nil s)) refl shown given apart).0);
+  emptied = search rules;
+  stands = search rules;
+  told = search rules;
+  ends = search rules;
+  apart = search rules;
+  words = search rules;
+  refused = search rules;
+  why = search rules;
+  is_status = search rules;
+}
 
-pub returns-clause-spliced : goal.returns-clause-spliced
-returns-clause-spliced c s t shown given apart =
-    (c.splice.ensures.spliced (at_back s) t (c.place_in-last.ensures ∙ shown.tail ∙ ap last (append-nil s)) refl shown given apart).1 shown given apart
+pub returns : goal.returns
+returns c = record {
+  spliced = λ s t shown given apart. (c.splice.ensures.spliced (at_back s) t (c.place_in-last.ensures ∙ shown.tail ∙ ap last (append-nil s)) refl shown given apart).1 shown given apart;
+  emptied = search rules;
+  stands = search rules;
+  told = search rules;
+  ends = search rules;
+  apart = search rules;
+  words = search rules;
+  refused = search rules;
+  why = search rules;
+  is_status = search rules;
+}

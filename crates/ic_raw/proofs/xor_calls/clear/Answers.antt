@@ -9,19 +9,29 @@ use Rattle.ic_raw.proofs.Lists.{kept}
 use Rattle.ic_raw.proofs.Xor.{leads_back}
 use Rattle.ic_raw.proofs.xor_calls.clear.Goals as goal
 
-pub returns-then-not-clear-clause-cleared : goal.returns-then-not-clear-clause-cleared
-returns-then-not-clear-clause-cleared c s shown =
-    absurd (never c.if-not-clear.true (c.clear.ensures.cleared s (rw c.list_of.ensures (viewed no_word kept c.new-links.result c.new-links.ensures.1 shown))).0)
+pub returns-then-not-clear : goal.returns-then-not-clear
+returns-then-not-clear c = record {
+  cleared = λ s shown. absurd (never c.if-not-clear.true (c.clear.ensures.cleared s (rw c.list_of.ensures (viewed no_word kept c.new-links.result c.new-links.ensures.1 shown))).0);
+  ended = search rules;
+  emptied = search rules;
+  refused = search rules;
+  why = search rules;
+  is_status = search rules;
+}
 
-pub returns-clause-cleared : goal.returns-clause-cleared
-returns-clause-cleared c s shown =
-    let done = (c.clear.ensures.cleared s (rw c.list_of.ensures (viewed no_word kept c.new-links.result c.new-links.ensures.1 shown))).1 in
-    record { accepted = refl; done = clears_back no_word is_linked_one c.new-links.result c.clear.new.links c.new-links.ensures.1 (search rules) done }
-
-pub returns-clause-ended : goal.returns-clause-ended
-returns-clause-ended c made =
-    let ended = c.clear.ensures.ended c.if-not-clear.false in (
-      ended.0,
-      leads_back c.new-links.result (ends_of c.args.list.now) ended.0 c.new-links.ensures.1
-          (subst (λ list. LeadsThrough (lent_table c.new-links.result) list ended.0) c.list_of.ensures ended.1),
-    )
+pub returns : goal.returns
+returns c = record {
+  cleared = λ s shown.
+      let done = (c.clear.ensures.cleared s (rw c.list_of.ensures (viewed no_word kept c.new-links.result c.new-links.ensures.1 shown))).1 in
+      record { accepted = refl; done = clears_back no_word is_linked_one c.new-links.result c.clear.new.links c.new-links.ensures.1 (search rules) done };
+  ended = λ made.
+      let ended = c.clear.ensures.ended c.if-not-clear.false in (
+        ended.0,
+        leads_back c.new-links.result (ends_of c.args.list.now) ended.0 c.new-links.ensures.1
+            (subst (λ list. LeadsThrough (lent_table c.new-links.result) list ended.0) c.list_of.ensures ended.1),
+      );
+  emptied = search rules;
+  refused = search rules;
+  why = search rules;
+  is_status = search rules;
+}

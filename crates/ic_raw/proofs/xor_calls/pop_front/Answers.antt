@@ -1,5 +1,6 @@
 use Rattle.std.proofs.Common.{◌∷◌, refl, sym, ap, ◌∙◌, subst, rules}
 use Rattle.ic_link_ops.specs.Chains.{Ends}
+use Rattle.ic_link_ops.proofs.SequenceLemmas.{some_same}
 use Rattle.ic_raw.specs.Words.{no_word, is_linked_one, HasNumber}
 use Rattle.ic_raw.specs.Singly.{lent_table}
 use Rattle.ic_raw.specs.Xor.{Shows}
@@ -7,24 +8,34 @@ use Rattle.ic_raw.proofs.Views.{viewed, removed_back, unlinked_back}
 use Rattle.ic_raw.proofs.Lists.{kept}
 use Rattle.ic_raw.proofs.xor_calls.pop_front.Goals as goal
 
-pub returns-in-Some-clause-popped : goal.returns-in-Some-clause-popped
-returns-in-Some-clause-popped c s p shown =
-    let view = c.new-links.ensures.1 in
-    let seen : Shows (lent_table c.new-links.result) c.list_of-edited.result (p ∷ s) = rw c.list_of-edited.ensures (viewed no_word kept c.new-links.result view shown) in
-    let removed = c.pop_before_others.ensures.removed p _ s c.in-Some.is seen in
-    let head = c.first.ensures in
-    let tail = sym (c.pop_before_others.ensures.tail p _ s c.in-Some.is seen ∙ ap (λ (e : Ends). e.tail) c.list_of-edited.ensures) in
-    record {
-      accepted = refl;
-      done = (
-        removed_back no_word kept c.new-links.result c.pop_before_others.new.links view (search rules)
-            (c.set_first.ensures.set ∙ (λ k. record { head = head k; tail = tail k })) removed.1,
-        unlinked_back no_word is_linked_one c.pop_before_others.new.links p (search rules) removed.2,
-        subst (λ q. HasNumber q c.number_of.result) removed.0 c.number_of.ensures,
-      );
-    }
-
-pub returns-in-Some-clause-told : goal.returns-in-Some-clause-told
-returns-in-Some-clause-told c made p is =
-    let first = sym (c.pop_before_others.ensures.first _ c.in-Some.is) ∙ ap (λ (e : Ends). e.head) c.list_of-edited.ensures ∙ is in
-    rw (← c.new-links.ensures.1) (rw c.list_of-edited.ensures at (c.pop_before_others.ensures.told _ c.in-Some.is p first))
+pub returns-in-Some : goal.returns-in-Some
+returns-in-Some c = record {
+  taken = λ front s p is shown'.
+      let shown = rw is at shown' in
+      let view = c.new-links.ensures.1 in
+      let seen : Shows (lent_table c.new-links.result) c.list_of-edited.result (p ∷ s) = rw c.list_of-edited.ensures (viewed no_word kept c.new-links.result view shown) in
+      let removed = c.pop_before_others.ensures.removed p _ s c.in-Some.is seen in
+      let head = c.first.ensures in
+      let tail = sym (c.pop_before_others.ensures.tail p _ s c.in-Some.is seen ∙ ap (λ (e : Ends). e.tail) c.list_of-edited.ensures) in
+      rw is (record {
+        accepted = refl;
+        done = (
+          removed_back no_word kept c.new-links.result c.pop_before_others.new.links view (search rules)
+              (c.set_first.ensures.set ∙ (λ k. record { head = head k; tail = tail k })) removed.1,
+          unlinked_back no_word is_linked_one c.pop_before_others.new.links p (search rules) removed.2,
+          subst (λ q. HasNumber q c.number_of.result) removed.0 c.number_of.ensures,
+        );
+      });
+  handed = λ p is made.
+      let first = sym (ap (λ (e : Ends). e.head) c.list_of-edited.ensures) ∙ c.pop_before_others.ensures.first _ c.in-Some.is in
+      subst (λ q. HasNumber q c.number_of.result) (some_same (sym first ∙ is)) c.number_of.ensures;
+  null = search rules;
+  stands = search rules;
+  told = λ made p is.
+      let first = sym (c.pop_before_others.ensures.first _ c.in-Some.is) ∙ ap (λ (e : Ends). e.head) c.list_of-edited.ensures ∙ is in
+      rw (← c.new-links.ensures.1) (rw c.list_of-edited.ensures at (c.pop_before_others.ensures.told _ c.in-Some.is p first));
+  words = search rules;
+  refused = search rules;
+  why = search rules;
+  is_status = search rules;
+}

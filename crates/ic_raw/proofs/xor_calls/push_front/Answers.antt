@@ -1,29 +1,28 @@
-use Rattle.std.proofs.Common.{◌≡◌, None, refl, ◌∙◌}
-use Rattle.ic_link_ops.specs.Sequences.{at_front}
+use Rattle.std.proofs.Common.{◌≡◌, None, refl, ◌∙◌, rules}
 use Rattle.ic_raw.specs.Words.{place_in}
 use Rattle.ic_raw.proofs.Entries.{named}
 use Rattle.ic_raw.proofs.xor_calls.push_front.Goals as goal
 use Rattle.ic_raw.proofs.xor_calls.push_front.Goals.{else-has_neighbor-via-then-has_neighbor+else-put, else-has_neighbor-via-else-has_neighbor}
 
-pub returns-then-put-clause-inserted : goal.returns-then-put-clause-inserted
-returns-then-put-clause-inserted c = rw (← c.has_neighbor.ensures.kept) (λ s p is shown free.
-    (c.put.ensures.inserted (at_front s) p refl (c.place_in-first.ensures ∙ shown.head) (c.place_of.ensures ∙ is) shown free).1 shown free)
+pub returns-then-put : goal.returns-then-put
+returns-then-put c = record {
+  inserted = rw (← c.has_neighbor.ensures.kept) (λ cut p after behind is shown free.
+      (c.put.ensures.inserted cut p after (c.place_in-first.ensures ∙ behind) (c.place_of.ensures ∙ is) shown free).1 shown free);
+  free = search rules;
+  no_place = search rules;
+  told = search rules;
+  words = search rules;
+  refused = search rules;
+  why = search rules;
+  is_status = search rules;
+}
 
-pub returns-clause-inserted : goal.returns-clause-inserted
-returns-clause-inserted c s p is shown free =
-    let kept = c.has_neighbor.ensures.kept in
-    let same : (c.else-has_neighbor.table ≡ c.args.table.now) × (c.else-has_neighbor.list ≡ c.args.list.now) = elim c.else-has_neighbor.branch [
-      | else-has_neighbor-via-then-has_neighbor+else-put w ↦ (w.table-is ∙ (w.put.ensures.refused w.if-put.false).0 ∙ kept, w.list-is ∙ (w.put.ensures.refused w.if-put.false).1)
-      | else-has_neighbor-via-else-has_neighbor w ↦ (w.table-is ∙ kept, w.list-is)
-    ] in
-    rw (← same.0) (c.put_any.ensures.inserted (at_front s) p (named 0 None refl) shown.head is (rw (same.0, same.1) shown) (rw same.0 free))
-
-pub returns-clause-told : goal.returns-clause-told
-returns-clause-told c made =
+pub returns : goal.returns
+returns c =
     let none : place_in 0 ≡ None = named 0 None refl in
     let kept = c.has_neighbor.ensures.kept in
     let same : (c.else-has_neighbor.table ≡ c.args.table.now) × (c.else-has_neighbor.list ≡ c.args.list.now) = elim c.else-has_neighbor.branch [
       | else-has_neighbor-via-then-has_neighbor+else-put w ↦ (w.table-is ∙ (w.put.ensures.refused w.if-put.false).0 ∙ kept, w.list-is ∙ (w.put.ensures.refused w.if-put.false).1)
       | else-has_neighbor-via-else-has_neighbor w ↦ (w.table-is ∙ kept, w.list-is)
     ] in
-    rw (same.0, same.1, none) at (c.put_any.ensures.told made)
+    rw (same.0, same.1, none) at c.put_any.ensures

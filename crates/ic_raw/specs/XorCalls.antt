@@ -1,0 +1,149 @@
+-- WHAT THE CALLS OF XOR LINKED LISTS DO: each record is the whole contract of a call. It says first what the call does to a list that the table
+-- shows, and then what holds whatever the words say: what an accepted call has found before it edits, and what a refused one leaves, and why.
+use Rattle.std.specs.Prelude.{◌≡◌, ◌≢◌, ◌↔◌, ◌∷◌, ℕ, List, [], Option, Some, None}
+use Rattle.ic_unsafe_ref.specs.declared.place.Place.{Place}
+use Rattle.ic_link_ops.specs.Sequences.{Cut, at_back, last, IsAfter, IsBefore}
+use Rattle.ic_link_ops.specs.Chains.{no_members}
+use Rattle.ic_raw.specs.declared.gap.Side.{Side}
+use Rattle.ic_raw.specs.declared.gap.Side.TheVariants.{After, Before}
+use Rattle.ic_raw.specs.declared.status.TheConstants.{OK, NULL, BROKEN}
+use Rattle.ic_raw.specs.declared.words.RawEnds.{RawEnds}
+use Rattle.ic_raw.specs.declared.words.RawOne.{RawOne}
+use Rattle.ic_raw.specs.Answers.{IsStatus, refusal}
+use Rattle.ic_raw.specs.Doubly.{IsEnd, IsWritten, end_on, ends_of, words_of}
+use Rattle.ic_raw.specs.Fills.{run_faults}
+use Rattle.ic_raw.specs.Singly.{IsFreeRunIn, table_of}
+use Rattle.ic_raw.specs.Words.{HasNumber}
+use Rattle.ic_raw.specs.Xor.{FreeIn, StandsIn, TellsGap, TellsMemberBehind, TellsMemberBefore, TellsEnds, LeadsThrough, fault_at, fault_of}
+use Rattle.ic_raw.specs.Xor.{Inserted, Removed, Popped, Replaced, Spliced, Split, Cleared, Filled}
+
+-- `old`, `new`: the words of the table before the call and after it. `list`, `list'`: those of the list. `status`: what the call returns
+module _ (old new : List RawOne) (list list' : RawEnds) (status : ℕ) where
+  -- A PLACE GOES IN BETWEEN two neighbors, none beyond an end
+  pub record InsertCall (before behind place : Option Place) : Type 0 where
+    pub inserted : (cut : Cut) (p : Place) → IsAfter cut before → IsBefore cut behind → place ≡ Some p → Inserted old new list list' status cut p
+    pub free : (p : Place) → place ≡ Some p → status ≡ OK → FreeIn old p
+    pub no_place : place ≡ None → status ≢ OK
+    pub stands_before : status ≡ OK → StandsIn old before
+    pub stands_behind : status ≡ OK → StandsIn old behind
+    pub told : status ≡ OK → TellsGap (table_of old) (ends_of list) before behind
+    pub words : status ≡ OK → IsWritten list'
+    pub refused : status ≢ OK → (new ≡ old) × (list' ≡ list)
+    pub why : status ≢ OK → status ≡ refusal (fault_at old before ∷ fault_at old behind ∷ fault_of old place ∷ [])
+    pub is_status : IsStatus status
+
+  -- A PLACE GOES IN AT AN END, between none and the end that the list names
+  pub record PushCall (before behind place : Option Place) : Type 0 where
+    pub inserted : (cut : Cut) (p : Place) → IsAfter cut before → IsBefore cut behind → place ≡ Some p → Inserted old new list list' status cut p
+    pub free : (p : Place) → place ≡ Some p → status ≡ OK → FreeIn old p
+    pub no_place : place ≡ None → status ≢ OK
+    pub told : status ≡ OK → TellsGap (table_of old) (ends_of list) before behind
+    pub words : status ≡ OK → IsWritten list'
+    pub refused : status ≢ OK → (new ≡ old) × (list' ≡ list)
+    pub why : status ≢ OK → status ≡ refusal (fault_of old place ∷ [])
+    pub is_status : IsStatus status
+
+  -- the words tell of the member at an end: the first one, or on the side Before the last one
+  abbrev pub TellsEndOn : Side → Type 0
+  TellsEndOn After = TellsMemberBehind (table_of old) (ends_of list) None (ends_of list).head
+  TellsEndOn Before = TellsMemberBefore (table_of old) (ends_of list) None (ends_of list).tail
+
+  -- THE FIRST MEMBER LEAVES, on the side Before the last one, and its number is handed out, in words that said `was`
+  pub record PopCall (side : Side) (was popped : ℕ) : Type 0 where
+    pub taken : (front back : List Place) (p : Place) → IsEnd side front back → Popped old new list list' status popped p front back
+    pub handed : (p : Place) → end_on side (ends_of list) ≡ Some p → status ≡ OK → HasNumber p popped
+    pub null : (status ≡ NULL) ↔ (end_on side (ends_of list) ≡ None)
+    pub stands : status ≡ OK → StandsIn old (end_on side (ends_of list))
+    pub told : status ≡ OK → TellsEndOn side
+    pub words : IsWritten list → IsWritten list'
+    pub refused : status ≢ OK → (new ≡ old) × (list' ≡ list) × (popped ≡ was)
+    pub why : status ≢ OK → status ≢ NULL → status ≡ BROKEN
+    pub is_status : IsStatus status
+
+  -- THE MEMBER `at` LEAVES, in front of which `before` stands
+  pub record RemoveCall (before at : Option Place) : Type 0 where
+    pub removed : (front back : List Place) (p : Place) → before ≡ last front → at ≡ Some p → Removed old new list list' status p front back
+    pub null : (status ≡ NULL) ↔ (at ≡ None)
+    pub stands : status ≡ OK → StandsIn old at
+    pub stands_before : status ≡ OK → StandsIn old before
+    pub told : status ≡ OK → TellsMemberBehind (table_of old) (ends_of list) before at
+    pub words : status ≡ OK → IsWritten list'
+    pub refused : status ≢ OK → (new ≡ old) × (list' ≡ list)
+    pub why : status ≢ OK → status ≢ NULL → status ≡ refusal (fault_at old at ∷ fault_at old before ∷ [])
+    pub is_status : IsStatus status
+
+  -- A PLACE STANDS WHERE THE MEMBER `at` DID, which leaves, and in front of which `before` stands
+  pub record ReplaceCall (before at place : Option Place) : Type 0 where
+    pub replaced : (front back : List Place) (out p : Place) → before ≡ last front → at ≡ Some out → place ≡ Some p
+        → Replaced old new list list' status out front back p
+    pub free : (p : Place) → place ≡ Some p → status ≡ OK → FreeIn old p
+    pub no_place : place ≡ None → status ≢ OK
+    pub null : (status ≡ NULL) ↔ (at ≡ None)
+    pub stands : status ≡ OK → StandsIn old at
+    pub stands_before : status ≡ OK → StandsIn old before
+    pub told : status ≡ OK → TellsMemberBehind (table_of old) (ends_of list) before at
+    pub words : status ≡ OK → IsWritten list'
+    pub refused : status ≢ OK → (new ≡ old) × (list' ≡ list)
+    pub why : status ≢ OK → status ≢ NULL → status ≡ refusal (fault_at old at ∷ fault_at old before ∷ fault_of old place ∷ [])
+    pub is_status : IsStatus status
+
+  -- ALL MEMBERS OF A SECOND LIST GO IN BETWEEN two neighbors, none beyond an end. `given`, `given'`: its words
+  pub record SpliceCall (before behind : Option Place) (given given' : RawEnds) : Type 0 where
+    pub spliced : (cut : Cut) (t : List Place) → IsAfter cut before → IsBefore cut behind → Spliced old new list list' status given cut t
+    pub emptied : status ≡ OK → given' ≡ words_of no_members
+    pub stands_before : status ≡ OK → StandsIn old before
+    pub stands_behind : status ≡ OK → StandsIn old behind
+    pub told : status ≡ OK → TellsGap (table_of old) (ends_of list) before behind
+    pub ends : status ≡ OK → TellsEnds (table_of old) (ends_of given)
+    pub apart : status ≡ OK → (p : Place) → (ends_of given).head ≡ Some p → (ends_of list).head ≢ Some p
+    pub words : status ≡ OK → IsWritten list'
+    pub refused : status ≢ OK → (new ≡ old) × (list' ≡ list) × (given' ≡ given)
+    pub why : status ≢ OK → status ≡ refusal (fault_at old before ∷ fault_at old behind ∷ [])
+    pub is_status : IsStatus status
+
+  -- ALL MEMBERS OF A SECOND LIST GO IN BEHIND ALL
+  pub record AppendCall (given given' : RawEnds) : Type 0 where
+    pub spliced : (s t : List Place) → Spliced old new list list' status given (at_back s) t
+    pub emptied : status ≡ OK → given' ≡ words_of no_members
+    pub stands : status ≡ OK → StandsIn old (ends_of list).tail
+    pub told : status ≡ OK → TellsGap (table_of old) (ends_of list) (ends_of list).tail None
+    pub ends : status ≡ OK → TellsEnds (table_of old) (ends_of given)
+    pub apart : status ≡ OK → (p : Place) → (ends_of given).head ≡ Some p → (ends_of list).head ≢ Some p
+    pub words : status ≡ OK → IsWritten list'
+    pub refused : status ≢ OK → (new ≡ old) × (list' ≡ list) × (given' ≡ given)
+    pub why : status ≢ OK → status ≡ BROKEN
+    pub is_status : IsStatus status
+
+  -- THE LIST IS CUT BETWEEN two neighbors, none beyond an end, and what stands behind the cut handed out, in words that say no member. `rest`,
+  -- `rest'`: these words
+  pub record SplitCall (before behind : Option Place) (rest rest' : RawEnds) : Type 0 where
+    pub split : (cut : Cut) → IsAfter cut before → IsBefore cut behind → ends_of rest ≡ no_members → Split old new list list' status rest' cut
+    pub empty : status ≡ OK → ends_of rest ≡ no_members
+    pub stands_before : status ≡ OK → StandsIn old before
+    pub stands_behind : status ≡ OK → StandsIn old behind
+    pub told : status ≡ OK → TellsGap (table_of old) (ends_of list) before behind
+    pub words : status ≡ OK → IsWritten list'
+    pub rest_words : status ≡ OK → IsWritten rest'
+    pub refused : status ≢ OK → (new ≡ old) × (list' ≡ list) × (rest' ≡ rest)
+    pub why : status ≢ OK → status ≡ refusal (fault_at old before ∷ fault_at old behind ∷ [])
+    pub is_status : IsStatus status
+
+  -- A RUN OF `count` PLACES GOES IN BEHIND ALL MEMBERS
+  pub record FillCall (first count : ℕ) : Type 0 where
+    pub filled : (s : List Place) → Filled old new list list' status (at_back s) first count
+    pub free : status ≡ OK → IsFreeRunIn old first count
+    pub nothing : count ≡ 0 → (status ≡ OK) × (new ≡ old) × (list' ≡ list)
+    pub told : status ≡ OK → count ≢ 0 → TellsGap (table_of old) (ends_of list) (ends_of list).tail None
+    pub words : status ≡ OK → count ≢ 0 → IsWritten list'
+    pub refused : status ≢ OK → (new ≡ old) × (list' ≡ list)
+    pub why : status ≢ OK → status ≡ refusal (run_faults (fault_of old) first count)
+    pub is_status : IsStatus status
+
+  -- ALL MEMBERS LEAVE
+  pub record ClearCall : Type 0 where
+    pub cleared : (s : List Place) → Cleared old new list list' status s
+    pub ended : status ≡ OK → (s : List Place) × LeadsThrough (table_of old) (ends_of list) s
+    pub emptied : status ≡ OK → list' ≡ words_of no_members
+    pub refused : status ≢ OK → (new ≡ old) × (list' ≡ list)
+    pub why : status ≢ OK → status ≡ BROKEN
+    pub is_status : IsStatus status
