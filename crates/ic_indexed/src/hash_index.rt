@@ -8,41 +8,49 @@ ghost use Rattle.ic_link_ops.specs.Readings.{successor_of};
 ghost use Rattle.ic_indexed.specs.HashIndex.{mixed, HoldsAll, IsFewInChain};
 ghost use Rattle.ic_indexed.specs.HashLaws.{hash_grown, hash_alike};
 
-use crate::{HasKey, Index, LinkWidth, Wide};
+use crate::{HasKey, Index};
 use ic_hash_table::{Buckets, HashAdapter, HashTable, KeyProbe};
-use ic_link_ops::PlainTable;
+use ic_link_ops::linked_list::TwoWords;
+use ic_link_ops::singly_linked_list::Singly;
+use ic_link_ops::{NextWord, OneNarrowWord, OneWord, PlainTable, PrevPlace, TwoNarrowWords};
 use ic_unsafe_ref::{Objects, Place, UnsafeRef};
 use std::alloc::{AllocError, Allocator};
 use std::marker::PhantomData;
 
 /// The hashes of keys: the upper half of the key times 2^64 over the golden ratio, so that keys in a row are in different chains.
 ///
-/// Who chooses the keys can choose them so that all are in one chain. `W`: how wide the words of the links are.
-pub struct ByHash<T, W = Wide> {
+/// Who chooses the keys can choose them so that all are in one chain. `W`: the words of the hash table's links, `O`: those of
+/// the links of the order beside it.
+pub struct ByHash<T, W = OneWord<Singly>, O = TwoWords> {
     of: PhantomData<T>,
-    width: PhantomData<W>,
+    words: PhantomData<W>,
+    order: PhantomData<O>,
 }
+
+/// The same over links of 4-byte words: half the memory for links, and 536,870,911 places at most.
+pub type NarrowByHash<T> = ByHash<T, OneNarrowWord<Singly>, TwoNarrowWords>;
 
 impl<T> ByHash<T> {
     /// The hashes of keys. O(1).
     #[inline]
     pub fn new() -> ByHash<T> {
-        ByHash::with_width()
+        ByHash::with_words()
     }
 }
 
-impl<T, W> ByHash<T, W> {
-    /// The hashes of keys, for links of this width. O(1).
+impl<T, W, O> ByHash<T, W, O> {
+    /// The hashes of keys, for links of these words. O(1).
     #[inline]
-    pub fn with_width() -> ByHash<T, W> {
+    pub fn with_words() -> ByHash<T, W, O> {
         ByHash {
             of: PhantomData,
-            width: PhantomData,
+            words: PhantomData,
+            order: PhantomData,
         }
     }
 }
 
-impl<T, W> Clone for ByHash<T, W> {
+impl<T, W, O> Clone for ByHash<T, W, O> {
     ghost use Rattle.std.specs.Prelude.{⊤};
 
     ghost is_clone = { λ a copy. copy ≡ a };
@@ -54,9 +62,9 @@ impl<T, W> Clone for ByHash<T, W> {
     }
 }
 
-impl<T, W> Copy for ByHash<T, W> {}
+impl<T, W, O> Copy for ByHash<T, W, O> {}
 
-impl<T: HasKey, W> HashAdapter for ByHash<T, W> {
+impl<T: HasKey, W, O> HashAdapter for ByHash<T, W, O> {
     type Value = T;
 
     type Key = u64;
@@ -78,13 +86,13 @@ impl<T: HasKey, W> HashAdapter for ByHash<T, W> {
     ghost equal_alike = { λ a k l same. ap mixed (eqb-true k l same) };
 }
 
-impl<T: HasKey, W: LinkWidth, B: Buckets + Drop, A: Allocator> Index<T, A>
-    for HashTable<ByHash<T, W>, B> {
-    type Links = PlainTable<W::One, A>;
+impl<T: HasKey, W: NextWord, O: PrevPlace, B: Buckets + Drop, A: Allocator> Index<T, A>
+    for HashTable<ByHash<T, W, O>, B> {
+    type Links = PlainTable<W, A>;
 
-    type Order = W::Two;
+    type Order = O;
 
-    ghost Has = { λ hashed links objects. HoldsAll (successor_of W.One.next_word W.One.is_linked) (linked_by W.One.is_linked) (number (λ a. T.key_of) (λ a. mixed)) B.fronts (table W.One.width W.One.unlinked links) hashed objects };
+    ghost Has = { λ hashed links objects. HoldsAll (successor_of W.next_word W.is_linked) (linked_by W.is_linked) (number (λ a. T.key_of) (λ a. mixed)) B.fronts (table W.width W.unlinked links) hashed objects };
 
     ghost parts = { λ hashed. (slots_of hashed).used };
 
@@ -92,7 +100,7 @@ impl<T: HasKey, W: LinkWidth, B: Buckets + Drop, A: Allocator> Index<T, A>
 
     fn find_key(
         &self,
-        links: &PlainTable<W::One, A>,
+        links: &PlainTable<W, A>,
         objects: &Objects<T, A>,
         key: u64,
     ) -> (Option<Place>, u64) {
@@ -105,7 +113,7 @@ impl<T: HasKey, W: LinkWidth, B: Buckets + Drop, A: Allocator> Index<T, A>
 
     fn insert_place(
         &mut self,
-        links: &mut PlainTable<W::One, A>,
+        links: &mut PlainTable<W, A>,
         objects: &Objects<T, A>,
         place: Place,
     ) {
@@ -114,7 +122,7 @@ impl<T: HasKey, W: LinkWidth, B: Buckets + Drop, A: Allocator> Index<T, A>
 
     fn remove_place(
         &mut self,
-        links: &mut PlainTable<W::One, A>,
+        links: &mut PlainTable<W, A>,
         objects: &Objects<T, A>,
         place: Place,
     ) {

@@ -19,10 +19,10 @@ ghost use Rattle.ic_indexed.specs.Indexed.{order_in, values_of};
 
 use crate::place::place;
 use crate::renew::renew;
-use crate::{ByHash, ByKey, HasKey, Index, LinkWidth, Narrow};
+use crate::{ByHash, ByKey, HasKey, Index, NarrowByHash, NarrowByKey};
 use ic_container::{Iter, lists};
 use ic_hash_table::{Buckets, HashTable};
-use ic_link_ops::{CoverError, PlainTable};
+use ic_link_ops::{CoverError, NextWord, NodeWords, PlainTable, PrevPlace};
 use ic_linked_list::LinkedList;
 use ic_pool::{PlaceError, Pool, Tables};
 use ic_rbtree::RBTree;
@@ -48,10 +48,10 @@ pub type TreeIndexed<T, A = Global> = Indexed<T, RBTree<ByKey<T>>, A>;
 pub type HashIndexed<T, B, A = Global> = Indexed<T, HashTable<ByHash<T>, B>, A>;
 
 /// The same as `TreeIndexed` over links of 4-byte words: half the memory for links, and 536,870,911 places at most.
-pub type NarrowTreeIndexed<T, A = Global> = Indexed<T, RBTree<ByKey<T, Narrow>>, A>;
+pub type NarrowTreeIndexed<T, A = Global> = Indexed<T, RBTree<NarrowByKey<T>>, A>;
 
 /// The same as `HashIndexed` over links of 4-byte words.
-pub type NarrowHashIndexed<T, B, A = Global> = Indexed<T, HashTable<ByHash<T, Narrow>, B>, A>;
+pub type NarrowHashIndexed<T, B, A = Global> = Indexed<T, HashTable<NarrowByHash<T>, B>, A>;
 
 impl<T: HasKey, I: Index<T, A>, A: Allocator> Model for Indexed<T, I, A> {
     ghost use Rattle.ic_link_ops.specs.PlainTables.{linked_by, table};
@@ -80,17 +80,21 @@ impl<T: HasKey, A: Allocator> Indexed<T, RBTree<ByKey<T>>, A> {
     }
 }
 
-impl<T: HasKey, W: LinkWidth, A: Allocator> Indexed<T, RBTree<ByKey<T, W>>, A> {
+impl<T: HasKey, W: NodeWords, O: PrevPlace, A: Allocator> Indexed<T, RBTree<ByKey<T, W, O>>, A> {
     /// No objects, with a tree over links of either width as the index: `NarrowTreeIndexed::by_tree(rt.alloc())`. It takes no memory.
-    pub fn by_tree(alloc: A) -> Indexed<T, RBTree<ByKey<T, W>>, A>
+    pub fn by_tree(alloc: A) -> Indexed<T, RBTree<ByKey<T, W, O>>, A>
     where
         A: Copy,
         ensures empty { values_of result ≡ [] }
         ensures vacant { (place : Place) → object_at result.values place ≡ None }
         ensures parts { result.parts ≡ 1 }
     {
-        let tree = RBTree::new(ByKey::with_width());
-        Indexed::with_index(alloc, tree, PlainTable::new(alloc))
+        let links = (PlainTable::new(alloc), PlainTable::new(alloc));
+        Indexed {
+            pool: Pool::new(alloc, links),
+            index: RBTree::new(ByKey::with_words()),
+            in_order: LinkedList::new(),
+        }
     }
 }
 
@@ -113,13 +117,13 @@ impl<T: HasKey, B: Buckets + Drop, A: Allocator> Indexed<T, HashTable<ByHash<T>,
     }
 }
 
-impl<T: HasKey, W: LinkWidth, B: Buckets + Drop, A: Allocator> Indexed<
+impl<T: HasKey, W: NextWord, O: PrevPlace, B: Buckets + Drop, A: Allocator> Indexed<
     T,
-    HashTable<ByHash<T, W>, B>,
+    HashTable<ByHash<T, W, O>, B>,
     A,
 > {
     /// No objects, with a hash table over these buckets and over links of either width as the index. Else as `with_buckets`.
-    pub fn by_hash(alloc: A, buckets: B) -> Indexed<T, HashTable<ByHash<T, W>, B>, A>
+    pub fn by_hash(alloc: A, buckets: B) -> Indexed<T, HashTable<ByHash<T, W, O>, B>, A>
     where
         A: Copy,
         requires some { 1 ≤ length (B.fronts buckets) }
@@ -129,8 +133,12 @@ impl<T: HasKey, W: LinkWidth, B: Buckets + Drop, A: Allocator> Indexed<
         ensures vacant { (place : Place) → object_at result.values place ≡ None }
         ensures parts { result.parts ≡ length (B.fronts buckets) }
     {
-        let hashed = HashTable::new(ByHash::with_width(), buckets);
-        Indexed::with_index(alloc, hashed, PlainTable::new(alloc))
+        let links = (PlainTable::new(alloc), PlainTable::new(alloc));
+        Indexed {
+            pool: Pool::new(alloc, links),
+            index: HashTable::new(ByHash::with_words(), buckets),
+            in_order: LinkedList::new(),
+        }
     }
 }
 

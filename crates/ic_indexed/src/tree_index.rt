@@ -8,18 +8,18 @@ ghost use Rattle.ic_container.specs.Trees.{HasAllIn};
 ghost use Rattle.ic_container.specs.TreeLaws.{all_grown, all_alike};
 ghost use Rattle.ic_indexed.specs.Indexed.{IsFewLooks};
 
-use crate::{ByKey, HasKey, Index, LinkWidth};
-use ic_link_ops::PlainTable;
+use crate::{ByKey, HasKey, Index};
+use ic_link_ops::{NodeWords, PlainTable, PrevPlace};
 use ic_rbtree::{KeyProbe, RBTree};
 use ic_unsafe_ref::{Objects, Place, UnsafeRef};
 use std::alloc::Allocator;
 
-impl<T: HasKey, W: LinkWidth, A: Allocator> Index<T, A> for RBTree<ByKey<T, W>> {
-    type Links = PlainTable<W::Three, A>;
+impl<T: HasKey, W: NodeWords, O: PrevPlace, A: Allocator> Index<T, A> for RBTree<ByKey<T, W, O>> {
+    type Links = PlainTable<W, A>;
 
-    type Order = W::Two;
+    type Order = O;
 
-    ghost Has = { λ tree links objects. HasAllIn (node_by W.Three.node) (linked_by W.Three.is_linked) (table W.Three.width W.Three.unlinked) T.key_of links (root_of tree) objects };
+    ghost Has = { λ tree links objects. HasAllIn (node_by W.node) (linked_by W.is_linked) (table W.width W.unlinked) T.key_of links (root_of tree) objects };
 
     ghost parts = { λ tree. 1 };
 
@@ -27,7 +27,7 @@ impl<T: HasKey, W: LinkWidth, A: Allocator> Index<T, A> for RBTree<ByKey<T, W>> 
 
     fn find_key(
         &self,
-        links: &PlainTable<W::Three, A>,
+        links: &PlainTable<W, A>,
         objects: &Objects<T, A>,
         key: u64,
     ) -> (Option<Place>, u64) {
@@ -38,7 +38,7 @@ impl<T: HasKey, W: LinkWidth, A: Allocator> Index<T, A> for RBTree<ByKey<T, W>> 
 
     fn insert_place(
         &mut self,
-        links: &mut PlainTable<W::Three, A>,
+        links: &mut PlainTable<W, A>,
         objects: &Objects<T, A>,
         place: Place,
     ) {
@@ -47,7 +47,7 @@ impl<T: HasKey, W: LinkWidth, A: Allocator> Index<T, A> for RBTree<ByKey<T, W>> 
 
     fn remove_place(
         &mut self,
-        links: &mut PlainTable<W::Three, A>,
+        links: &mut PlainTable<W, A>,
         objects: &Objects<T, A>,
         place: Place,
     ) {

@@ -20,8 +20,8 @@ use crate::InsertError;
 use crate::store::{find, place_of};
 use ic_container::Iter;
 use ic_hash_table::{Buckets, HashTable};
-use ic_indexed::{ByHash, ByKey, HasKey, Index, Indexed, LinkWidth, Narrow};
-use ic_link_ops::CoverError;
+use ic_indexed::{ByHash, ByKey, HasKey, Index, Indexed, NarrowByHash, NarrowByKey};
+use ic_link_ops::{CoverError, NextWord, NodeWords, PrevPlace};
 use ic_rbtree::RBTree;
 use std::alloc::{Allocator, Global};
 use std::marker::Model;
@@ -44,10 +44,10 @@ pub type TreeKeyed<T, A = Global> = Keyed<T, RBTree<ByKey<T>>, A>;
 pub type HashKeyed<T, B, A = Global> = Keyed<T, HashTable<ByHash<T>, B>, A>;
 
 /// The same as `TreeKeyed` over links of 4-byte words: half the memory for links, and 536,870,911 places at most.
-pub type NarrowTreeKeyed<T, A = Global> = Keyed<T, RBTree<ByKey<T, Narrow>>, A>;
+pub type NarrowTreeKeyed<T, A = Global> = Keyed<T, RBTree<NarrowByKey<T>>, A>;
 
 /// The same as `HashKeyed` over links of 4-byte words.
-pub type NarrowHashKeyed<T, B, A = Global> = Keyed<T, HashTable<ByHash<T, Narrow>, B>, A>;
+pub type NarrowHashKeyed<T, B, A = Global> = Keyed<T, HashTable<NarrowByHash<T>, B>, A>;
 
 impl<T: HasKey, I: Index<T, A>, A: Allocator> Model for Keyed<T, I, A> {
     ghost use Rattle.ic_indexed.specs.Indexed.{values_of};
@@ -75,9 +75,9 @@ impl<T: HasKey, A: Allocator> Keyed<T, RBTree<ByKey<T>>, A> {
     }
 }
 
-impl<T: HasKey, W: LinkWidth, A: Allocator> Keyed<T, RBTree<ByKey<T, W>>, A> {
+impl<T: HasKey, W: NodeWords, O: PrevPlace, A: Allocator> Keyed<T, RBTree<ByKey<T, W, O>>, A> {
     /// No values, with a tree over links of either width as the index: `NarrowTreeKeyed::by_tree(rt.alloc())`. It takes no memory.
-    pub fn by_tree(alloc: A) -> Keyed<T, RBTree<ByKey<T, W>>, A>
+    pub fn by_tree(alloc: A) -> Keyed<T, RBTree<ByKey<T, W, O>>, A>
     where
         A: Copy,
         ensures values { result.values ≡ [] }
@@ -107,13 +107,13 @@ impl<T: HasKey, B: Buckets + Drop, A: Allocator> Keyed<T, HashTable<ByHash<T>, B
     }
 }
 
-impl<T: HasKey, W: LinkWidth, B: Buckets + Drop, A: Allocator> Keyed<
+impl<T: HasKey, W: NextWord, O: PrevPlace, B: Buckets + Drop, A: Allocator> Keyed<
     T,
-    HashTable<ByHash<T, W>, B>,
+    HashTable<ByHash<T, W, O>, B>,
     A,
 > {
     /// No values, with a hash table over these buckets and over links of either width as the index. Else as `with_buckets`.
-    pub fn by_hash(alloc: A, buckets: B) -> Keyed<T, HashTable<ByHash<T, W>, B>, A>
+    pub fn by_hash(alloc: A, buckets: B) -> Keyed<T, HashTable<ByHash<T, W, O>, B>, A>
     where
         A: Copy,
         requires some { 1 ≤ length (B.fronts buckets) }

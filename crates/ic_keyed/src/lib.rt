@@ -15,6 +15,6 @@ mod keyed;
 mod store;
 
 pub use ic_container::Iter;
-pub use ic_indexed::{ByHash, ByKey, HasKey, Index, LinkWidth, Narrow, Wide};
+pub use ic_indexed::{ByHash, ByKey, HasKey, Index, NarrowByHash, NarrowByKey};
 pub use insert_error::InsertError;
 pub use keyed::{HashKeyed, Keyed, NarrowHashKeyed, NarrowTreeKeyed, TreeKeyed};

@@ -15,7 +15,8 @@ ghost use Rattle.std.specs.Option.{option_copied, option_map};
 use crate::InsertError;
 use crate::entry::Entry;
 use ic_hash_table::{Buckets, HashTable};
-use ic_keyed::{ByHash, ByKey, Index, Keyed, LinkWidth, Narrow};
+use ic_keyed::{ByHash, ByKey, Index, Keyed, NarrowByHash, NarrowByKey};
+use ic_link_ops::{NextWord, NodeWords, PrevPlace};
 use ic_rbtree::RBTree;
 use std::alloc::{Allocator, Global};
 use std::marker::Model;
@@ -39,12 +40,12 @@ pub type TreeLruCache<V, A = Global> = LruCache<V, RBTree<ByKey<Entry<V>>>, A>;
 pub type HashLruCache<V, B, A = Global> = LruCache<V, HashTable<ByHash<Entry<V>>, B>, A>;
 
 /// The same as `TreeLruCache` over links of 4-byte words: half the memory for links, and 536,870,911 places at most.
-pub type NarrowTreeLruCache<V, A = Global> = LruCache<V, RBTree<ByKey<Entry<V>, Narrow>>, A>;
+pub type NarrowTreeLruCache<V, A = Global> = LruCache<V, RBTree<NarrowByKey<Entry<V>>>, A>;
 
 /// The same as `HashLruCache` over links of 4-byte words.
 pub type NarrowHashLruCache<V, B, A = Global> = LruCache<
     V,
-    HashTable<ByHash<Entry<V>, Narrow>, B>,
+    HashTable<NarrowByHash<Entry<V>>, B>,
     A,
 >;
 
@@ -83,10 +84,10 @@ impl<V, A: Allocator> LruCache<V, RBTree<ByKey<Entry<V>>>, A> {
     }
 }
 
-impl<V, W: LinkWidth, A: Allocator> LruCache<V, RBTree<ByKey<Entry<V>, W>>, A> {
+impl<V, W: NodeWords, O: PrevPlace, A: Allocator> LruCache<V, RBTree<ByKey<Entry<V>, W, O>>, A> {
     /// A cache of no entries, with a tree over links of either width as the index: `NarrowTreeLruCache::by_tree(rt.alloc(), 1000)`. It
     /// takes no memory.
-    pub fn by_tree(alloc: A, capacity: usize) -> LruCache<V, RBTree<ByKey<Entry<V>, W>>, A>
+    pub fn by_tree(alloc: A, capacity: usize) -> LruCache<V, RBTree<ByKey<Entry<V>, W, O>>, A>
     where
         A: Copy,
         ensures entries { result.entries ≡ [] }
@@ -119,9 +120,9 @@ impl<V, B: Buckets + Drop, A: Allocator> LruCache<V, HashTable<ByHash<Entry<V>>,
     }
 }
 
-impl<V, W: LinkWidth, B: Buckets + Drop, A: Allocator> LruCache<
+impl<V, W: NextWord, O: PrevPlace, B: Buckets + Drop, A: Allocator> LruCache<
     V,
-    HashTable<ByHash<Entry<V>, W>, B>,
+    HashTable<ByHash<Entry<V>, W, O>, B>,
     A,
 > {
     /// A cache of no entries, with a hash table over these buckets and over links of either width as the index. Else as `with_buckets`.
@@ -129,7 +130,7 @@ impl<V, W: LinkWidth, B: Buckets + Drop, A: Allocator> LruCache<
         alloc: A,
         capacity: usize,
         buckets: B,
-    ) -> LruCache<V, HashTable<ByHash<Entry<V>, W>, B>, A>
+    ) -> LruCache<V, HashTable<ByHash<Entry<V>, W, O>, B>, A>
     where
         A: Copy,
         requires some { 1 ≤ length (B.fronts buckets) }

@@ -27,4 +27,4 @@ returns-clause-covered g c =
     let a = c.requires.all in
     let e = rw c.new.ensures at c.remove.ensures in
     let off = on_true c.remove.result e.released ((e.answer a.members a.held).1 (a.all c.args.place c.requires.placed)) in
-    still_covered c.args.place (e.frame a.members a.held) (singly_covered g.W.One.Words.width g.W.One.Words.unlinked g.W.One.Words.is_linked g.met.W.One.Words.starts_unlinked c.args.links.now c.args.place off.was)
+    still_covered c.args.place (e.frame a.members a.held) (singly_covered g.W.Words.width g.W.Words.unlinked g.W.Words.is_linked g.met.W.Words.starts_unlinked c.args.links.now c.args.place off.was)

@@ -18,7 +18,7 @@ returns-clause-found g c =
 
 pub returns-clause-looks : goal.returns-clause-looks
 returns-clause-looks g c order whole =
-    let s = members (node_by g.W.Three.NodeWords.node) (table g.W.Three.Words.width g.W.Three.Words.unlinked c.args.links.now) (root_of c.args.self.now) in
+    let s = members (node_by g.W.NodeWords.node) (table g.W.Words.width g.W.Words.unlinked c.args.links.now) (root_of c.args.self.now) in
     let l = c.find_by.ensures.looks s (all_shown g.T.HasKey.key_of c.args.objects.now c.requires.all) in
     let counted : l.looks ≡ c.looks.result = omega (arith, l.counted, c.looks.ensures, c.new-probe.ensures.none) in
     let same = as_many_keys g.T.HasKey.key_of c.args.objects.now c.requires.all order whole in
