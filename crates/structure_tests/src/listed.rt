@@ -1,14 +1,21 @@
-//! Objects that are all in one list, by a caller that keeps the numbers that it has met, the newest in front.
+//! Objects that are all in one list, by a caller that keeps the numbers that it has met, the newest in front, over links of either width.
 
 ghost use Rattle.std.specs.Prelude.{◌≡◌, IfSome, Some};
 ghost use Rattle.ic_unsafe_ref.specs.Objects.{object_at};
 
 use crate::asserts::{assert_same, assert_true};
-use ic_container::Listed;
+use ic_container::{Listed, NarrowListed};
+use ic_link_ops::PrevPlace;
 use ic_unsafe_ref::UnsafeRef;
+use std::alloc::Allocator;
+use std::process::Abort;
 
 // Puts a number that was met before in front again, and another one in its place. It returns the old one, if the number is there still.
-fn renew(numbers: &mut Listed<u64>, met: &UnsafeRef<u64>, number: u64) -> Option<u64>
+fn renew<A: Allocator, W: PrevPlace>(
+    numbers: &mut Listed<u64, A, W>,
+    met: &UnsafeRef<u64>,
+    number: u64,
+) -> Option<u64>
     ensures there { IfSome result (λ old. object_at numbers.old.values met.now ≡ Some old) }
     ensures renewed { IfSome result (λ old. object_at numbers.new.values met.now ≡ Some number) }
 {
@@ -20,22 +27,28 @@ fn renew(numbers: &mut Listed<u64>, met: &UnsafeRef<u64>, number: u64) -> Option
 }
 
 // Takes the oldest number out, if there is one.
-fn forget_oldest(numbers: &mut Listed<u64>) -> Option<u64> {
+fn forget_oldest<A: Allocator, W: PrevPlace>(numbers: &mut Listed<u64, A, W>) -> Option<u64> {
     let oldest = numbers.last()?;
     Some(numbers.remove(oldest))
 }
 
+fn meet_numbers<A: Allocator, W: PrevPlace>(rt: &impl Abort, numbers: &mut Listed<u64, A, W>) {
+    assert_same(rt, forget_oldest(numbers), None);
+    let first = numbers.place_front(10).expect(rt, "memory");
+    let second = numbers.place_front(20).expect(rt, "memory");
+    assert_same(rt, numbers.first(), Some(second.place()));
+    assert_same(rt, renew(numbers, &first, 11), Some(10));
+    assert_same(rt, numbers.first(), Some(first.place()));
+    assert_same(rt, forget_oldest(numbers), Some(20));
+    assert_true(rt, numbers.get(&second).is_none());
+    assert_same(rt, renew(numbers, &second, 21), None);
+    assert_same(rt, forget_oldest(numbers), Some(11));
+}
+
 #[test]
 fn numbers_are_met(rt: HostRuntime) {
-    let mut numbers: Listed<u64> = Listed::new(rt.alloc());
-    assert_same(&rt, forget_oldest(&mut numbers), None);
-    let first = numbers.place_front(10).expect(&rt, "memory");
-    let second = numbers.place_front(20).expect(&rt, "memory");
-    assert_same(&rt, numbers.first(), Some(second.place()));
-    assert_same(&rt, renew(&mut numbers, &first, 11), Some(10));
-    assert_same(&rt, numbers.first(), Some(first.place()));
-    assert_same(&rt, forget_oldest(&mut numbers), Some(20));
-    assert_true(&rt, numbers.get(&second).is_none());
-    assert_same(&rt, renew(&mut numbers, &second, 21), None);
-    assert_same(&rt, forget_oldest(&mut numbers), Some(11));
+    let mut wide: Listed<u64> = Listed::new(rt.alloc());
+    meet_numbers(&rt, &mut wide);
+    let mut narrow: NarrowListed<u64> = Listed::with_words(rt.alloc());
+    meet_numbers(&rt, &mut narrow);
 }

@@ -1,7 +1,7 @@
 //! The worked rows: calls, what they answer, and the numbers of the pages afterwards.
 
 use crate::unique_keys::calls::{Answer, Call, Page, are, make};
-use ic_keyed::{Index, Keyed};
+use ic_keyed::{Index, Keyed, NarrowHashKeyed, NarrowTreeKeyed};
 use ic_link_ops::PlaceWord;
 use ic_test_support::rationed::Rationed;
 use std::alloc::{Allocator, Global};
@@ -92,9 +92,11 @@ fn play<I: Index<Page, A>, A: Allocator>(
 enum By {
     Tree,
     HashTable,
+    NarrowTree,
+    NarrowHashTable,
 }
 
-// The same on a new container of that memory, by a tree or by a hash table with two chains.
+// The same on a new container of that memory, by a tree or by a hash table with two chains, over links of either width.
 fn play_new(by: By, memory: &Rationed, rows: &[Row]) -> Option<usize> {
     match by {
         By::Tree => {
@@ -104,6 +106,17 @@ fn play_new(by: By, memory: &Rationed, rows: &[Row]) -> Option<usize> {
         By::HashTable => {
             let buckets = [PlaceWord::of(None), PlaceWord::of(None)];
             let mut pages = Keyed::with_buckets(memory, buckets);
+            play(&mut pages, rows)
+        }
+        By::NarrowTree => {
+            let mut pages: NarrowTreeKeyed<Page, &Rationed> = Keyed::by_tree(memory);
+            play(&mut pages, rows)
+        }
+        By::NarrowHashTable => {
+            let buckets = [PlaceWord::of(None), PlaceWord::of(None)];
+            let mut pages: NarrowHashKeyed<Page, [PlaceWord; 2], &Rationed> = Keyed::by_hash(
+                memory, buckets,
+            );
             play(&mut pages, rows)
         }
     }
@@ -125,7 +138,7 @@ fn is_refused_in_turn(by: By, alloc: Global, rows: &[Row]) -> bool {
 
 #[test]
 fn rows_with_each_growth_refused_in_turn(rt: HostRuntime) {
-    for by in [By::Tree, By::HashTable] {
+    for by in [By::Tree, By::HashTable, By::NarrowTree, By::NarrowHashTable] {
         assert!(rt; is_refused_in_turn(by, rt.alloc(), ROWS));
     }
 }
