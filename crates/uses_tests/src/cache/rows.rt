@@ -4,7 +4,7 @@ use crate::cache::calls::{Answer, Call, make};
 use ic_indexed::Index;
 use ic_link_ops::PlaceWord;
 use ic_test_support::rationed::Rationed;
-use lru_cache::{Entry, LruCache};
+use lru_cache::{Entry, LruCache, NarrowHashLruCache, NarrowTreeLruCache};
 use std::alloc::{Allocator, Global};
 
 type Row = (Call, Answer);
@@ -92,9 +92,11 @@ fn play<I: Index<Entry<u64>, A>, A: Allocator>(
 enum By {
     Tree,
     HashTable,
+    NarrowTree,
+    NarrowHashTable,
 }
 
-// The same on a new cache of that memory, by a tree or by a hash table with two chains.
+// The same on a new cache of that memory, by a tree or by a hash table with two chains, over links of either width.
 fn play_new(by: By, memory: &Rationed, capacity: usize, rows: &[Row]) -> Option<usize> {
     match by {
         By::Tree => {
@@ -104,6 +106,17 @@ fn play_new(by: By, memory: &Rationed, capacity: usize, rows: &[Row]) -> Option<
         By::HashTable => {
             let buckets = [PlaceWord::of(None), PlaceWord::of(None)];
             let mut cache = LruCache::with_buckets(memory, capacity, buckets);
+            play(&mut cache, rows)
+        }
+        By::NarrowTree => {
+            let mut cache: NarrowTreeLruCache<u64, &Rationed> = LruCache::by_tree(memory, capacity);
+            play(&mut cache, rows)
+        }
+        By::NarrowHashTable => {
+            let buckets = [PlaceWord::of(None), PlaceWord::of(None)];
+            let mut cache: NarrowHashLruCache<u64, [PlaceWord; 2], &Rationed> = LruCache::by_hash(
+                memory, capacity, buckets,
+            );
             play(&mut cache, rows)
         }
     }
@@ -131,7 +144,7 @@ fn a_cache_with_no_bound(rt: HostRuntime) {
 
 #[test]
 fn rows_with_each_growth_refused_in_turn(rt: HostRuntime) {
-    for by in [By::Tree, By::HashTable] {
+    for by in [By::Tree, By::HashTable, By::NarrowTree, By::NarrowHashTable] {
         assert!(rt; is_refused_in_turn(by, rt.alloc(), 2, TWO, 3));
         assert!(rt; is_refused_in_turn(by, rt.alloc(), 1, ONE, 3));
         assert!(rt; is_refused_in_turn(by, rt.alloc(), 0, NONE, 0));
