@@ -10,7 +10,7 @@ import tempfile
 from checks import ROOT, Tally
 from vendoring import Folder, files_of
 
-# Those that have their checksums beside them. `width_bench` has none, so nothing compares what it prints.
+# Those that `bench/run --check` runs without a proof. That of `width_bench` would take minutes, so its checksums are compared where it is proved.
 CRATES = ("bench",)
 
 
