@@ -6,12 +6,10 @@
 //!     return -1; // the words show no list
 //! ```
 
-ghost use Rattle.std.specs.Prelude.{◌≡◌, ◌≢◌};
-ghost use Rattle.ic_check.specs.Checked.{IsShown, ShowsNone};
-ghost use Rattle.ic_raw.specs.Answers.{IsStatus};
 ghost use Rattle.ic_raw.specs.Doubly as doubly;
 ghost use Rattle.ic_raw.specs.Singly as singly;
 ghost use Rattle.ic_raw.specs.Tree.{ShowsTree};
+ghost use Rattle.ic_raw.specs.CheckCalls.{CheckCall};
 
 use ic_raw::{RawEnds, RawFront, RawOne, RawRoot, RawThree, RawTwo, check_calls};
 
@@ -20,12 +18,7 @@ use ic_raw::{RawEnds, RawFront, RawOne, RawRoot, RawThree, RawTwo, check_calls};
 /// It writes nothing else. Where it returns [`OK`](crate::OK), each call does what it says of a list that is shown.
 #[unsafe(no_mangle)]
 pub extern "C" fn ic_list_check(table: &mut [RawTwo], list: &RawEnds, members: &mut u64) -> u32
-    ensures shown { result ≡ 0 → IsShown (doubly.ShowsList table.old list.now) members.new }
-    ensures none { result ≢ 0 → ShowsNone (doubly.ShowsList table.old list.now) }
-    ensures refused { result ≢ 0 → members.new ≡ members.old }
-    ensures same { table.new ≡ table.old }
-    ensures why { result ≢ 0 → result ≡ 5 }
-    ensures status { IsStatus result }
+    ensures { CheckCall table.old table.new result (doubly.ShowsList table.old list.now) members.old members.new }
 {
     check_calls::check_list(table, list, members)
 }
@@ -35,12 +28,7 @@ pub extern "C" fn ic_list_check(table: &mut [RawTwo], list: &RawEnds, members: &
 /// It writes nothing else. Where it returns [`OK`](crate::OK), each call does what it says of a list that is shown.
 #[unsafe(no_mangle)]
 pub extern "C" fn ic_stack_check(table: &mut [RawOne], list: &RawFront, members: &mut u64) -> u32
-    ensures shown { result ≡ 0 → IsShown (singly.ShowsList table.old list.now) members.new }
-    ensures none { result ≢ 0 → ShowsNone (singly.ShowsList table.old list.now) }
-    ensures refused { result ≢ 0 → members.new ≡ members.old }
-    ensures same { table.new ≡ table.old }
-    ensures why { result ≢ 0 → result ≡ 5 }
-    ensures status { IsStatus result }
+    ensures { CheckCall table.old table.new result (singly.ShowsList table.old list.now) members.old members.new }
 {
     check_calls::check_stack(table, list, members)
 }
@@ -50,12 +38,7 @@ pub extern "C" fn ic_stack_check(table: &mut [RawOne], list: &RawFront, members:
 /// It writes nothing else, and requires no keys. Where it returns [`OK`](crate::OK), each call does what it says of a tree that is shown.
 #[unsafe(no_mangle)]
 pub extern "C" fn ic_tree_check(table: &mut [RawThree], tree: &RawRoot, members: &mut u64) -> u32
-    ensures shown { result ≡ 0 → IsShown (ShowsTree table.old tree.now) members.new }
-    ensures none { result ≢ 0 → ShowsNone (ShowsTree table.old tree.now) }
-    ensures refused { result ≢ 0 → members.new ≡ members.old }
-    ensures same { table.new ≡ table.old }
-    ensures why { result ≢ 0 → result ≡ 5 }
-    ensures status { IsStatus result }
+    ensures { CheckCall table.old table.new result (ShowsTree table.old tree.now) members.old members.new }
 {
     check_calls::check_tree(table, tree, members)
 }

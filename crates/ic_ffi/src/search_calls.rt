@@ -10,14 +10,9 @@
 //! ic_tree_lower_bound(links, 64, keys, 64, &tree, 20, &found);  // IC_OK, and found is 7
 //! ```
 
-ghost use Rattle.std.specs.Prelude.{◌≡◌, ◌≢◌, ◌≤◌, ◌⊎◌, ◌∷◌, [], List, Some, length, None};
-ghost use Rattle.ic_unsafe_ref.specs.declared.place.Place.{Place};
-ghost use Rattle.ic_rbtree.specs.Borders.{Finds, IsLowerBorder, IsUpperBorder};
-ghost use Rattle.ic_rbtree.specs.declared.keys.key_adapter.Bound.TheVariants.{Included};
-ghost use Rattle.ic_raw.specs.Answers.{IsStatus, HandsOut, refusal};
-ghost use Rattle.ic_raw.specs.Keys.{against, keys_fault, InsertedInOrder};
-ghost use Rattle.ic_raw.specs.Tree.{ShowsTree, FreeIn, StandsIn, NamesLinked, root_in, word_of_root, fault_of};
+ghost use Rattle.ic_raw.specs.declared.search.Target.TheVariants.{Equal, AtLeast, AtMost};
 ghost use Rattle.ic_raw.specs.Words.{place_of};
+ghost use Rattle.ic_raw.specs.SearchCalls.{FindCall, PutCall};
 
 use ic_raw::{RawRoot, RawThree, Target, search_calls};
 
@@ -31,16 +26,7 @@ pub extern "C" fn ic_tree_insert(
     tree: &mut RawRoot,
     place: u32,
 ) -> u32
-    ensures inserted { (s : List Place) (p : Place) → place_of place ≡ Some p → length table.old ≤ length keys.now
-        → InsertedInOrder keys.now table.old table.new tree.old tree.new result s p }
-    ensures free { (p : Place) → place_of place ≡ Some p → result ≡ 0 → FreeIn table.old p }
-    ensures none { place_of place ≡ None → result ≢ 0 }
-    ensures keys { result ≡ 0 → length table.old ≤ length keys.now }
-    ensures root { result ≡ 0 → StandsIn table.old (root_in tree.old) }
-    ensures words { result ≡ 0 → tree.new ≡ word_of_root (root_in tree.new) }
-    ensures refused { result ≢ 0 → (table.new ≡ table.old) × (tree.new ≡ tree.old) }
-    ensures why { result ≢ 0 → result ≡ refusal (keys_fault keys.now (length table.old) ∷ fault_of table.old (place_of place) ∷ []) }
-    ensures status { IsStatus result }
+    ensures { PutCall keys.now table.old table.new result tree.old tree.new (place_of place) }
 {
     search_calls::insert(table, keys, tree, place)
 }
@@ -57,14 +43,7 @@ pub extern "C" fn ic_tree_find(
     key: u64,
     found: &mut u32,
 ) -> u32
-    ensures found { (s : List Place) → length table.old ≤ length keys.now → ShowsTree table.old tree.now s
-        → HandsOut (Finds (against key keys.now) s) result found.new }
-    ensures linked { result ≡ 0 → NamesLinked table.old found.new }
-    ensures refused { result ≢ 0 → found.new ≡ found.old }
-    ensures same { table.new ≡ table.old }
-    ensures looked { (result ≡ 0) ⊎ (result ≡ 4) → (length table.old ≤ length keys.now) × StandsIn table.old (root_in tree.now) }
-    ensures why { result ≢ 0 → result ≢ 4 → result ≡ refusal (keys_fault keys.now (length table.old) ∷ []) }
-    ensures status { IsStatus result }
+    ensures { FindCall keys.now table.old table.new result tree.now key Equal found.old found.new }
 {
     search_calls::look_for(table, keys, tree, key, Target::Equal, found)
 }
@@ -82,14 +61,7 @@ pub extern "C" fn ic_tree_lower_bound(
     key: u64,
     found: &mut u32,
 ) -> u32
-    ensures found { (s : List Place) → length table.old ≤ length keys.now → ShowsTree table.old tree.now s
-        → HandsOut (IsLowerBorder (Included (against key keys.now)) s) result found.new }
-    ensures linked { result ≡ 0 → NamesLinked table.old found.new }
-    ensures refused { result ≢ 0 → found.new ≡ found.old }
-    ensures same { table.new ≡ table.old }
-    ensures looked { (result ≡ 0) ⊎ (result ≡ 4) → (length table.old ≤ length keys.now) × StandsIn table.old (root_in tree.now) }
-    ensures why { result ≢ 0 → result ≢ 4 → result ≡ refusal (keys_fault keys.now (length table.old) ∷ []) }
-    ensures status { IsStatus result }
+    ensures { FindCall keys.now table.old table.new result tree.now key AtLeast found.old found.new }
 {
     search_calls::look_for(table, keys, tree, key, Target::AtLeast, found)
 }
@@ -107,14 +79,7 @@ pub extern "C" fn ic_tree_upper_bound(
     key: u64,
     found: &mut u32,
 ) -> u32
-    ensures found { (s : List Place) → length table.old ≤ length keys.now → ShowsTree table.old tree.now s
-        → HandsOut (IsUpperBorder (Included (against key keys.now)) s) result found.new }
-    ensures linked { result ≡ 0 → NamesLinked table.old found.new }
-    ensures refused { result ≢ 0 → found.new ≡ found.old }
-    ensures same { table.new ≡ table.old }
-    ensures looked { (result ≡ 0) ⊎ (result ≡ 4) → (length table.old ≤ length keys.now) × StandsIn table.old (root_in tree.now) }
-    ensures why { result ≢ 0 → result ≢ 4 → result ≡ refusal (keys_fault keys.now (length table.old) ∷ []) }
-    ensures status { IsStatus result }
+    ensures { FindCall keys.now table.old table.new result tree.now key AtMost found.old found.new }
 {
     search_calls::look_for(table, keys, tree, key, Target::AtMost, found)
 }

@@ -8,15 +8,9 @@
 //! ic_tree_remove(links, 64, &tree, 7);               // IC_OK
 //! ```
 
-ghost use Rattle.std.specs.Prelude.{◌≡◌, ◌≢◌, ◌↔◌, ◌⊎◌, ◌∷◌, [], List, Some, None};
-ghost use Rattle.ic_unsafe_ref.specs.declared.place.Place.{Place};
 ghost use Rattle.ic_link_ops.specs.declared.side.Side.TheVariants.{Left, Right};
-ghost use Rattle.ic_link_ops.specs.Sequences.{Cut, join, first, last, IsAfter, IsBefore};
-ghost use Rattle.ic_link_ops.specs.RedBlackTree.{node_at};
-ghost use Rattle.ic_raw.specs.Answers.{IsStatus, IsFound, refusal};
 ghost use Rattle.ic_raw.specs.Words.{place_of};
-ghost use Rattle.ic_raw.specs.Tree.{node, ShowsTree, IsHole, TellsHole, FreeIn, StandsIn, NamesLinked, root_in, word_of_root, table_of, fault_at, fault_of, Inserted, Removed, Replaced};
-ghost use Rattle.ic_raw.specs.WholeTree.{Cleared};
+ghost use Rattle.ic_raw.specs.TreeCalls.{ClearCall, InsertCall, RemoveCall, ReplaceCall, StepCall};
 
 use ic_link_ops::Side;
 use ic_raw::{RawRoot, RawThree, tree_calls};
@@ -32,17 +26,7 @@ pub extern "C" fn ic_tree_insert_left(
     at: u32,
     place: u32,
 ) -> u32
-    ensures inserted { (cut : Cut) (p : Place) → IsHole Left (table_of table.old) (place_of at) cut → place_of place ≡ Some p
-        → Inserted table.old table.new tree.old tree.new result cut p }
-    ensures free { (p : Place) → place_of place ≡ Some p → result ≡ 0 → FreeIn table.old p }
-    ensures none { place_of place ≡ None → result ≢ 0 }
-    ensures stands { result ≡ 0 → StandsIn table.old (place_of at) }
-    ensures root { result ≡ 0 → StandsIn table.old (root_in tree.old) }
-    ensures told { result ≡ 0 → TellsHole Left (table_of table.old) (root_in tree.old) (place_of at) }
-    ensures words { result ≡ 0 → tree.new ≡ word_of_root (root_in tree.new) }
-    ensures refused { result ≢ 0 → (table.new ≡ table.old) × (tree.new ≡ tree.old) }
-    ensures why { result ≢ 0 → result ≡ refusal (fault_at table.old (place_of at) ∷ fault_of table.old (place_of place) ∷ []) }
-    ensures status { IsStatus result }
+    ensures { InsertCall table.old table.new tree.old tree.new result Left (place_of at) (place_of place) }
 {
     tree_calls::insert_at(table, tree, Side::Left, at, place)
 }
@@ -58,17 +42,7 @@ pub extern "C" fn ic_tree_insert_right(
     at: u32,
     place: u32,
 ) -> u32
-    ensures inserted { (cut : Cut) (p : Place) → IsHole Right (table_of table.old) (place_of at) cut → place_of place ≡ Some p
-        → Inserted table.old table.new tree.old tree.new result cut p }
-    ensures free { (p : Place) → place_of place ≡ Some p → result ≡ 0 → FreeIn table.old p }
-    ensures none { place_of place ≡ None → result ≢ 0 }
-    ensures stands { result ≡ 0 → StandsIn table.old (place_of at) }
-    ensures root { result ≡ 0 → StandsIn table.old (root_in tree.old) }
-    ensures told { result ≡ 0 → TellsHole Right (table_of table.old) (root_in tree.old) (place_of at) }
-    ensures words { result ≡ 0 → tree.new ≡ word_of_root (root_in tree.new) }
-    ensures refused { result ≢ 0 → (table.new ≡ table.old) × (tree.new ≡ tree.old) }
-    ensures why { result ≢ 0 → result ≡ refusal (fault_at table.old (place_of at) ∷ fault_of table.old (place_of place) ∷ []) }
-    ensures status { IsStatus result }
+    ensures { InsertCall table.old table.new tree.old tree.new result Right (place_of at) (place_of place) }
 {
     tree_calls::insert_at(table, tree, Side::Right, at, place)
 }
@@ -76,17 +50,7 @@ pub extern "C" fn ic_tree_insert_right(
 /// Takes the member `at` off, or returns [`NULL`](crate::NULL) at [`NONE`](crate::NONE). O(log n).
 #[unsafe(no_mangle)]
 pub extern "C" fn ic_tree_remove(table: &mut [RawThree], tree: &mut RawRoot, at: u32) -> u32
-    ensures removed { (front back : List Place) (p : Place) → place_of at ≡ Some p
-        → Removed table.old table.new tree.old tree.new result p front back }
-    ensures null { (result ≡ 4) ↔ (place_of at ≡ None) }
-    ensures stands { result ≡ 0 → StandsIn table.old (place_of at) }
-    ensures root { result ≡ 0 → StandsIn table.old (root_in tree.old) }
-    ensures own { (p : Place) → place_of at ≡ Some p → result ≡ 0 → (node_at node (table_of table.old) p).parent ≡ None
-        → root_in tree.old ≡ Some p }
-    ensures words { result ≡ 0 → tree.new ≡ word_of_root (root_in tree.new) }
-    ensures refused { result ≢ 0 → (table.new ≡ table.old) × (tree.new ≡ tree.old) }
-    ensures why { result ≢ 0 → result ≢ 4 → result ≡ refusal (fault_at table.old (place_of at) ∷ []) }
-    ensures status { IsStatus result }
+    ensures { RemoveCall table.old table.new tree.old tree.new result (place_of at) }
 {
     tree_calls::remove(table, tree, at)
 }
@@ -101,19 +65,7 @@ pub extern "C" fn ic_tree_replace(
     at: u32,
     place: u32,
 ) -> u32
-    ensures replaced { (front back : List Place) (out p : Place) → place_of at ≡ Some out → place_of place ≡ Some p
-        → Replaced table.old table.new tree.old tree.new result out front back p }
-    ensures free { (p : Place) → place_of place ≡ Some p → result ≡ 0 → FreeIn table.old p }
-    ensures none { place_of place ≡ None → result ≢ 0 }
-    ensures null { (result ≡ 4) ↔ (place_of at ≡ None) }
-    ensures stands { result ≡ 0 → StandsIn table.old (place_of at) }
-    ensures root { result ≡ 0 → StandsIn table.old (root_in tree.old) }
-    ensures own { (p : Place) → place_of at ≡ Some p → result ≡ 0 → (node_at node (table_of table.old) p).parent ≡ None
-        → root_in tree.old ≡ Some p }
-    ensures words { result ≡ 0 → tree.new ≡ word_of_root (root_in tree.new) }
-    ensures refused { result ≢ 0 → (table.new ≡ table.old) × (tree.new ≡ tree.old) }
-    ensures why { result ≢ 0 → result ≢ 4 → result ≡ refusal (fault_at table.old (place_of at) ∷ fault_of table.old (place_of place) ∷ []) }
-    ensures status { IsStatus result }
+    ensures { ReplaceCall table.old table.new tree.old tree.new result (place_of at) (place_of place) }
 {
     tree_calls::replace(table, tree, at, place)
 }
@@ -127,15 +79,7 @@ pub extern "C" fn ic_tree_next(
     at: u32,
     found: &mut u32,
 ) -> u32
-    ensures found { (cut : Cut) → IsAfter cut (place_of at) → ShowsTree table.old tree.now (join cut)
-        → IsFound (first cut.back) result found.new }
-    ensures linked { result ≡ 0 → NamesLinked table.old found.new }
-    ensures refused { result ≢ 0 → found.new ≡ found.old }
-    ensures same { table.new ≡ table.old }
-    ensures looked { (result ≡ 0) ⊎ (result ≡ 4) → StandsIn table.old (place_of at) × StandsIn table.old (root_in tree.now) }
-    ensures stands { result ≡ 0 → StandsIn table.old (place_of at) }
-    ensures why { result ≢ 0 → result ≢ 4 → result ≡ refusal (fault_at table.old (place_of at) ∷ []) }
-    ensures status { IsStatus result }
+    ensures { StepCall table.old table.new tree.now result Right (place_of at) found.old found.new }
 {
     tree_calls::step_at(table, tree, Side::Right, at, found)
 }
@@ -149,15 +93,7 @@ pub extern "C" fn ic_tree_prev(
     at: u32,
     found: &mut u32,
 ) -> u32
-    ensures found { (cut : Cut) → IsBefore cut (place_of at) → ShowsTree table.old tree.now (join cut)
-        → IsFound (last cut.front) result found.new }
-    ensures linked { result ≡ 0 → NamesLinked table.old found.new }
-    ensures refused { result ≢ 0 → found.new ≡ found.old }
-    ensures same { table.new ≡ table.old }
-    ensures looked { (result ≡ 0) ⊎ (result ≡ 4) → StandsIn table.old (place_of at) × StandsIn table.old (root_in tree.now) }
-    ensures stands { result ≡ 0 → StandsIn table.old (place_of at) }
-    ensures why { result ≢ 0 → result ≢ 4 → result ≡ refusal (fault_at table.old (place_of at) ∷ []) }
-    ensures status { IsStatus result }
+    ensures { StepCall table.old table.new tree.now result Left (place_of at) found.old found.new }
 {
     tree_calls::step_at(table, tree, Side::Left, at, found)
 }
@@ -168,12 +104,7 @@ pub extern "C" fn ic_tree_prev(
 /// returns [`BROKEN`](crate::BROKEN).
 #[unsafe(no_mangle)]
 pub extern "C" fn ic_tree_clear(table: &mut [RawThree], tree: &mut RawRoot) -> u32
-    ensures cleared { (s : List Place) → Cleared table.old table.new tree.old tree.new result s }
-    ensures root { result ≡ 0 → StandsIn table.old (root_in tree.old) }
-    ensures emptied { result ≡ 0 → tree.new ≡ word_of_root None }
-    ensures refused { result ≢ 0 → (table.new ≡ table.old) × (tree.new ≡ tree.old) }
-    ensures why { result ≢ 0 → result ≡ 5 }
-    ensures status { IsStatus result }
+    ensures { ClearCall table.old table.new tree.old tree.new result }
 {
     tree_calls::clear(table, tree)
 }

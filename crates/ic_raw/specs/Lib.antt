@@ -16,7 +16,11 @@ pub mod MarkedTree
 pub mod Ring
 pub mod RingCalls
 pub mod Hash
+pub mod CheckCalls
 pub mod ListCalls
+pub mod SortCalls
 pub mod StackCalls
 pub mod XorCalls
+pub mod TreeCalls
+pub mod SearchCalls
 pub mod HashCalls

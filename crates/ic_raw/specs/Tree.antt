@@ -40,6 +40,10 @@ root_in t = place_in t.root
 abbrev pub word_of_root : Option Place → RawRoot
 word_of_root root = record { root = word_of root }
 
+-- the word of a tree is as a call writes it
+abbrev pub IsWritten : RawRoot → Type 0
+IsWritten t = t ≡ word_of_root (root_in t)
+
 -- THE HOLE on a side of a member, where it has no child: the gap before it on the left, behind it on the right. At none the tree is empty
 abbrev pub IsHole : Side → Table RawThree → Option Place → Cut → Type 0
 IsHole side t at cut = holes.IsHole node t at side cut

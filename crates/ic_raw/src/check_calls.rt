@@ -4,12 +4,10 @@
 //! check_list(table, list, &mut members) // OK, or BROKEN where the words show no list
 //! ```
 
-ghost use Rattle.std.specs.Prelude.{◌≡◌, ◌≢◌};
-ghost use Rattle.ic_check.specs.Checked.{IsShown, ShowsNone};
-ghost use Rattle.ic_raw.specs.Answers.{IsStatus};
 ghost use Rattle.ic_raw.specs.Doubly as doubly;
 ghost use Rattle.ic_raw.specs.Singly as singly;
 ghost use Rattle.ic_raw.specs.Tree.{ShowsTree};
+ghost use Rattle.ic_raw.specs.CheckCalls.{CheckCall};
 
 use crate::list_calls::list_of;
 use crate::marked_tree::MarkedTree;
@@ -39,12 +37,7 @@ impl<W: Words> TellsLinks for RawTable<'_, W> {
 /// It writes nothing else. Where it returns [`OK`], each call does what it says of a list that is shown.
 #[inline]
 pub fn check_list(table: &mut [RawTwo], list: &RawEnds, members: &mut u64) -> u32
-    ensures shown { result ≡ 0 → IsShown (doubly.ShowsList table.old list.now) members.new }
-    ensures none { result ≢ 0 → ShowsNone (doubly.ShowsList table.old list.now) }
-    ensures refused { result ≢ 0 → members.new ≡ members.old }
-    ensures same { table.new ≡ table.old }
-    ensures why { result ≢ 0 → result ≡ 5 }
-    ensures status { IsStatus result }
+    ensures { CheckCall table.old table.new result (doubly.ShowsList table.old list.now) members.old members.new }
 {
     let links = RawTable::new(table);
     let Some(count) = check(&list_of(list), &links) else {
@@ -59,12 +52,7 @@ pub fn check_list(table: &mut [RawTwo], list: &RawEnds, members: &mut u64) -> u3
 /// It writes nothing else. Where it returns [`OK`], each call does what it says of a list that is shown.
 #[inline]
 pub fn check_stack(table: &mut [RawOne], list: &RawFront, members: &mut u64) -> u32
-    ensures shown { result ≡ 0 → IsShown (singly.ShowsList table.old list.now) members.new }
-    ensures none { result ≢ 0 → ShowsNone (singly.ShowsList table.old list.now) }
-    ensures refused { result ≢ 0 → members.new ≡ members.old }
-    ensures same { table.new ≡ table.old }
-    ensures why { result ≢ 0 → result ≡ 5 }
-    ensures status { IsStatus result }
+    ensures { CheckCall table.old table.new result (singly.ShowsList table.old list.now) members.old members.new }
 {
     let links = RawTable::new(table);
     let Some(count) = check(&stack_of(list), &links) else {
@@ -79,12 +67,7 @@ pub fn check_stack(table: &mut [RawOne], list: &RawFront, members: &mut u64) -> 
 /// It writes nothing else, and requires no keys. Where it returns [`OK`], each call does what it says of a tree that is shown.
 #[inline]
 pub fn check_tree(table: &mut [RawThree], tree: &RawRoot, members: &mut u64) -> u32
-    ensures shown { result ≡ 0 → IsShown (ShowsTree table.old tree.now) members.new }
-    ensures none { result ≢ 0 → ShowsNone (ShowsTree table.old tree.now) }
-    ensures refused { result ≢ 0 → members.new ≡ members.old }
-    ensures same { table.new ≡ table.old }
-    ensures why { result ≢ 0 → result ≡ 5 }
-    ensures status { IsStatus result }
+    ensures { CheckCall table.old table.new result (ShowsTree table.old tree.now) members.old members.new }
 {
     let links = MarkedTree::new(table);
     let Some(count) = ic_check::check_tree(&tree_of(tree), &links) else {

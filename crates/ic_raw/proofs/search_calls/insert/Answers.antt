@@ -6,19 +6,39 @@ use Rattle.ic_raw.proofs.Views.{free_viewed, viewed, ordered_back}
 use Rattle.ic_raw.proofs.Trees.{kept}
 use Rattle.ic_raw.proofs.search_calls.insert.Goals as goal
 
-pub returns-then-not-insert-clause-inserted : goal.returns-then-not-insert-clause-inserted
-returns-then-not-insert-clause-inserted c s p is enough shown free =
-    let view = c.new-links.ensures.1 in
-    let done = c.insert.ensures.inserted s p (rw c.tree_of-edited.ensures (viewed no_tree_words kept c.new-links.result view shown)) (c.place_of.ensures ∙ is)
-    (subst (λ es. length es ≤ length c.args.keys.now) (sym view) enough) (free_viewed no_tree_words c.new-links.result view free) in
-    absurd (never c.if-not-insert.true done.0)
+pub returns-then-not-insert : goal.returns-then-not-insert
+returns-then-not-insert c = record {
+  inserted = λ s p is enough shown free.
+      let view = c.new-links.ensures.1 in
+      let done = c.insert.ensures.inserted s p (rw c.tree_of-edited.ensures (viewed no_tree_words kept c.new-links.result view shown)) (c.place_of.ensures ∙ is)
+      (subst (λ es. length es ≤ length c.args.keys.now) (sym view) enough) (free_viewed no_tree_words c.new-links.result view free) in
+      absurd (never c.if-not-insert.true done.0);
+  free = search rules;
+  no_place = search rules;
+  enough = search rules;
+  root = search rules;
+  words = search rules;
+  refused = search rules;
+  why = search rules;
+  is_status = search rules;
+}
 
-pub returns-clause-inserted : goal.returns-clause-inserted
-returns-clause-inserted c s p is enough shown free =
-    let view = c.new-links.ensures.1 in
-    let done = c.insert.ensures.inserted s p (rw c.tree_of-edited.ensures (viewed no_tree_words kept c.new-links.result view shown)) (c.place_of.ensures ∙ is)
-    (subst (λ es. length es ≤ length c.args.keys.now) (sym view) enough) (free_viewed no_tree_words c.new-links.result view free) in
-    record {
-      accepted = refl;
-      done = ordered_back no_tree_words kept (against (key_of c.args.keys.now p) c.args.keys.now) p c.new-links.result c.insert.new.links view (search rules) (search rules) done.1;
-    }
+pub returns : goal.returns
+returns c = record {
+  inserted = λ s p is enough shown free.
+      let view = c.new-links.ensures.1 in
+      let done = c.insert.ensures.inserted s p (rw c.tree_of-edited.ensures (viewed no_tree_words kept c.new-links.result view shown)) (c.place_of.ensures ∙ is)
+      (subst (λ es. length es ≤ length c.args.keys.now) (sym view) enough) (free_viewed no_tree_words c.new-links.result view free) in
+      record {
+        accepted = refl;
+        done = ordered_back no_tree_words kept (against (key_of c.args.keys.now p) c.args.keys.now) p c.new-links.result c.insert.new.links view (search rules) (search rules) done.1;
+      };
+  free = search rules;
+  no_place = search rules;
+  enough = search rules;
+  root = search rules;
+  words = search rules;
+  refused = search rules;
+  why = search rules;
+  is_status = search rules;
+}

@@ -5,11 +5,24 @@ use Rattle.ic_raw.proofs.Trees.{kept}
 use Rattle.ic_raw.proofs.Views.{viewed, clears_back}
 use Rattle.ic_raw.proofs.tree_calls.clear.Goals as goal
 
-pub returns-then-not-clear-clause-cleared : goal.returns-then-not-clear-clause-cleared
-returns-then-not-clear-clause-cleared c s shown =
-    absurd (never c.if-not-clear.true (c.clear.ensures.cleared s (rw c.tree_of.ensures (viewed no_tree_words kept c.new-links.result c.new-links.ensures.1 shown))).0)
+pub returns-then-not-clear : goal.returns-then-not-clear
+returns-then-not-clear c = record {
+  cleared = λ s shown. absurd (never c.if-not-clear.true (c.clear.ensures.cleared s (rw c.tree_of.ensures (viewed no_tree_words kept c.new-links.result c.new-links.ensures.1 shown))).0);
+  root = search rules;
+  emptied = search rules;
+  refused = search rules;
+  why = search rules;
+  is_status = search rules;
+}
 
-pub returns-clause-cleared : goal.returns-clause-cleared
-returns-clause-cleared c s shown =
-    let done = (c.clear.ensures.cleared s (rw c.tree_of.ensures (viewed no_tree_words kept c.new-links.result c.new-links.ensures.1 shown))).1 in
-    record { accepted = refl; done = clears_back no_tree_words is_linked_three c.new-links.result c.clear.new.links c.new-links.ensures.1 (search rules) done }
+pub returns : goal.returns
+returns c = record {
+  cleared = λ s shown.
+      let done = (c.clear.ensures.cleared s (rw c.tree_of.ensures (viewed no_tree_words kept c.new-links.result c.new-links.ensures.1 shown))).1 in
+      record { accepted = refl; done = clears_back no_tree_words is_linked_three c.new-links.result c.clear.new.links c.new-links.ensures.1 (search rules) done };
+  root = search rules;
+  emptied = search rules;
+  refused = search rules;
+  why = search rules;
+  is_status = search rules;
+}

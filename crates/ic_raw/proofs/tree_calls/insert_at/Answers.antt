@@ -5,16 +5,38 @@ use Rattle.ic_raw.proofs.Views.{free_viewed, viewed, inserted_back}
 use Rattle.ic_raw.proofs.Trees.{kept, hole_viewed}
 use Rattle.ic_raw.proofs.tree_calls.insert_at.Goals as goal
 
-pub returns-then-not-insert-clause-inserted : goal.returns-then-not-insert-clause-inserted
-returns-then-not-insert-clause-inserted c cut p at is shown free =
-    let view = c.new-links.ensures.1 in
-    let done = c.insert.ensures.inserted cut p (rw c.tree_of-edited.ensures (viewed no_tree_words kept c.new-links.result view shown))
-    (rw c.place_of.ensures (hole_viewed c.new-links.result c.args.side _ cut view at)) (c.place_of-2.ensures ∙ is) (free_viewed no_tree_words c.new-links.result view free) in
-    absurd (never c.if-not-insert.true done.0)
+pub returns-then-not-insert : goal.returns-then-not-insert
+returns-then-not-insert c = record {
+  inserted = λ cut p at is shown free.
+      let view = c.new-links.ensures.1 in
+      let done = c.insert.ensures.inserted cut p (rw c.tree_of-edited.ensures (viewed no_tree_words kept c.new-links.result view shown))
+      (rw c.place_of.ensures (hole_viewed c.new-links.result c.args.side _ cut view at)) (c.place_of-2.ensures ∙ is) (free_viewed no_tree_words c.new-links.result view free) in
+      absurd (never c.if-not-insert.true done.0);
+  free = search rules;
+  no_place = search rules;
+  stands = search rules;
+  root = search rules;
+  told = search rules;
+  words = search rules;
+  refused = search rules;
+  why = search rules;
+  is_status = search rules;
+}
 
-pub returns-clause-inserted : goal.returns-clause-inserted
-returns-clause-inserted c cut p at is shown free =
-    let view = c.new-links.ensures.1 in
-    let done = c.insert.ensures.inserted cut p (rw c.tree_of-edited.ensures (viewed no_tree_words kept c.new-links.result view shown))
-    (rw c.place_of.ensures (hole_viewed c.new-links.result c.args.side _ cut view at)) (c.place_of-2.ensures ∙ is) (free_viewed no_tree_words c.new-links.result view free) in
-    record { accepted = refl; done = inserted_back no_tree_words kept c.new-links.result c.insert.new.links view (search rules) (search rules) done.1 }
+pub returns : goal.returns
+returns c = record {
+  inserted = λ cut p at is shown free.
+      let view = c.new-links.ensures.1 in
+      let done = c.insert.ensures.inserted cut p (rw c.tree_of-edited.ensures (viewed no_tree_words kept c.new-links.result view shown))
+      (rw c.place_of.ensures (hole_viewed c.new-links.result c.args.side _ cut view at)) (c.place_of-2.ensures ∙ is) (free_viewed no_tree_words c.new-links.result view free) in
+      record { accepted = refl; done = inserted_back no_tree_words kept c.new-links.result c.insert.new.links view (search rules) (search rules) done.1 };
+  free = search rules;
+  no_place = search rules;
+  stands = search rules;
+  root = search rules;
+  told = search rules;
+  words = search rules;
+  refused = search rules;
+  why = search rules;
+  is_status = search rules;
+}

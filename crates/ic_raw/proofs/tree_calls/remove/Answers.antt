@@ -6,24 +6,44 @@ use Rattle.ic_raw.proofs.Views.{viewed, removed_back, unlinked_back}
 use Rattle.ic_raw.proofs.Trees.{kept}
 use Rattle.ic_raw.proofs.tree_calls.remove.Goals as goal
 
-pub returns-then-not-remove-clause-removed : goal.returns-then-not-remove-clause-removed
-returns-then-not-remove-clause-removed c front back p at shown' =
-    let view = c.new-links.ensures.1 in
-    let one : p ≡ c.in-Some.member = some_same (sym at ∙ sym c.place_of.ensures ∙ c.in-Some.is) in
-    let shown = rw one at shown' in
-    let done = c.remove.ensures.removed front back (rw c.tree_of-edited.ensures (viewed no_tree_words kept c.new-links.result view shown)) in
-    absurd (never c.if-not-remove.true done.0)
+pub returns-then-not-remove : goal.returns-then-not-remove
+returns-then-not-remove c = record {
+  removed = λ front back p at shown'.
+      let view = c.new-links.ensures.1 in
+      let one : p ≡ c.in-Some.member = some_same (sym at ∙ sym c.place_of.ensures ∙ c.in-Some.is) in
+      let shown = rw one at shown' in
+      let done = c.remove.ensures.removed front back (rw c.tree_of-edited.ensures (viewed no_tree_words kept c.new-links.result view shown)) in
+      absurd (never c.if-not-remove.true done.0);
+  null = search rules;
+  stands = search rules;
+  root = search rules;
+  own = search rules;
+  words = search rules;
+  refused = search rules;
+  why = search rules;
+  is_status = search rules;
+}
 
-pub returns-clause-removed : goal.returns-clause-removed
-returns-clause-removed c front back p at shown' =
-    let view = c.new-links.ensures.1 in
-    let one : p ≡ c.in-Some.member = some_same (sym at ∙ sym c.place_of.ensures ∙ c.in-Some.is) in
-    let shown = rw one at shown' in
-    let done = c.remove.ensures.removed front back (rw c.tree_of-edited.ensures (viewed no_tree_words kept c.new-links.result view shown)) in
-    rw one (record {
-      accepted = refl;
-      done = (
-        removed_back no_tree_words kept c.new-links.result c.remove.new.links view (search rules) (search rules) done.1,
-        unlinked_back no_tree_words is_linked_three c.remove.new.links c.in-Some.member (search rules) done.2,
-      );
-    })
+pub returns : goal.returns
+returns c = record {
+  removed = λ front back p at shown'.
+      let view = c.new-links.ensures.1 in
+      let one : p ≡ c.in-Some.member = some_same (sym at ∙ sym c.place_of.ensures ∙ c.in-Some.is) in
+      let shown = rw one at shown' in
+      let done = c.remove.ensures.removed front back (rw c.tree_of-edited.ensures (viewed no_tree_words kept c.new-links.result view shown)) in
+      rw one (record {
+        accepted = refl;
+        done = (
+          removed_back no_tree_words kept c.new-links.result c.remove.new.links view (search rules) (search rules) done.1,
+          unlinked_back no_tree_words is_linked_three c.remove.new.links c.in-Some.member (search rules) done.2,
+        );
+      });
+  null = search rules;
+  stands = search rules;
+  root = search rules;
+  own = search rules;
+  words = search rules;
+  refused = search rules;
+  why = search rules;
+  is_status = search rules;
+}

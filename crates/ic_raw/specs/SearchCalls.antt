@@ -1,0 +1,34 @@
+-- WHAT THE CALLS OF RED-BLACK TREES BY KEYS DO, which stand in an array, one for each place: each record is the whole contract of a call.
+use Rattle.std.specs.Prelude.{◌≡◌, ◌≢◌, ◌≤◌, ◌⊎◌, ◌∷◌, ℕ, List, [], Option, Some, None, length}
+use Rattle.ic_unsafe_ref.specs.declared.place.Place.{Place}
+use Rattle.ic_raw.specs.declared.search.Target.{Target}
+use Rattle.ic_raw.specs.declared.status.TheConstants.{OK, NULL}
+use Rattle.ic_raw.specs.declared.words.RawRoot.{RawRoot}
+use Rattle.ic_raw.specs.declared.words.RawThree.{RawThree}
+use Rattle.ic_raw.specs.Answers.{IsStatus, HandsOut, refusal}
+use Rattle.ic_raw.specs.Keys.{against, keys_fault, IsTarget, InsertedInOrder}
+use Rattle.ic_raw.specs.Tree.{ShowsTree, FreeIn, StandsIn, IsWritten, NamesLinked, root_in, fault_of}
+
+-- the words of the table before the call and after it
+module _ (keys : List ℕ) (old new : List RawThree) (status : ℕ) where
+  -- A PLACE GOES IN BEHIND ALL MEMBERS with no greater key than its own. `tree`, `tree'`: the word of the tree before and after
+  pub record PutCall (tree tree' : RawRoot) (place : Option Place) : Type 0 where
+    pub inserted : (s : List Place) (p : Place) → place ≡ Some p → length old ≤ length keys → InsertedInOrder keys old new tree tree' status s p
+    pub free : (p : Place) → place ≡ Some p → status ≡ OK → FreeIn old p
+    pub no_place : place ≡ None → status ≢ OK
+    pub enough : status ≡ OK → length old ≤ length keys
+    pub root : status ≡ OK → StandsIn old (root_in tree)
+    pub words : status ≡ OK → IsWritten tree'
+    pub refused : status ≢ OK → (new ≡ old) × (tree' ≡ tree)
+    pub why : status ≢ OK → status ≡ refusal (keys_fault keys (length old) ∷ fault_of old place ∷ [])
+    pub is_status : IsStatus status
+
+  -- THE MEMBER THAT IS SEARCHED FOR A KEY IS HANDED OUT, in words that said `was`
+  pub record FindCall (tree : RawRoot) (key : ℕ) (target : Target) (was number : ℕ) : Type 0 where
+    pub found : (s : List Place) → length old ≤ length keys → ShowsTree old tree s → HandsOut (IsTarget target (against key keys) s) status number
+    pub linked : status ≡ OK → NamesLinked old number
+    pub refused : status ≢ OK → number ≡ was
+    pub same : new ≡ old
+    pub looked : (status ≡ OK) ⊎ (status ≡ NULL) → (length old ≤ length keys) × StandsIn old (root_in tree)
+    pub why : status ≢ OK → status ≢ NULL → status ≡ refusal (keys_fault keys (length old) ∷ [])
+    pub is_status : IsStatus status

@@ -1,0 +1,84 @@
+-- WHAT THE CALLS OF RED-BLACK TREES DO: each record is the whole contract of a call. It says first what the call does to a tree that the table
+-- shows, and then what holds whatever the words say: what an accepted call has found before it edits, and what a refused one leaves, and why.
+use Rattle.std.specs.Prelude.{◌≡◌, ◌≢◌, ◌↔◌, ◌⊎◌, ◌∷◌, ℕ, List, [], Option, Some, None}
+use Rattle.ic_unsafe_ref.specs.declared.place.Place.{Place}
+use Rattle.ic_link_ops.specs.declared.side.Side.{Side}
+use Rattle.ic_link_ops.specs.Frames.{across}
+use Rattle.ic_link_ops.specs.RedBlackTree.{node_at}
+use Rattle.ic_link_ops.specs.Sequences.{Cut, join}
+use Rattle.ic_rbtree.specs.Sides.{IsBeside}
+use Rattle.ic_raw.specs.declared.status.TheConstants.{OK, NULL, BROKEN}
+use Rattle.ic_raw.specs.declared.words.RawRoot.{RawRoot}
+use Rattle.ic_raw.specs.declared.words.RawThree.{RawThree}
+use Rattle.ic_raw.specs.Answers.{IsStatus, IsFound, refusal}
+use Rattle.ic_raw.specs.Tree.{node, ShowsTree, IsHole, TellsHole, FreeIn, StandsIn, IsWritten, NamesLinked, root_in, word_of_root, table_of, fault_at, fault_of}
+use Rattle.ic_raw.specs.Tree.{Inserted, Removed, Replaced}
+use Rattle.ic_raw.specs.WholeTree.{Cleared}
+
+-- `old`, `new`: the words of the table before the call and after it. `tree`, `tree'`: that of the tree. `status`: what the call returns
+module _ (old new : List RawThree) (tree tree' : RawRoot) (status : ℕ) where
+  -- a place that names no parent is the root of this tree
+  abbrev pub IsOwn : Place → Type 0
+  IsOwn p = (node_at node (table_of old) p).parent ≡ None → root_in tree ≡ Some p
+
+  -- A PLACE GOES IN AS THE CHILD on this side of the member `at`, at none as the only member
+  pub record InsertCall (side : Side) (at place : Option Place) : Type 0 where
+    pub inserted : (cut : Cut) (p : Place) → IsHole side (table_of old) at cut → place ≡ Some p → Inserted old new tree tree' status cut p
+    pub free : (p : Place) → place ≡ Some p → status ≡ OK → FreeIn old p
+    pub no_place : place ≡ None → status ≢ OK
+    pub stands : status ≡ OK → StandsIn old at
+    pub root : status ≡ OK → StandsIn old (root_in tree)
+    pub told : status ≡ OK → TellsHole side (table_of old) (root_in tree) at
+    pub words : status ≡ OK → IsWritten tree'
+    pub refused : status ≢ OK → (new ≡ old) × (tree' ≡ tree)
+    pub why : status ≢ OK → status ≡ refusal (fault_at old at ∷ fault_of old place ∷ [])
+    pub is_status : IsStatus status
+
+  -- A MEMBER LEAVES
+  pub record RemoveCall (at : Option Place) : Type 0 where
+    pub removed : (front back : List Place) (p : Place) → at ≡ Some p → Removed old new tree tree' status p front back
+    pub null : (status ≡ NULL) ↔ (at ≡ None)
+    pub stands : status ≡ OK → StandsIn old at
+    pub root : status ≡ OK → StandsIn old (root_in tree)
+    pub own : (p : Place) → at ≡ Some p → status ≡ OK → IsOwn p
+    pub words : status ≡ OK → IsWritten tree'
+    pub refused : status ≢ OK → (new ≡ old) × (tree' ≡ tree)
+    pub why : status ≢ OK → status ≢ NULL → status ≡ refusal (fault_at old at ∷ [])
+    pub is_status : IsStatus status
+
+  -- A PLACE STANDS WHERE A MEMBER DID, which leaves
+  pub record ReplaceCall (at place : Option Place) : Type 0 where
+    pub replaced : (front back : List Place) (out p : Place) → at ≡ Some out → place ≡ Some p → Replaced old new tree tree' status out front back p
+    pub free : (p : Place) → place ≡ Some p → status ≡ OK → FreeIn old p
+    pub no_place : place ≡ None → status ≢ OK
+    pub null : (status ≡ NULL) ↔ (at ≡ None)
+    pub stands : status ≡ OK → StandsIn old at
+    pub root : status ≡ OK → StandsIn old (root_in tree)
+    pub own : (p : Place) → at ≡ Some p → status ≡ OK → IsOwn p
+    pub words : status ≡ OK → IsWritten tree'
+    pub refused : status ≢ OK → (new ≡ old) × (tree' ≡ tree)
+    pub why : status ≢ OK → status ≢ NULL → status ≡ refusal (fault_at old at ∷ fault_of old place ∷ [])
+    pub is_status : IsStatus status
+
+  -- ALL MEMBERS LEAVE
+  pub record ClearCall : Type 0 where
+    pub cleared : (s : List Place) → Cleared old new tree tree' status s
+    pub root : status ≡ OK → StandsIn old (root_in tree)
+    pub emptied : status ≡ OK → tree' ≡ word_of_root None
+    pub refused : status ≢ OK → (new ≡ old) × (tree' ≡ tree)
+    pub why : status ≢ OK → status ≡ BROKEN
+    pub is_status : IsStatus status
+
+-- the words of the table before the call and after it, and that of the tree
+module _ (old new : List RawThree) (tree : RawRoot) (status : ℕ) where
+  -- THE MEMBER BESIDE `at` IS HANDED OUT, on this side, from none the outermost one on the other side, in words that said `was`
+  pub record StepCall (side : Side) (at : Option Place) (was number : ℕ) : Type 0 where
+    pub found : (cut : Cut) (member : Option Place) → IsBeside side cut at → IsBeside (across side) cut member → ShowsTree old tree (join cut)
+        → IsFound member status number
+    pub linked : status ≡ OK → NamesLinked old number
+    pub refused : status ≢ OK → number ≡ was
+    pub same : new ≡ old
+    pub looked : (status ≡ OK) ⊎ (status ≡ NULL) → StandsIn old at × StandsIn old (root_in tree)
+    pub stands : status ≡ OK → StandsIn old at
+    pub why : status ≢ OK → status ≢ NULL → status ≡ refusal (fault_at old at ∷ [])
+    pub is_status : IsStatus status
