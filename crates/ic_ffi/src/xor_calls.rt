@@ -12,6 +12,7 @@ ghost use Rattle.std.specs.Prelude.{◌≡◌, List, reverse, None};
 ghost use Rattle.ic_unsafe_ref.specs.declared.place.Place.{Place};
 ghost use Rattle.ic_link_ops.specs.Tables.{Table};
 ghost use Rattle.ic_raw.specs.declared.gap.Side.TheVariants.{After, Before};
+ghost use Rattle.ic_raw.specs.declared.status.TheConstants.{OK};
 ghost use Rattle.ic_raw.specs.declared.words.RawOne.{RawOne};
 ghost use Rattle.ic_raw.specs.Words.{place_of};
 ghost use Rattle.ic_raw.specs.Doubly.{ends_of};
@@ -172,7 +173,7 @@ pub extern "C" fn ic_xor_clear(table: &mut [RawOne], list: &mut RawEnds) -> u32
 /// Turns the list round. O(1): it reads no table, and always returns [`OK`](crate::OK).
 #[unsafe(no_mangle)]
 pub extern "C" fn ic_xor_reverse(list: &mut RawEnds) -> u32
-    ensures ok { result ≡ 0 }
+    ensures ok { result ≡ OK }
     ensures reversed { (t : Table RawOne) (s : List Place) → Shows t (ends_of list.old) s → Shows t (ends_of list.new) (reverse s) }
     ensures words { list.new ≡ record { head = list.old.tail; tail = list.old.head } }
 {

@@ -8,6 +8,7 @@
 ghost use Rattle.std.specs.Prelude.{◌≡◌, ◌≢◌, ◌<◌, ◌↔◌, ◌∷◌, [], ℕ, List, Some, length, None};
 ghost use Rattle.ic_unsafe_ref.specs.declared.place.Place.{Place};
 ghost use Rattle.ic_link_ops.specs.Sequences.{IsMember};
+ghost use Rattle.ic_raw.specs.declared.status.TheConstants.{OK, NULL};
 ghost use Rattle.ic_raw.specs.Answers.{IsStatus, refusal};
 ghost use Rattle.ic_raw.specs.Hash.{slot_of};
 ghost use Rattle.ic_raw.specs.Singly.{ShowsList, StandsIn, front_of, word_of_front, fault_at, Removed};
@@ -54,12 +55,12 @@ pub fn insert(table: &mut [RawOne], buckets: &mut [RawFront], hash: u64, place: 
 #[inline]
 fn remove_from(table: &mut [RawOne], list: &mut RawFront, member: Place) -> u32
     ensures removed { (front back : List Place) → Removed table.old table.new list.old list.new result member front back }
-    ensures member { (s : List Place) → ShowsList table.old list.old s → result ≡ 0 → IsMember member s }
-    ensures stands { result ≡ 0 → StandsIn table.old (Some member) }
-    ensures words { result ≡ 0 → list.new ≡ word_of_front (front_of list.new) }
-    ensures refused { result ≢ 0 → (table.new ≡ table.old) × (list.new ≡ list.old) }
-    ensures why { result ≢ 0 → result ≡ refusal (fault_at table.old (Some member) ∷ []) }
-    ensures other { result ≢ 4 }
+    ensures member { (s : List Place) → ShowsList table.old list.old s → result ≡ OK → IsMember member s }
+    ensures stands { result ≡ OK → StandsIn table.old (Some member) }
+    ensures words { result ≡ OK → list.new ≡ word_of_front (front_of list.new) }
+    ensures refused { result ≢ OK → (table.new ≡ table.old) × (list.new ≡ list.old) }
+    ensures why { result ≢ OK → result ≡ refusal (fault_at table.old (Some member) ∷ []) }
+    ensures other { result ≢ NULL }
     ensures status { IsStatus result }
 {
     let mut links = RawTable::new(table);

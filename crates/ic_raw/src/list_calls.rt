@@ -7,6 +7,7 @@
 
 ghost use Rattle.std.specs.Prelude.{◌≡◌, ◌≢◌, ◌↔◌, None};
 ghost use Rattle.ic_raw.specs.declared.gap.Side.TheVariants.{After, Before};
+ghost use Rattle.ic_raw.specs.declared.status.TheConstants.{OK, NULL, BROKEN};
 ghost use Rattle.ic_raw.specs.Words.{place_of};
 ghost use Rattle.ic_raw.specs.Doubly.{end_on, ends_of, words_of};
 ghost use Rattle.ic_raw.specs.ListCalls.{ClearCall, InsertCall, PopCall, RemoveCall, ReplaceCall, SpliceCall, SplitCall};
@@ -75,9 +76,9 @@ pub fn pop(table: &mut [RawTwo], list: &mut RawEnds, side: Side, popped: &mut u3
 #[cold]
 #[inline(never)]
 fn refusal_to_pop(list: &RawEnds, side: Side) -> u32
-    ensures null { (result ≡ 4) ↔ (end_on side (ends_of list.now) ≡ None) }
-    ensures why { result ≢ 4 → result ≡ 5 }
-    ensures refused { result ≢ 0 }
+    ensures null { (result ≡ NULL) ↔ (end_on side (ends_of list.now) ≡ None) }
+    ensures why { result ≢ NULL → result ≡ BROKEN }
+    ensures refused { result ≢ OK }
 {
     let word = match side {
         Side::After => list.head,

@@ -7,6 +7,7 @@
 //! ```
 
 ghost use Rattle.std.specs.Prelude.{◌≡◌, ◌≢◌, ◌↔◌, ◌∷◌, [], Some};
+ghost use Rattle.ic_raw.specs.declared.status.TheConstants.{OK, NULL};
 ghost use Rattle.ic_raw.specs.Answers.{refusal};
 ghost use Rattle.ic_raw.specs.Doubly.{lent_table};
 ghost use Rattle.ic_raw.specs.Ring.{IsTold};
@@ -96,9 +97,9 @@ pub fn exchange(table: &mut [RawTwo], one: u32, other: u32) -> u32
 // Why nothing could be taken out beside a head: it has no members, or its words tell of none.
 #[cold]
 fn refusal_to_pop(links: &RawTable<'_, RawTwo>, head: Place) -> u32
-    ensures null { (result ≡ 4) ↔ IsTold (lent_table links.now) head head }
-    ensures why { result ≢ 4 → result ≡ refusal (member_fault is_linked_two (lent_table links.now) (Some head) ∷ []) }
-    ensures refused { result ≢ 0 }
+    ensures null { (result ≡ NULL) ↔ IsTold (lent_table links.now) head head }
+    ensures why { result ≢ NULL → result ≡ refusal (member_fault is_linked_two (lent_table links.now) (Some head) ∷ []) }
+    ensures refused { result ≢ OK }
 {
     if ring::is_alone(links, head) {
         return NULL;

@@ -12,6 +12,7 @@ ghost use Rattle.ic_link_ops.specs.Sequences.{Cut, join, last, IsAfter, IsBefore
 ghost use Rattle.ic_link_ops.specs.Tables.{Table};
 ghost use Rattle.ic_link_ops.specs.Chains.{no_members};
 ghost use Rattle.ic_raw.specs.declared.gap.Side.TheVariants.{After, Before};
+ghost use Rattle.ic_raw.specs.declared.status.TheConstants.{OK, NULL};
 ghost use Rattle.ic_raw.specs.declared.words.RawOne.{RawOne};
 ghost use Rattle.ic_raw.specs.Words.{place_in, place_of, is_linked_one};
 ghost use Rattle.ic_raw.specs.Tables.{member_fault, place_fault};
@@ -55,7 +56,7 @@ fn refusal_with_both(links: &RawTable<'_, RawOne>, one: u32, other: u32, place: 
     ensures refusal { result ≡ refusal (member_fault is_linked_one (lent_table links.now) (place_of one)
         ∷ member_fault is_linked_one (lent_table links.now) (place_of other)
         ∷ place_fault is_linked_one (lent_table links.now) (place_of place) ∷ []) }
-    ensures refused { (result ≢ 0) × (result ≢ 4) }
+    ensures refused { (result ≢ OK) × (result ≢ NULL) }
     ensures status { IsStatus result }
 {
     let fault = links.member_fault(place_of(one));
@@ -414,7 +415,7 @@ pub fn clear(table: &mut [RawOne], list: &mut RawEnds) -> u32
 /// Turns the list round. O(1): it reads no table, and always returns [`OK`].
 #[inline]
 pub fn reverse(list: &mut RawEnds) -> u32
-    ensures ok { result ≡ 0 }
+    ensures ok { result ≡ OK }
     ensures reversed { (t : Table RawOne) (s : List Place) → Shows t (ends_of list.old) s → Shows t (ends_of list.new) (reverse s) }
     ensures words { list.new ≡ record { head = list.old.tail; tail = list.old.head } }
 {
