@@ -5,17 +5,16 @@
 //! ```
 
 ghost use Rattle.std.specs.Prelude.{◌≡◌};
-ghost use Rattle.ic_unsafe_ref.specs.declared.place.Place.{Place};
-ghost use Rattle.ic_link_ops.specs.Tables.{IsCovered, IsLinked};
+ghost use Rattle.ic_link_ops.specs.Tables.{IsCovered};
 
-use ic_link_ops::{LentTable, LinkOps, LinkValue, PlainTable, Words};
+use ic_link_ops::{AcceptsUnlinked, LentTable, LinkValue, PlainTable, Words};
 use ic_unsafe_ref::Place;
 use std::alloc::Allocator;
 
 /// A table that refuses a link for one reason alone: that the place is linked in it.
 ///
 /// A plain table is one, and so is a view of its links that is lent.
-pub trait PlainLinkOps: LinkOps {
+pub trait PlainLinkOps: AcceptsUnlinked {
     /// How many places are covered: those with a smaller index.
     fn covers(&self) -> usize
         ensures { result ≡ (Self.table self.now).extent.places };
@@ -24,9 +23,6 @@ pub trait PlainLinkOps: LinkOps {
     fn is_linked(&self, place: Place) -> bool
         requires covered { IsCovered (Self.table self.now) place }
         ensures { result ≡ Self.linked ((Self.table self.now).entry place) };
-
-    // The law: a place whose link is refused is linked.
-    ghost refused_is_linked: { (old new : Self) (p : Place) → Self.Refused old new p → IsLinked Self.linked (Self.table old) p };
 }
 
 impl<W: Words, A: Allocator, V: LinkValue> PlainLinkOps for PlainTable<W, A, V> {
@@ -39,8 +35,6 @@ impl<W: Words, A: Allocator, V: LinkValue> PlainLinkOps for PlainTable<W, A, V> 
     fn is_linked(&self, place: Place) -> bool {
         PlainTable::is_linked(self, place)
     }
-
-    ghost refused_is_linked = { λ old new p h. h.0 };
 }
 
 impl<W: Words, V: LinkValue> PlainLinkOps for LentTable<'_, W, V> {
@@ -53,6 +47,4 @@ impl<W: Words, V: LinkValue> PlainLinkOps for LentTable<'_, W, V> {
     fn is_linked(&self, place: Place) -> bool {
         LentTable::is_linked(self, place)
     }
-
-    ghost refused_is_linked = { λ old new p h. h.0 };
 }

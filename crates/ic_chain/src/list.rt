@@ -12,7 +12,7 @@ ghost use Rattle.std.specs.Bool.{OnTrue, OnFalse};
 ghost use Rattle.ic_link_ops.specs.Tables.{IsCovered, IsLinked, IsNameable, KeepsBeside};
 ghost use Rattle.ic_link_ops.specs.LinkSteps.{acquires, releases};
 ghost use Rattle.ic_link_ops.specs.Edits.{Inserts, Splices, Splits};
-ghost use Rattle.ic_link_ops.specs.Chains.{list_head, empty_list, ShowsChain, ShowsSomeChain};
+ghost use Rattle.ic_link_ops.specs.Chains.{list_head, empty_list, ShowsChain, ShowsSomeChain, TurnsEnds};
 ghost use Rattle.ic_chain.specs.Walk.{IsTold};
 
 use crate::kind::{BidirectionalLinks, DoubleEnded, ForwardLinks, ListKind, SingleEnded};
@@ -386,6 +386,7 @@ impl<K: ListKind, T> Chain<K, T> {
         ensures shows { (front back : List Place) → ShowsChain K.Between K.kept (L.table links.old) self.old (front ++ back)
             → before ≡ last front → behind ≡ first back → IsAbsent place (front ++ back)
             → ShowsChain K.Between K.kept (L.table links.new) self.new (front ++ place ∷ back) }
+        ensures ends { TurnsEnds K.kept self.old self.new before behind (Some place) (Some place) }
         ensures no_step { L.Does links.old links.new [] }
         ensures extent { (L.table links.new).extent ≡ (L.table links.old).extent }
         ensures others { (q : Place) → before ≢ Some q → q ≢ place → (K.NamesPrev → behind ≢ Some q)
@@ -418,6 +419,7 @@ impl<K: ListKind, T> Chain<K, T> {
         ensures shows { (front back : List Place) → ShowsChain K.Between K.kept (L.table links.old) self.old (front ++ out ∷ back)
             → before ≡ last front → behind ≡ first back → IsAbsent place (front ++ out ∷ back)
             → ShowsChain K.Between K.kept (L.table links.new) self.new (front ++ place ∷ back) }
+        ensures ends { TurnsEnds K.kept self.old self.new before behind (Some place) (Some place) }
         ensures no_step { L.Does links.old links.new [] }
         ensures extent { (L.table links.new).extent ≡ (L.table links.old).extent }
         ensures others { (q : Place) → before ≢ Some q → q ≢ place → (K.NamesPrev → behind ≢ Some q)
@@ -449,6 +451,7 @@ impl<K: ListKind, T> Chain<K, T> {
         ensures shows { (front back : List Place) → ShowsChain K.Between K.kept (L.table links.old) self.old (front ++ out ∷ back)
             → before ≡ last front → behind ≡ first back
             → ShowsChain K.Between K.kept (L.table links.new) self.new (front ++ back) }
+        ensures ends { TurnsEnds K.kept self.old self.new before behind behind before }
         ensures no_step { L.Does links.old links.new [] }
         ensures extent { (L.table links.new).extent ≡ (L.table links.old).extent }
         ensures others { (q : Place) → before ≢ Some q → (K.NamesPrev → behind ≢ Some q)

@@ -14,14 +14,15 @@ ghost use Rattle.ic_link_ops.specs.Tables.{IsCovered, IsUnlinked};
 ghost use Rattle.ic_container.specs.Holds.{HoldsLists};
 ghost use Rattle.ic_container.specs.Lanes.{lane_at, IsFirst, LaneJoins, LaneLeaves, LaneMoves};
 
-use crate::{OwnLinks, lists};
+use crate::lists;
+use ic_link_ops::AcceptsUnlinked;
 use ic_link_ops::linked_list::LinkedListOps;
 use ic_linked_list::LinkedList;
 use ic_unsafe_ref::Place;
 
 /// Puts the object behind all others of a lane. It requires that there is this lane, that its place is covered, and that it is not
 /// linked. O(1), and it takes no memory.
-pub fn push_back<T, L: LinkedListOps + OwnLinks>(
+pub fn push_back<T, L: LinkedListOps + AcceptsUnlinked>(
     lanes: &mut [LinkedList<T>],
     links: &mut L,
     lane: usize,
@@ -38,7 +39,7 @@ pub fn push_back<T, L: LinkedListOps + OwnLinks>(
 
 /// Takes a member of a lane off. It requires that there is this lane, and that the object is a member of it. O(1), and it takes no
 /// memory.
-pub fn remove<T, L: LinkedListOps + OwnLinks>(
+pub fn remove<T, L: LinkedListOps + AcceptsUnlinked>(
     lanes: &mut [LinkedList<T>],
     links: &mut L,
     lane: usize,
@@ -53,7 +54,7 @@ pub fn remove<T, L: LinkedListOps + OwnLinks>(
 
 /// Moves a member of a lane behind all others of another one, which may be the same. It requires that there are both lanes, and that the
 /// object is at home in the first. O(1), and it takes no memory.
-pub fn move_to_back<T, L: LinkedListOps + OwnLinks>(
+pub fn move_to_back<T, L: LinkedListOps + AcceptsUnlinked>(
     lanes: &mut [LinkedList<T>],
     links: &mut L,
     lane: usize,

@@ -14,9 +14,7 @@ mod iter;
 pub mod lanes;
 mod listed;
 pub mod lists;
-mod own_links;
 pub mod trees;
 
 pub use iter::Iter;
 pub use listed::{Listed, NarrowListed};
-pub use own_links::OwnLinks;

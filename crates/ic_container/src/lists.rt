@@ -12,14 +12,14 @@ ghost use Rattle.ic_link_ops.specs.Positions.{HasMember};
 ghost use Rattle.ic_link_ops.specs.Tables.{IsCovered, IsUnlinked};
 ghost use Rattle.ic_container.specs.Holds.{ListJoins, ListLeaves, ListMoves};
 
-use crate::OwnLinks;
+use ic_link_ops::AcceptsUnlinked;
 use ic_link_ops::linked_list::LinkedListOps;
 use ic_linked_list::LinkedList;
 use ic_unsafe_ref::{Place, UnsafeRef};
 
 /// Puts the object in front of all others. It requires that its place is covered, and that it is not linked. O(1), and it takes no memory.
 #[inline]
-pub fn push_front<T, L: LinkedListOps + OwnLinks>(
+pub fn push_front<T, L: LinkedListOps + AcceptsUnlinked>(
     list: &mut LinkedList<T>,
     links: &mut L,
     place: Place,
@@ -34,7 +34,7 @@ pub fn push_front<T, L: LinkedListOps + OwnLinks>(
 
 /// Puts the object behind all others. It requires that its place is covered, and that it is not linked. O(1), and it takes no memory.
 #[inline]
-pub fn push_back<T, L: LinkedListOps + OwnLinks>(
+pub fn push_back<T, L: LinkedListOps + AcceptsUnlinked>(
     list: &mut LinkedList<T>,
     links: &mut L,
     place: Place,
@@ -49,7 +49,11 @@ pub fn push_back<T, L: LinkedListOps + OwnLinks>(
 
 /// Takes a member off. It requires that the object is a member. O(1), and it takes no memory.
 #[inline]
-pub fn remove<T, L: LinkedListOps + OwnLinks>(list: &mut LinkedList<T>, links: &mut L, place: Place)
+pub fn remove<T, L: LinkedListOps + AcceptsUnlinked>(
+    list: &mut LinkedList<T>,
+    links: &mut L,
+    place: Place,
+)
     requires member { HasMember (Shows L.neighbors (L.table links.old) list.old) place }
     ensures { (front : List Place) × (back : List Place) × ListLeaves L.neighbors L.linked (L.table links.old) (L.table links.new) list.old list.new front place back }
 {
@@ -58,7 +62,7 @@ pub fn remove<T, L: LinkedListOps + OwnLinks>(list: &mut LinkedList<T>, links: &
 
 /// Puts a member in front of all others, which keep their order. It requires that the object is a member. O(1), and it takes no memory.
 #[inline]
-pub fn move_to_front<T, L: LinkedListOps + OwnLinks>(
+pub fn move_to_front<T, L: LinkedListOps + AcceptsUnlinked>(
     list: &mut LinkedList<T>,
     links: &mut L,
     place: Place,
@@ -73,7 +77,7 @@ pub fn move_to_front<T, L: LinkedListOps + OwnLinks>(
 
 /// Puts a member behind all others, which keep their order. It requires that the object is a member. O(1), and it takes no memory.
 #[inline]
-pub fn move_to_back<T, L: LinkedListOps + OwnLinks>(
+pub fn move_to_back<T, L: LinkedListOps + AcceptsUnlinked>(
     list: &mut LinkedList<T>,
     links: &mut L,
     place: Place,

@@ -16,7 +16,7 @@ ghost use Rattle.ic_rbtree.specs.Tree.{adapter_of, root_of};
 ghost use Rattle.ic_container.specs.Trees.{HasAllIn, IsFound, IsFoundObject, LacksOne, PutsInOrder};
 ghost use Rattle.ic_container.specs.Values.{Without};
 
-use crate::OwnLinks;
+use ic_link_ops::AcceptsUnlinked;
 use ic_link_ops::rbtree::RBTreeOps;
 use ic_rbtree::{KeyAdapter, RBTree};
 use ic_unsafe_ref::{Objects, Place, UnsafeRef};
@@ -51,7 +51,7 @@ pub fn get<'o, K: KeyAdapter<Key = u64>, L: RBTreeOps, B: Allocator>(
 
 /// Puts a new object where its key belongs, behind those with the same key. It requires that the tree has each other object, and that
 /// the place is covered. O(log n), and it takes no memory.
-pub fn insert<K: KeyAdapter<Key = u64>, L: RBTreeOps + OwnLinks, B: Allocator>(
+pub fn insert<K: KeyAdapter<Key = u64>, L: RBTreeOps + AcceptsUnlinked, B: Allocator>(
     tree: &mut RBTree<K>,
     links: &mut L,
     objects: &Objects<K::Value, B>,

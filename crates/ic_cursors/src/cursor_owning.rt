@@ -8,7 +8,6 @@
 //! ```
 
 ghost use Rattle.std.specs.Prelude.{◌≡◌, true, List, None};
-ghost use Rattle.std.specs.Borrow.{sem, follows};
 ghost use Rattle.ic_unsafe_ref.specs.declared.place.Place.{Place};
 ghost use Rattle.ic_unsafe_ref.specs.Objects.{is_placed};
 ghost use Rattle.ic_link_ops.specs.Sequences.{IsAfter, IsBefore};
@@ -42,8 +41,7 @@ impl<C: Collection + Drop> Drop for CursorOwning<C> {
 }
 
 impl<C: Collection> CursorOwning<C> {
-    ghost use Rattle.ic_cursors.specs.CursorOwning.{list_of, place_of, position, with_list};
-    ghost use Rattle.ic_cursors.specs.contracts.cursor_owning.CursorOwning.{the_row};
+    ghost use Rattle.ic_cursors.specs.CursorOwning.{list_of, place_of, position};
     ghost use Rattle.ic_cursors.specs.Cursor as reading;
 
     /// A cursor at that position of the collection, as the kinds make their own.
@@ -82,32 +80,12 @@ impl<C: Collection> CursorOwning<C> {
         &self.list
     }
 
-    /// The collection that the cursor keeps, to be edited while the cursor stays where it is. O(1).
-    ///
-    /// Whether the position stands in the collection then is the caller's to see.
-    #[inline]
-    pub fn list_mut(&mut self) -> &mut C
-        ensures list { result.now ≡ list_of self.old }
-        ensures* writes_back { sem 𝓛 (follows (the_row C.row C.Object.row C.Position.row C.Head.row) C.row self.entry.ghost_name result.ghost_name (with_list self.old)) }
-    {
-        &mut self.list
-    }
-
     /// The place of the member that the cursor is on, `None` at null. O(1).
     #[inline]
     pub fn get_ptr(&self) -> Option<Place>
         ensures { result ≡ position C.Position.member self.now }
     {
         self.current.get()
-    }
-
-    /// Moves to that position, from wherever the cursor is, as the kinds make one on a member. It reads no entry. O(1).
-    #[inline]
-    pub fn go_to(&mut self, at: C::Position)
-        ensures list { list_of self.new ≡ list_of self.old }
-        ensures position { place_of self.new ≡ at }
-    {
-        self.current = at;
     }
 
     /// Moves to null, from wherever the cursor is. It reads no entry, and requires nothing. O(1).

@@ -33,6 +33,11 @@ end_of (Some x) fresh end = end
 abbrev pub TurnsTail : {W : Type 0} → (Option Place → W) → W → W → Option Place → Option Place → Type 0
 TurnsTail kept old new at fresh = (last : Option Place) → old ≡ kept last → new ≡ kept (end_of at fresh last)
 
+-- a list's own words after an edit between `before` and `behind`: where no member stands on that side, the list begins or ends with these now
+pub record TurnsEnds {W : Type 0} (kept : Option Place → W) (old new : ListHead W) (before behind : Option Place) (begins ends : Option Place) : Type 0 where
+  pub head : new.head ≡ end_of before begins old.head
+  pub tail : TurnsTail kept old.tail new.tail behind ends
+
 -- `between e a b`: the entry e says that its place stands between a and b, none beyond an end
 module _ {E : Type 0} (between : E → Option Place → Option Place → Type 0) where
   -- each member of s is between its neighbors in s, `before` stands in front of the first and `behind` after the last

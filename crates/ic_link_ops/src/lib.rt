@@ -9,6 +9,7 @@
 //! ```
 #![tactic(auto)]
 
+mod accepts_unlinked;
 mod color;
 mod errors;
 mod lent_table;
@@ -34,6 +35,7 @@ mod two_narrow_words;
 mod word;
 pub mod xor_linked_list;
 
+pub use accepts_unlinked::AcceptsUnlinked;
 pub use color::Color;
 pub use errors::{AlreadyLinked, CoverError, ReplaceError};
 pub use lent_table::LentTable;

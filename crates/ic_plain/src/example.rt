@@ -25,7 +25,8 @@ ghost use Rattle.ic_rbtree.specs.PlainTrees as tree;
 ghost use Rattle.ic_rbtree.specs.Tree.{root_of};
 ghost use Rattle.ic_plain.specs.SortedTrees.{IsInOrder};
 
-use crate::{AcceptsUnlinked, linked_list, rbtree};
+use crate::{linked_list, rbtree};
+use ic_link_ops::AcceptsUnlinked;
 use ic_link_ops::linked_list::{LinkOps, LinkedListOps};
 use ic_link_ops::rbtree::LinkOps as TreeLinkOps;
 use ic_linked_list::LinkedList;

@@ -1,7 +1,7 @@
 //! The lists and the tree over plain tables, by calls that are not refused.
 //!
 //! A collection takes any table, and so its contracts speak of a link that may be refused. Here the table accepts each place that is not
-//! linked ([`AcceptsUnlinked`]), and the object is not linked yet. Plain tables do so, whether their words have 8 bytes or 4. The contracts
+//! linked ([`AcceptsUnlinked`](ic_link_ops::AcceptsUnlinked)), and the object is not linked yet. Plain tables do so, whether their words have 8 bytes or 4. The contracts
 //! are a few clauses, and most callers need no proof file. A call by the name of the collection's own call is that call, and costs what that
 //! costs.
 //!
@@ -17,11 +17,8 @@
 //! ```
 #![tactic(auto)]
 
-mod accepts_unlinked;
 pub mod example;
 pub mod linked_list;
 pub mod rbtree;
 pub mod singly_linked_list;
 pub mod xor_linked_list;
-
-pub use accepts_unlinked::AcceptsUnlinked;

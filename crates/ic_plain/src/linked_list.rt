@@ -14,7 +14,7 @@ ghost use Rattle.ic_link_ops.specs.Positions.{HasMember};
 ghost use Rattle.ic_link_ops.specs.Chains.{no_members};
 ghost use Rattle.ic_link_ops.specs.LinkedList.{Shows, ShowsSome};
 
-use crate::AcceptsUnlinked;
+use ic_link_ops::AcceptsUnlinked;
 use ic_link_ops::linked_list::LinkedListOps;
 use ic_linked_list::LinkedList;
 use ic_unsafe_ref::{Place, UnsafeRef};

@@ -19,10 +19,9 @@ ghost use Rattle.ic_rbtree.specs.PlainTrees.{TreeLink};
 ghost use Rattle.ic_rbtree.specs.Tree.{adapter_of, root_of};
 ghost use Rattle.ic_plain.specs.SortedTrees.{IsInOrder, StaysInOrder, NarrowTreeLink, narrow_node_of, with_key, from_key, put_by_key};
 
-use crate::AcceptsUnlinked;
 use ic_cursors::{Bidirectional, CursorOps};
-use ic_link_ops::PlaceWord;
 use ic_link_ops::rbtree::RBTreeOps;
+use ic_link_ops::{AcceptsUnlinked, PlaceWord};
 use ic_rbtree::{Bound, KeyAdapter, RBTree};
 use ic_unsafe_ref::{Objects, Place, UnsafeRef};
 use std::alloc::Allocator;

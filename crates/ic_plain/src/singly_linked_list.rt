@@ -12,7 +12,7 @@ ghost use Rattle.ic_link_ops.specs.Sequences.{first};
 ghost use Rattle.ic_link_ops.specs.Tables.{IsCovered, IsUnlinked, LinksAlso, Unlinks, KeepsBeside};
 ghost use Rattle.ic_link_ops.specs.SinglyLinkedList.{list_from, Shows, ShowsSome};
 
-use crate::AcceptsUnlinked;
+use ic_link_ops::AcceptsUnlinked;
 use ic_link_ops::singly_linked_list::SinglyLinkedListOps;
 use ic_singly_linked_list::SinglyLinkedList;
 use ic_unsafe_ref::{Place, UnsafeRef};

@@ -13,7 +13,7 @@ ghost use Rattle.ic_link_ops.specs.Tables.{IsCovered, IsUnlinked, LinksAlso, Unl
 ghost use Rattle.ic_link_ops.specs.Chains.{no_members};
 ghost use Rattle.ic_link_ops.specs.XorLinkedList.{Shows, ShowsSome};
 
-use crate::AcceptsUnlinked;
+use ic_link_ops::AcceptsUnlinked;
 use ic_link_ops::xor_linked_list::XorLinkedListOps;
 use ic_unsafe_ref::{Place, UnsafeRef};
 use ic_xor_linked_list::XorLinkedList;

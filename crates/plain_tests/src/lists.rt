@@ -8,10 +8,11 @@ ghost use Rattle.ic_plain.specs.SinglyEntries as singly;
 ghost use Rattle.ic_plain.specs.XorEntries as xor;
 
 use crate::fixtures::{check, covering, index, index_of, unlinked};
+use ic_link_ops::AcceptsUnlinked;
 use ic_link_ops::linked_list::NarrowLinkOps;
 use ic_linked_list::{LinkOps, LinkedList, LinkedListOps};
 use ic_plain::example::slide;
-use ic_plain::{AcceptsUnlinked, linked_list, singly_linked_list, xor_linked_list};
+use ic_plain::{linked_list, singly_linked_list, xor_linked_list};
 use ic_singly_linked_list::SinglyLinkedList;
 use ic_unsafe_ref::UnsafeRef;
 use ic_xor_linked_list::XorLinkedList;

@@ -11,5 +11,5 @@ returns g c =
     let shown = c.requires.shown.1 in
     let reading = list_reading {table = g.L.LinkOps.table} (record { alike = g.met.L.LinkedListOps.linked_alike; covered = g.met.L.LinkOps.linked_is_covered }) in
     joined_front (members g.L.LinkedListOps.neighbors (g.L.LinkOps.table links) c.args.list.now) (subst (Shows g.L.LinkedListOps.neighbors (g.L.LinkOps.table links) c.args.list.now) (sym (reading.members_are links c.args.list.now _ shown)) shown) _ c.push_front.result
-    c.requires.unlinked (refused_linked c.push_front.result (g.met.L.OwnLinks.refuses_linked links c.push_front.new.links c.args.place) e.refused) e.inserted
+    c.requires.unlinked (refused_linked c.push_front.result (g.met.L.AcceptsUnlinked.refused_is_linked links c.push_front.new.links c.args.place) e.refused) e.inserted
     (done c.push_front.result (g.met.L.LinkOps.does_replay links c.push_front.new.links _) e.acquired) e.frame

@@ -18,7 +18,7 @@ returns-clause-all g c =
     let e = rw c.new.ensures at c.insert.ensures in
     let key = g.K.KeyAdapter.key_of (adapter_of c.args.tree.now) in
     let off = all_off key l.less l.all l.places in
-    let refused = refused_linked c.insert.result (g.met.L.OwnLinks.refuses_linked c.args.links.now c.insert.new.links c.args.place) e.refused in
+    let refused = refused_linked c.insert.result (g.met.L.AcceptsUnlinked.refused_is_linked c.args.links.now c.insert.new.links c.args.place) e.refused in
     let acquired = done c.insert.result (g.met.L.LinkOps.does_replay c.args.links.now c.insert.new.links _) e.acquired in
     all_new key l.less l.all l.places c.insert.new.links (root_of c.insert.new.self) (λ s shown. accepted _ c.insert.result off refused (e.inserted s shown)) (accepted _ c.insert.result off refused acquired)
 
@@ -27,5 +27,5 @@ returns-clause-order g c =
     let l = c.requires.lacks in
     let e = rw c.new.ensures at c.insert.ensures in
     let key = g.K.KeyAdapter.key_of (adapter_of c.args.tree.now) in
-    let refused = refused_linked c.insert.result (g.met.L.OwnLinks.refuses_linked c.args.links.now c.insert.new.links c.args.place) e.refused in
+    let refused = refused_linked c.insert.result (g.met.L.AcceptsUnlinked.refused_is_linked c.args.links.now c.insert.new.links c.args.place) e.refused in
     order_new key l.less l.all l.places c.insert.new.links (root_of c.insert.new.self) (λ s shown. accepted _ c.insert.result (all_off key l.less l.all l.places) refused (e.inserted s shown))

@@ -10,7 +10,7 @@ use Rattle.ic_atomic.proofs.atomic_link_ops.AtomicLinkOpsLinkOps.acquire_link.Go
 never : (g : given.Over) (c : goal.After-acquire_link g) → OnFalse c.acquire_link.result ⊥
 never g c =
     let free : g.L.LinkOps.linked ((g.L.LinkOps.table c.args.self.now.links).entry c.args.place) ≡ false = c.args.self.now.held c.args.place ∙ c.if-claim.ensures.claimed.was in
-    not_refused c.acquire_link.result free (g.met.L.PlainLinkOps.refused_is_linked _ _ c.args.place) c.acquire_link.ensures.refused
+    not_refused c.acquire_link.result free (g.met.L.AcceptsUnlinked.refused_is_linked _ _ c.args.place) c.acquire_link.ensures.refused
 
 pub invariant_of-self : goal.invariant_of-self
 invariant_of-self g c = record {

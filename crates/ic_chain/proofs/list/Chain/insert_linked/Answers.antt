@@ -27,3 +27,6 @@ pub returns-clause-no_step : goal.returns-clause-no_step
 returns-clause-no_step g c =
     let L = g.met.L.LinkOps in
     L.does_on _ _ _ _ _ (L.does_on _ _ _ _ _ c.set_next_or_head.ensures.no_step c.set_prev_or_tail.ensures.no_step) c.set_neighbors.ensures.no_step
+
+pub returns-clause-ends : goal.returns-clause-ends
+returns-clause-ends g c = rw (← c.self.view_is) (record { head = c.set_next_or_head.ensures.head; tail = c.set_prev_or_tail.ensures.tail })

@@ -1,10 +1,13 @@
 //! Tables that refuse no place that is not linked.
+//!
+//! ```text
+//! links.acquire_link(place) // false exactly if the place is linked in this table
+//! ```
 
-ghost use Rattle.std.specs.Prelude.{◌≡◌};
 ghost use Rattle.ic_unsafe_ref.specs.declared.place.Place.{Place};
 ghost use Rattle.ic_link_ops.specs.Tables.{IsLinked};
 
-use ic_link_ops::{LentTable, LinkOps, LinkValue, PlainTable, Words};
+use crate::{LentTable, LinkOps, LinkValue, PlainTable, Words};
 use std::alloc::Allocator;
 
 /// A table that links each place that it covers, unless the place is linked in it already.
