@@ -1,4 +1,5 @@
 mod Checking
+mod HashTables
 mod Subtrees
 mod Marking
 mod MarkedWalks

@@ -6,10 +6,11 @@ use Rattle.ic_link_ops.specs.Sequences.{IsDistinct, first_or, first, last}
 use Rattle.ic_link_ops.specs.Tables.{Table, IsCovered}
 use Rattle.ic_link_ops.specs.Chains.{IsChain, ShowsChain}
 use Rattle.ic_link_ops.proofs.SequenceLemmas.{absent_left, distinct_middle}
+use Rattle.ic_link_ops.proofs.Chains.{chain_absent}
 use Rattle.ic_link_ops.proofs.Walks.{few_places, stretch_length}
-use Rattle.ic_check.specs.WholeTables.{AreUnmarked, MarksAlso, IsGathered, is_marked}
+use Rattle.ic_check.specs.WholeTables.{AreUnmarked, MarksAlso, MarksLinked, IsGathered, is_marked}
 use Rattle.ic_check.proofs.Checking.{Checks, checks_none, checks_more, checks_stands}
-use Rattle.ic_check.proofs.Marking.{also_none, also_more, distinct_both, unmarked_apart, unmarked_before, unmarked_both, unmarked_back}
+use Rattle.ic_check.proofs.Marking.{also_none, also_more, only_also, distinct_both, unmarked_apart, unmarked_before, unmarked_both, unmarked_back}
 
 module _ {E : Type 0} (between : E → Option Place → Option Place → Type 0) where
   -- the walk has passed members that were not marked, each once, and has marked them
@@ -34,7 +35,7 @@ module _ {E : Type 0} {between : E → Option Place → Option Place → Type 0}
       checks = checks_more step law k.checks is stands counts;
       distinct = distinct_both k.checks.done (p ∷ []) k.distinct (tt, tt) (unmarked_apart k.also (p ∷ []) (free, tt));
       free = unmarked_both old k.checks.done (p ∷ []) k.free (unmarked_before k.also (p ∷ []) (free, tt));
-      also = also_more p i k.also at few;
+      also = also_more p i k.also free at few;
     }
 
     -- a marked place is met twice, or was marked before
@@ -53,6 +54,10 @@ module _ {E : Type 0} {between : E → Option Place → Option Place → Type 0}
     walks_covered covered =
         let few = stretch_length {between = between} t covered {b = None} {from = first k.checks.done} {to = last k.checks.done} {a = current} {w = k.checks.done} (record { distinct = k.distinct; chain = k.checks.chain; starts = refl; ends = refl }) in
         omega (arith, few, k.checks.counted)
+
+    -- what it has marked is linked
+    pub walks_only : (linked : E → Bool) → ((e : E) (b a : Option Place) → between e b a → linked e ≡ true) → MarksLinked linked t old marks
+    walks_only linked held = only_also linked t k.also (λ p off. chain_absent between linked held t.entry None k.checks.done current p k.checks.chain off)
 
     -- THE END: all of it is passed
     pub walks_all : {W : Type 0} {kept : Option Place → W} {tail : W} → current ≡ None → tail ≡ kept before → IsGathered (ShowsChain between kept t (record { head = head; tail = tail })) old marks count

@@ -1,5 +1,5 @@
 -- Marks of members, collection by collection.
-use Rattle.std.proofs.Common.{◌≡◌, ℕ, zero, suc, ◌+◌, ◌*◌, ◌<◌, ◌≤◌, Bool, not, MatchOption, true, false, Option, Some, None, List, [], ◌∷◌, ◌++◌, drop, length, length-append, slice_set, slice_index_or, refl, sym, ap, ◌∙◌, subst, arith, append_assoc, append-nil, true≢false, inl, inr}
+use Rattle.std.proofs.Common.{◌≡◌, ℕ, zero, suc, ◌+◌, ◌*◌, ◌<◌, ◌≤◌, Bool, not, MatchOption, IfSome, cond, true, false, Option, Some, None, List, [], ◌∷◌, ◌++◌, drop, length, length-append, slice_set, slice_index_or, refl, sym, ap, ◌∙◌, subst, arith, append_assoc, append-nil, true≢false, inl, inr}
 use Rattle.ic_unsafe_ref.specs.declared.place.Place.{Place}
 use Rattle.ic_unsafe_ref.specs.Places.{index_of, place_at}
 use Rattle.ic_unsafe_ref.proofs.PlaceLemmas.{same_or_not, same_index, place_with, place_at_word}
@@ -9,18 +9,30 @@ use Rattle.ic_link_ops.proofs.EntryLemmas.{others_same, entry_same}
 use Rattle.ic_link_ops.proofs.SequenceLemmas.{absent_left, absent_right, absent_both, first_is, nothing_first, distinct_middle, distinct_disjoint, distinct_splice, disjoint_left, disjoint_sym}
 use Rattle.ic_link_ops.proofs.Walks.{few_places}
 use Rattle.std.proofs.lemmas.Bool.{cases_lt}
-use Rattle.ic_check.specs.WholeTables.{ShowsEach, ShowsEachOnce, AreUnmarked, MarksAlso, IsGathered, ShowsNoneUnmarked, is_marked, IsMissed}
+use Rattle.ic_check.specs.WholeTables.{ShowsEach, ShowsEachOnce, AreUnmarked, MarksAlso, MarksLinked, IsGathered, IsMarking, LeavesMarked, ShowsNoneUnmarked, is_marked, many_marked, IsMissed}
 use Rattle.ic_check.proofs.Checking.{absent_or}
-use Rattle.std.proofs.lemmas.List.{length-set}
+use Rattle.std.proofs.lemmas.List.{length-set, get_or-set_other, get_or_past}
+use Rattle.std.proofs.lemmas.List.Sums.{sum_by-set, sum_by-cons}
+use Rattle.std.proofs.lemmas.Grind.{get_or-set_at}
 
 -- NO PLACE IS MARKED BESIDES,
 pub also_none : (marks : List Bool) → MarksAlso marks marks []
-also_none marks = record { long = refl; marked = λ p member. absurd (member tt); others = λ p out. refl }
+also_none marks = record { long = refl; more = omega arith; marked = λ p member. absurd (member tt); others = λ p out. refl }
+
+-- a mark that is set where none was
+pub set_more : (marks : List Bool) (i : ℕ) → i < length marks → slice_index_or marks i false ≡ false → many_marked (slice_set marks i true) ≡ many_marked marks + 1
+set_more marks i few free =
+    let weigh : Bool → ℕ = λ mark. cond mark 1 0 in
+    let sums = sum_by-set weigh marks i true false few in
+    let was : weigh (slice_index_or marks i false) ≡ 0 = ap weigh free in
+    omega (arith, sums, was)
 
 -- one place more is,
-pub also_more : {old marks : List Bool} {s : List Place} (p : Place) (i : ℕ) → MarksAlso old marks s → i ≡ index_of p → i < length marks → MarksAlso old (slice_set marks i true) (s ++ p ∷ [])
-also_more {old} {marks} {s} p i a at few = record {
+pub also_more : {old marks : List Bool} {s : List Place} (p : Place) (i : ℕ) → MarksAlso old marks s → is_marked marks p ≡ false → i ≡ index_of p → i < length marks
+    → MarksAlso old (slice_set marks i true) (s ++ p ∷ [])
+also_more {old} {marks} {s} p i a free at few = record {
   long = length-set marks i true ∙ a.long;
+  more = omega (arith, set_more marks i few (subst (λ (j : ℕ). slice_index_or marks j false ≡ false) (sym at) free), a.more, length-append s (p ∷ []));
   marked = λ q member. elim (same_or_not q p) [
     | inl same ↦ rw same (entry_same false marks p true i at (rw (← at) few))
     | inr apart ↦ others_same false marks p true i at q apart ∙ a.marked q (λ out. member (absent_both q s (p ∷ []) out (apart, tt)))
@@ -32,6 +44,7 @@ also_more {old} {marks} {s} p i a at few = record {
 pub also_on : {old mid new : List Bool} {s t : List Place} → MarksAlso old mid s → MarksAlso mid new t → MarksAlso old new (s ++ t)
 also_on {s = s} {t} a b = record {
   long = b.long ∙ a.long;
+  more = omega (arith, a.more, b.more, length-append s t);
   marked = λ q member. elim (absent_or q t) [
     | inl out ↦ b.others q out ∙ a.marked q (λ gone. member (absent_both q s t gone out))
     | inr there ↦ b.marked q there
@@ -141,7 +154,7 @@ module _ {s : List Place} {old marks : List Bool} {current : Option Place} {left
         leads = leads;
         counted = omega (arith, counts, m.counted, ap length k.rest_is);
         free = unmarked_both old m.front (p ∷ []) m.free (unmarked_before m.also (p ∷ []) (free, tt));
-        also = also_more p i m.also at few;
+        also = also_more p i m.also free at few;
       }
 
   -- all are marked, where the walk has ended
@@ -222,6 +235,62 @@ module _ {E : Type 0} (linked : E → Bool) (t : Table E) {old marks : List Bool
   -- and where one is not, some other is
   pub not_only : (((p : Place) → IsLinked linked t p → is_marked marks p ≡ true) → ⊥) → ((p : Place) → IsLinked linked t p → IsMember p s) → ⊥
   not_only never only = never (λ p is. also.marked p (only p is))
+
+-- THE MARKS THAT ARE LEFT, where none was set before
+module _ {old new : List Bool} (none : (p : Place) → is_marked old p ≡ false) (zero_before : many_marked old ≡ 0) {s : List Place} (also : MarksAlso old new s) where
+  pub marking : IsMarking new s
+  marking p = ((λ e. elim (absent_or p s) [ inl out ↦ absurd (true≢false (sym e ∙ also.others p out ∙ none p)) | inr member ↦ member ]), also.marked p)
+
+  pub left_marked : (shows : List Place → Type 0) {count : ℕ} → shows s → length s ≡ count → LeavesMarked shows new count
+  left_marked shows shown many = (s, shown, marking, omega (arith, also.more, zero_before, many))
+
+pub left_gathered : (shows : List Place → Type 0) (old new : List Bool) → ((p : Place) → is_marked old p ≡ false) → many_marked old ≡ 0 → (o : Option ℕ)
+    → MatchOption o (ShowsNoneUnmarked shows old) (IsGathered shows old new) → IfSome o (LeavesMarked shows new)
+left_gathered shows old new none zero_before None h = tt
+left_gathered shows old new none zero_before (Some count) (s, shown, many, free, also) = left_marked none zero_before also shows shown many
+
+-- WHAT IS MARKED IS LINKED
+module _ {E : Type 0} (linked : E → Bool) (t : Table E) where
+  pub only_none : (marks : List Bool) → MarksLinked linked t marks marks
+  only_none marks = record { besides = λ p free is. absurd (true≢false (sym is ∙ free)) }
+
+  -- the members of s are marked besides, and what is not linked is none of them
+  pub only_also : {old new : List Bool} {s : List Place} → MarksAlso old new s → ((p : Place) → linked (t.entry p) ≡ false → IsAbsent p s) → MarksLinked linked t old new
+  only_also {old} {new} also free = record { besides = λ p was is. by p was is (linked (t.entry p)) refl } where
+    by : (p : Place) → is_marked old p ≡ false → is_marked new p ≡ true → (b : Bool) → linked (t.entry p) ≡ b → IsLinked linked t p
+    by p was is true e = e
+    by p was is false e = absurd (true≢false (sym is ∙ also.others p (free p e) ∙ was))
+
+  pub only_on : {old mid new : List Bool} → MarksLinked linked t old mid → MarksLinked linked t mid new → MarksLinked linked t old new
+  only_on {old} {mid} {new} h k = record { besides = λ p was is. by p was is (is_marked mid p) refl } where
+    by : (p : Place) → is_marked old p ≡ false → is_marked new p ≡ true → (b : Bool) → is_marked mid p ≡ b → IsLinked linked t p
+    by p was is true e = h.besides p was e
+    by p was is false e = k.besides p e is
+
+  -- where none was marked before, all that is marked is linked
+  pub only_linked : {old new : List Bool} → ((p : Place) → is_marked old p ≡ false) → MarksLinked linked t old new → (p : Place) → is_marked new p ≡ true → IsLinked linked t p
+  only_linked none h p is = h.besides p (none p) is
+
+-- NO MARK is set
+pub cleared_more : (marks : List Bool) (i : ℕ) → i < length marks → ((j : ℕ) → j < i → slice_index_or marks j false ≡ false)
+    → (j : ℕ) → j < i + 1 → slice_index_or (slice_set marks i false) j false ≡ false
+cleared_more marks i few before j low = elim (cases_lt j i) [
+  | inl less ↦ get_or-set_other marks i j false false (λ e. absurd (omega (arith, less, e))) ∙ before j less
+  | inr more ↦ get_or-set_at marks i j false false (omega (arith, more, low)) few
+]
+
+pub cleared_all : (marks : List Bool) (i : ℕ) → length marks ≤ i → ((j : ℕ) → j < i → slice_index_or marks j false ≡ false) → (j : ℕ) → slice_index_or marks j false ≡ false
+cleared_all marks i all before j = elim (cases_lt j i) [
+  | inl less ↦ before j less
+  | inr more ↦ get_or_past marks j false (omega (arith, more, all))
+]
+
+pub none_marked : (marks : List Bool) → ((j : ℕ) → slice_index_or marks j false ≡ false) → many_marked marks ≡ 0
+none_marked [] none = refl
+none_marked (x ∷ marks) none =
+    let weigh : Bool → ℕ = λ mark. cond mark 1 0 in
+    let first : weigh x ≡ 0 = ap weigh (none 0) in
+    omega (arith, sum_by-cons weigh x marks, first, none_marked marks (λ j. none (suc j)))
 
 -- behind the last of a list there is nothing
 pub drop_none : {X : Type 0} (xs : List X) (i : ℕ) → length xs ≤ i → drop i xs ≡ []

@@ -1,4 +1,5 @@
 pub mod Checked
+pub mod HashTables
 pub mod Joined
 pub mod Subtrees
 pub mod WholeTables

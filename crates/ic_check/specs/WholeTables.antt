@@ -1,5 +1,5 @@
 -- What a check of a whole table answers, and what its marks say.
-use Rattle.std.specs.Prelude.{◌≡◌, ℕ, Bool, true, false, List, [], ◌∷◌, ◌++◌, length}
+use Rattle.std.specs.Prelude.{◌≡◌, ℕ, ◌+◌, Bool, true, false, List, [], ◌∷◌, ◌++◌, length, count_by}
 use Rattle.std.specs.Bool.{Decides}
 use Rattle.std.specs.List.{AllByRecursion}
 use Rattle.ic_unsafe_ref.specs.declared.place.Place.{Place}
@@ -40,6 +40,14 @@ module _ {H G : Type 0} (shows : H → List Place → Type 0) (others : G → Li
 abbrev pub is_marked : List Bool → Place → Bool
 is_marked = entry_at false
 
+-- how many marks are set
+abbrev pub many_marked : List Bool → ℕ
+many_marked marks = count_by (λ mark. mark) marks
+
+-- A PLACE THAT IS MARKED BESIDES is linked
+pub record MarksLinked {E : Type 0} (linked : E → Bool) (t : Table E) (old new : List Bool) : Type 0 where
+  pub besides : (p : Place) → is_marked old p ≡ false → is_marked new p ≡ true → IsLinked linked t p
+
 -- the members of s are marked, and no other place is
 abbrev pub IsMarking : List Bool → List Place → Type 0
 IsMarking marks s = (p : Place) → Decides (is_marked marks p) (IsMember p s)
@@ -48,9 +56,10 @@ IsMarking marks s = (p : Place) → Decides (is_marked marks p) (IsMember p s)
 abbrev pub AreUnmarked : List Bool → List Place → Type 0
 AreUnmarked marks s = AllByRecursion (λ p. is_marked marks p ≡ false) s
 
--- THE MEMBERS OF s ARE MARKED BESIDES, and no other place
+-- THE MEMBERS OF s ARE MARKED BESIDES, so many marks more, and no other place
 pub record MarksAlso (old new : List Bool) (s : List Place) : Type 0 where
   pub long : length new ≡ length old
+  pub more : many_marked new ≡ many_marked old + length s
   pub marked : (p : Place) → IsMember p s → is_marked new p ≡ true
   pub others : (p : Place) → IsAbsent p s → is_marked new p ≡ is_marked old p
 
@@ -62,6 +71,10 @@ module _ (shows : List Place → Type 0) where
   -- no sequence is shown of which no member is marked
   abbrev pub ShowsNoneUnmarked : List Bool → Type 0
   ShowsNoneUnmarked old = (s : List Place) → shows s → AreUnmarked old s → ⊥
+
+  -- THE MARKS THAT ARE LEFT: those of the members of a sequence that is shown, so many, and no other
+  abbrev pub LeavesMarked : List Bool → ℕ → Type 0
+  LeavesMarked marks count = (s : List Place) × shows s × IsMarking marks s × (many_marked marks ≡ count)
 
 -- the place with that index is linked, and not marked
 abbrev pub IsMissed : {E : Type 0} → (E → Bool) → Table E → List Bool → ℕ → Type 0

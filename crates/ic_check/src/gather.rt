@@ -16,7 +16,7 @@ ghost use Rattle.ic_link_ops.proofs.ShownLists.{shows_one};
 ghost use Rattle.ic_link_ops.proofs.ShownTrees.{one_sequence};
 ghost use Rattle.ic_rbtree.specs.Tree.{root_of};
 ghost use Rattle.ic_check.specs.Checked.{IsShown};
-ghost use Rattle.ic_check.specs.WholeTables.{AreUnmarked, MarksAlso, IsGathered, ShowsNoneUnmarked};
+ghost use Rattle.ic_check.specs.WholeTables.{AreUnmarked, MarksAlso, MarksLinked, IsGathered, ShowsNoneUnmarked};
 
 use crate::kinds::TellsNeighbors;
 use crate::tells::TellsLinks;
@@ -34,11 +34,13 @@ pub trait Gather<L: TellsLinks> {
     /// How many members the table shows for the collection, which it marks, `None` if it shows no sequence, or if one of its members was
     /// marked.
     ///
-    /// It requires nothing of the words, and a mark for each place that the table covers. O(n) for n members. It takes no memory.
+    /// It requires nothing of the words, and a mark for each place that the table covers. It marks linked places alone. O(n) for n members. It
+    /// takes no memory.
     fn gather(&self, links: &L, marks: &mut [bool]) -> Option<usize>
         requires room { (L.table links.now).extent.places ≤ length marks.old }
         ensures gathered { MatchOption result (ShowsNoneUnmarked (Shows self.now (L.table links.now)) marks.old)
             (IsGathered (Shows self.now (L.table links.now)) marks.old marks.new) }
+        ensures only { MarksLinked L.linked (L.table links.now) marks.old marks.new }
         ensures length { length marks.new ≡ length marks.old };
 
     // The laws: one sequence is shown at most, and no place stands twice in it.
@@ -113,6 +115,7 @@ fn mark<A, L: RBTreeOps + TellsLinks>(
     requires shown { IsShown (Shows L.node (L.table links.now) (root_of tree.now)) count }
     ensures marked { (s : List Place) → Shows L.node (L.table links.now) (root_of tree.now) s
         → OnTrue result (AreUnmarked marks.old s × MarksAlso marks.old marks.new s) × OnFalse result (AreUnmarked marks.old s → ⊥) }
+    ensures only { MarksLinked L.linked (L.table links.now) marks.old marks.new }
     ensures length { length marks.new ≡ length marks.old }
 {
     let mut left = count;

@@ -13,18 +13,22 @@
 #![tactic(auto)]
 
 mod gather;
+mod hash_table;
 mod joined;
 mod kinds;
 mod list;
+mod placed;
 mod sorted;
 mod tells;
 mod tree;
 mod whole;
 
 pub use gather::Gather;
+pub use hash_table::check_hash_table;
 pub use joined::{JoinsAny, KeepsWord};
 pub use kinds::{NamesItsNext, TellsNeighbors};
 pub use list::check;
+pub use placed::TellsPlaced;
 pub use sorted::is_sorted;
 pub use tells::TellsLinks;
 pub use tree::check_tree;

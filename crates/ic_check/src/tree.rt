@@ -48,7 +48,7 @@ pub fn check_tree<A, L: RBTreeOps + TellsLinks>(tree: &RBTree<A>, links: &L) -> 
 }
 
 // What is found of the subtree below `parent` that begins at `place`, `None` if no tree of the right shape stands there that has at
-// most so many levels.
+// most so many levels. Each call within has one level less, so no more than 67 calls are within one another.
 fn check_below<L: RBTreeOps + TellsLinks>(
     links: &L,
     place: Option<Place>,
@@ -56,6 +56,7 @@ fn check_below<L: RBTreeOps + TellsLinks>(
     levels: u32,
 ) -> Option<Subtree>
     requires path { HasPathUp L.node (L.table links.now).entry parent }
+    requires low { levels ≤ 66 }
     ensures { MatchOption result (HasNoTree L.node (L.table links.now).entry levels parent place)
         (IsTreeBelow L.node (L.table links.now).entry levels parent place) }
 {

@@ -6,14 +6,14 @@
 //! check_both(&lists, &trees, &links, &mut marks)   // the same of a table with lists and trees
 //! ```
 
-ghost use Rattle.std.specs.Prelude.{◌≡◌, ◌<◌, ◌≤◌, MatchOption, length, true, false};
+ghost use Rattle.std.specs.Prelude.{◌≡◌, ◌<◌, ◌≤◌, MatchOption, IfSome, length, true, false};
 ghost use Rattle.std.specs.Bool.{Decides};
 ghost use Rattle.ic_unsafe_ref.specs.declared.place.Place.{Place};
 ghost use Rattle.ic_unsafe_ref.specs.Places.{index_of};
 ghost use Rattle.ic_link_ops.specs.Chains.{ShowsChain};
 ghost use Rattle.ic_link_ops.specs.Tables.{IsLinked};
 ghost use Rattle.ic_check.specs.Checked.{IsShown, ShowsNone};
-ghost use Rattle.ic_check.specs.WholeTables.{ShowsAll, ShowsBoth, ShowsEachOnce, IsGathered, ShowsNoneUnmarked, IsMissed, is_marked};
+ghost use Rattle.ic_check.specs.WholeTables.{ShowsAll, ShowsBoth, ShowsEachOnce, IsGathered, ShowsNoneUnmarked, IsMissed, LeavesMarked, MarksLinked, is_marked, many_marked};
 
 use crate::gather::Gather;
 use crate::kinds::TellsNeighbors;
@@ -27,15 +27,19 @@ const ALL_PLACES: usize = 8_589_934_591;
 /// How many members the table shows for the list, `None` if it shows no sequence for it: the check of a list of any kind.
 ///
 /// A list whose entries name no next place by themselves may lead through a place twice and still end right, so it takes a mark for each
-/// place that the table covers, whatever it says. It requires nothing of the words. O(n) for n places. It takes no memory.
+/// place that the table covers, whatever it says. Where it answers a number, the members alone are marked then, and no mark is left from before;
+/// where it answers none, it has marked linked places alone. It requires nothing of the words. O(n) for n places. It takes no memory.
 pub fn check_marking<K: TellsNeighbors<L>, T, L: TellsLinks>(
     list: &Chain<K, T>,
     links: &L,
     marks: &mut [bool],
 ) -> Option<usize>
     requires room { (L.table links.now).extent.places ≤ length marks.old }
-    ensures { MatchOption result (ShowsNone (ShowsChain K.Between K.kept (L.table links.now) list.now))
+    ensures shown { MatchOption result (ShowsNone (ShowsChain K.Between K.kept (L.table links.now) list.now))
         (IsShown (ShowsChain K.Between K.kept (L.table links.now) list.now)) }
+    ensures marked { IfSome result (LeavesMarked (ShowsChain K.Between K.kept (L.table links.now) list.now) marks.new) }
+    ensures only { (p : Place) → is_marked marks.new p ≡ true → IsLinked L.linked (L.table links.now) p }
+    ensures length { length marks.new ≡ length marks.old }
 {
     clear(marks);
     list.gather(links, marks)
@@ -45,16 +49,20 @@ pub fn check_marking<K: TellsNeighbors<L>, T, L: TellsLinks>(
 /// is linked that is no member.
 ///
 /// The collections are lists of one kind, or trees. It requires nothing of the words, and a mark for each place that the table covers,
-/// whatever it says. O(n) for n places. It takes no memory.
+/// whatever it says. The marks that it leaves are those that [`check_marking`] leaves. O(n) for n places. It takes no memory.
 pub fn check_all<C: Gather<L>, L: TellsLinks>(
     collections: &[C],
     links: &L,
     marks: &mut [bool],
 ) -> Option<usize>
     requires room { (L.table links.now).extent.places ≤ length marks.old }
-    ensures { MatchOption result
+    ensures shown { MatchOption result
         (ShowsNone (ShowsAll (λ c. C.Shows c (L.table links.now)) L.linked (L.table links.now) collections.now))
         (IsShown (ShowsAll (λ c. C.Shows c (L.table links.now)) L.linked (L.table links.now) collections.now)) }
+    ensures marked { IfSome result
+        (LeavesMarked (ShowsAll (λ c. C.Shows c (L.table links.now)) L.linked (L.table links.now) collections.now) marks.new) }
+    ensures only { (p : Place) → is_marked marks.new p ≡ true → IsLinked L.linked (L.table links.now) p }
+    ensures length { length marks.new ≡ length marks.old }
 {
     clear(marks);
     let Some(count) = gather_each(collections, links, marks) else {
@@ -67,7 +75,7 @@ pub fn check_all<C: Gather<L>, L: TellsLinks>(
     }
 }
 
-/// The same of a table with collections of two kinds, such as lists and trees. It requires and costs what [`check_all`] does.
+/// The same of a table with collections of two kinds, such as lists and trees. It requires and costs what [`check_all`] does, and leaves such marks.
 pub fn check_both<C: Gather<L>, D: Gather<L>, L: TellsLinks>(
     first: &[C],
     second: &[D],
@@ -75,11 +83,16 @@ pub fn check_both<C: Gather<L>, D: Gather<L>, L: TellsLinks>(
     marks: &mut [bool],
 ) -> Option<usize>
     requires room { (L.table links.now).extent.places ≤ length marks.old }
-    ensures { MatchOption result
+    ensures shown { MatchOption result
         (ShowsNone (ShowsBoth (λ c. C.Shows c (L.table links.now)) (λ c. D.Shows c (L.table links.now)) L.linked (L.table links.now)
         first.now second.now))
         (IsShown (ShowsBoth (λ c. C.Shows c (L.table links.now)) (λ c. D.Shows c (L.table links.now)) L.linked (L.table links.now)
         first.now second.now)) }
+    ensures marked { IfSome result
+        (LeavesMarked (ShowsBoth (λ c. C.Shows c (L.table links.now)) (λ c. D.Shows c (L.table links.now)) L.linked (L.table links.now)
+        first.now second.now) marks.new) }
+    ensures only { (p : Place) → is_marked marks.new p ≡ true → IsLinked L.linked (L.table links.now) p }
+    ensures length { length marks.new ≡ length marks.old }
 {
     clear(marks);
     let Some(count) = gather_each(first, links, marks) else {
@@ -106,6 +119,7 @@ fn gather_each<C: Gather<L>, L: TellsLinks>(
     ensures gathered { MatchOption result
         (ShowsNoneUnmarked (ShowsEachOnce (λ c. C.Shows c (L.table links.now)) collections.now) marks.old)
         (IsGathered (ShowsEachOnce (λ c. C.Shows c (L.table links.now)) collections.now) marks.old marks.new) }
+    ensures only { MarksLinked L.linked (L.table links.now) marks.old marks.new }
     ensures length { length marks.new ≡ length marks.old }
 {
     let mut count: usize = 0;
@@ -124,6 +138,7 @@ fn gather_each<C: Gather<L>, L: TellsLinks>(
 // Marks no place.
 fn clear(marks: &mut [bool])
     ensures cleared { (p : Place) → is_marked marks.new p ≡ false }
+    ensures none { many_marked marks.new ≡ 0 }
     ensures length { length marks.new ≡ length marks.old }
 {
     for index in 0..marks.len() {

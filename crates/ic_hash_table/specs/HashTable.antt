@@ -40,6 +40,11 @@ module _ {A B : Type 0} where
     pub count : length (fronts new.buckets) ≡ length (fronts old.buckets)
     pub rewrites : Rewrites old.buckets new.buckets
 
+  -- ITS CHAINS ARE WELL FORMED and within its buckets, as those of each table that a call has made
+  pub record HasChains (fronts : B → List (Option Place)) (table : HashTable A B) : Type 0 where
+    pub well_formed : IsWellFormed table.slots
+    pub enough : table.slots.used ≤ length (fronts table.buckets)
+
   -- its chains are empty and within its buckets
   pub record IsNew (fronts : B → List (Option Place)) (table : HashTable A B) : Type 0 where
     pub none : AllByRecursion (λ front. front ≡ None) (fronts table.buckets)

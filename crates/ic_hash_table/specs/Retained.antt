@@ -1,17 +1,29 @@
--- What a test keeps of the members of a hash table, and what it lets go.
-use Rattle.std.specs.Prelude.{◌≡◌, ◌⊎◌, Bool, true, false, Some, List, [], ◌∷◌}
+-- What a test answers of the members of a hash table, and which of them pass.
+use Rattle.std.specs.Prelude.{◌≡◌, Bool, cond, Some, List, [], ◌∷◌}
 use Rattle.ic_unsafe_ref.specs.declared.place.Place.{Place}
 use Rattle.ic_unsafe_ref.specs.Objects.{Objects, object_at}
 
--- `tells v b`: the test may return b of the value v
-module _ {V : Type 0} (tells : V → Bool → Type 0) (objects : Objects V) where
-  -- it may return b of the object at the place
-  abbrev pub TellsAt : Place → Bool → Type 0
-  TellsAt p b = (value : V) × (object_at objects p ≡ Some value) × tells value b
+-- `tells f v b g`: asked of the value v, the test f may answer b, and is g then
+module _ {F V : Type 0} (tells : F → V → Bool → F → Type 0) (objects : Objects V) where
+  -- so it may be asked of the object at the place
+  abbrev pub TellsAt : F → Place → Bool → F → Type 0
+  TellsAt test p answer after = (value : V) × (object_at objects p ≡ Some value) × tells test value answer after
 
-  -- OF s THE TEST KEEPS the members of `kept`, in order, and lets those of `gone` go, in order
-  abbrev pub Keeps : List Place → List Place → List Place → Type 0
-  Keeps [] kept gone = (kept ≡ []) × (gone ≡ [])
-  Keeps (p ∷ s) kept gone =
-      ((rest : List Place) × TellsAt p true × (kept ≡ p ∷ rest) × Keeps s rest gone)
-      ⊎ ((rest : List Place) × TellsAt p false × (gone ≡ p ∷ rest) × Keeps s kept rest)
+  -- THE TEST WAS ASKED of each of these members once, in their order, and answered so. It was `test` before, and is `last` then
+  abbrev pub AreAnswers : F → List Place → List Bool → F → Type 0
+  AreAnswers test [] [] last = last ≡ test
+  AreAnswers test [] (answer ∷ answers) last = ⊥
+  AreAnswers test (p ∷ s) [] last = ⊥
+  AreAnswers test (p ∷ s) (answer ∷ answers) last = (after : F) × TellsAt test p answer after × AreAnswers after s answers last
+
+-- the members of which it answered yes,
+abbrev pub passing : List Bool → List Place → List Place
+passing [] s = []
+passing (answer ∷ answers) [] = []
+passing (answer ∷ answers) (p ∷ s) = cond answer (p ∷ passing answers s) (passing answers s)
+
+-- and those of which it answered no
+abbrev pub failing : List Bool → List Place → List Place
+failing [] s = []
+failing (answer ∷ answers) [] = []
+failing (answer ∷ answers) (p ∷ s) = cond answer (failing answers s) (p ∷ failing answers s)

@@ -26,7 +26,7 @@ fn empty_words<W: BucketWord, A: Allocator>(alloc: A, count: usize) -> Result<Ve
 
 /// So many empty buckets, each with room for every place: 8 bytes a bucket. O(n) of n buckets.
 ///
-/// It asks for memory once. Where that is refused, nothing is left.
+/// It makes one request for memory. Where that is refused, nothing is left.
 pub fn empty_buckets<A: Allocator>(alloc: A, count: usize) -> Result<Vec<PlaceWord, A>, AllocError>
     ensures count { IfOk result (λ buckets. length buckets.items ≡ count) }
     ensures empty { IfOk result (λ buckets. AllByRecursion (λ front. front ≡ None) buckets.items) }
@@ -36,7 +36,7 @@ pub fn empty_buckets<A: Allocator>(alloc: A, count: usize) -> Result<Vec<PlaceWo
 
 /// So many empty buckets of 4 bytes each, for links whose words have 4 bytes. O(n) of n buckets.
 ///
-/// It asks for memory once. Where that is refused, nothing is left.
+/// It makes one request for memory. Where that is refused, nothing is left.
 pub fn empty_narrow_buckets<A: Allocator>(
     alloc: A,
     count: usize,

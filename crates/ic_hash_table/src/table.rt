@@ -40,7 +40,15 @@ pub struct HashTable<A, B> {
 }
 
 impl<A, B> HashTable<A, B> {
-    ghost use Rattle.ic_hash_table.specs.HashTable.{len_of, slots_of};
+    ghost use Rattle.ic_hash_table.specs.HashTable.{buckets_of, len_of, slots_of};
+
+    /// Its buckets, to be read: the first member of each chain. O(1).
+    #[inline]
+    pub fn buckets(&self) -> &B
+        ensures { result.now ≡ buckets_of self.now }
+    {
+        &self.buckets
+    }
 
     /// How many members it has. O(1).
     #[inline]
@@ -75,8 +83,20 @@ impl<A, B> HashTable<A, B> {
     }
 }
 
+impl<A: Copy, B> HashTable<A, B> {
+    ghost use Rattle.ic_hash_table.specs.HashTable.{adapter_of};
+
+    /// The adapter that it was made with. O(1).
+    #[inline]
+    pub fn adapter(&self) -> A
+        ensures { result ≡ adapter_of self.now }
+    {
+        self.adapter
+    }
+}
+
 impl<A: HashAdapter, B: BucketRow> HashTable<A, B> {
-    ghost use Rattle.ic_hash_table.specs.HashTable.{adapter_of, buckets_of, len_of, slots_of, fronts_of, front_at, number, Holds, HoldsSome, IsNew};
+    ghost use Rattle.ic_hash_table.specs.HashTable.{adapter_of, buckets_of, len_of, slots_of, fronts_of, front_at, number, HasChains, Holds, HoldsSome, IsNew};
     ghost use Rattle.ic_hash_table.specs.Slots.{IsWellFormed};
     ghost use Rattle.ic_hash_table.specs.declared.slots.Slots.{Slots};
 
@@ -130,6 +150,7 @@ impl<A: HashAdapter, B: BucketRow> HashTable<A, B> {
         ensures buckets { buckets_of result ≡ buckets }
         ensures len { len_of result ≡ len }
         ensures used { (slots_of result).used ≡ used }
+        ensures chains { HasChains B.fronts result }
         ensures slots { (slots : Slots) → IsWellFormed slots → slots.used ≡ used → slots_of result ≡ slots }
     {
         HashTable {

@@ -5,7 +5,7 @@
 //! table.clear(&mut links); // and so is each that is left
 //! ```
 
-ghost use Rattle.std.specs.Prelude.{◌≡◌, ◌<◌, None, List, length, slice_index_or, slice_set};
+ghost use Rattle.std.specs.Prelude.{◌≡◌, ◌<◌, Bool, None, List, length, slice_index_or, slice_set};
 ghost use Rattle.ic_unsafe_ref.specs.declared.place.Place.{Place};
 ghost use Rattle.ic_link_ops.specs.LinkSteps.{releases_each};
 ghost use Rattle.ic_link_ops.specs.Tables.{KeepsBeside};
@@ -64,29 +64,53 @@ impl<A, B> HashTable<A, B> {
 }
 
 impl<A: HashAdapter, B> HashTable<A, B> {
-    ghost use Rattle.std.specs.Fn.{FnReturnsAt};
+    ghost use Rattle.std.specs.Fn.{CalledAt};
     ghost use Rattle.ic_hash_table.specs.HashTable.{adapter_of, slots_of, number, Holds, HoldsSome, KeepsBuckets};
-    ghost use Rattle.ic_hash_table.specs.Retained.{Keeps};
+    ghost use Rattle.ic_hash_table.specs.Retained.{AreAnswers, passing, failing};
 
     /// Takes each member out whose object fails the test. The others stay, in their order.
     ///
-    /// It requires that all members are placed, with the keys that they were put in by. The test is asked once for each member, from the
+    /// It requires that all members are placed, with the keys that they were put in by. The test is asked once of each member, from the
     /// first on. What was taken out is unlinked, and stays placed. One step for each member and each bucket, and a walk along its chain for
     /// each member that goes. No look, and no memory.
-    pub fn retain<L: SinglyLinkedListOps, O: Values<A::Value>, F: Fn(&A::Value) -> bool>(
+    pub fn retain<L: SinglyLinkedListOps, O: Values<A::Value>, F: FnMut(&A::Value) -> bool>(
         &mut self,
         links: &mut L,
         objects: &O,
-        keeps: F,
+        mut keeps: F,
     )
     where
         B: BucketsFor<L>,
         requires held { HoldsSome L.successor (number A.key_of A.hash_of) B.fronts (L.table links.old) self.old (O.values objects.now) }
         requires callable { F.IsAlwaysCallable keeps }
-        ensures retained { (s : List Place) → Holds L.successor (number A.key_of A.hash_of) B.fronts (L.table links.old) self.old (O.values objects.now) s
-            → (kept gone : List Place) × Keeps (FnReturnsAt F.Fn keeps) (O.values objects.now) s kept gone
-            × Holds L.successor (number A.key_of A.hash_of) B.fronts (L.table links.new) self.new (O.values objects.now) kept
-            × L.Does links.old links.new (releases_each gone) }
+        ensures asked { (s : List Place) → Holds L.successor (number A.key_of A.hash_of) B.fronts (L.table links.old) self.old (O.values objects.now) s
+            → (answers : List Bool) × (last : F) × AreAnswers (CalledAt F.FnMut) (O.values objects.now) keeps s answers last
+            × Holds L.successor (number A.key_of A.hash_of) B.fronts (L.table links.new) self.new (O.values objects.now) (passing answers s)
+            × L.Does links.old links.new (releases_each (failing answers s)) }
+        ensures adapter { adapter_of self.new ≡ adapter_of self.old }
+        ensures slots { slots_of self.new ≡ slots_of self.old }
+        ensures buckets { KeepsBuckets B.fronts B.Rewrites self.old self.new }
+        ensures frame { (s : List Place) → Holds L.successor (number A.key_of A.hash_of) B.fronts (L.table links.old) self.old (O.values objects.now) s
+            → KeepsBeside (L.table links.old) (L.table links.new) s }
+    {
+        self.retain_by(links, objects, &mut keeps);
+    }
+
+    // `retain` with a test that its caller has still: what it is behind the last call of it is seen.
+    fn retain_by<L: SinglyLinkedListOps, O: Values<A::Value>, F: FnMut(&A::Value) -> bool>(
+        &mut self,
+        links: &mut L,
+        objects: &O,
+        keeps: &mut F,
+    )
+    where
+        B: BucketsFor<L>,
+        requires held { HoldsSome L.successor (number A.key_of A.hash_of) B.fronts (L.table links.old) self.old (O.values objects.now) }
+        requires callable { F.IsAlwaysCallable keeps.old }
+        ensures asked { (s : List Place) → Holds L.successor (number A.key_of A.hash_of) B.fronts (L.table links.old) self.old (O.values objects.now) s
+            → (answers : List Bool) × AreAnswers (CalledAt F.FnMut) (O.values objects.now) keeps.old s answers keeps.new
+            × Holds L.successor (number A.key_of A.hash_of) B.fronts (L.table links.new) self.new (O.values objects.now) (passing answers s)
+            × L.Does links.old links.new (releases_each (failing answers s)) }
         ensures adapter { adapter_of self.new ≡ adapter_of self.old }
         ensures slots { slots_of self.new ≡ slots_of self.old }
         ensures buckets { KeepsBuckets B.fronts B.Rewrites self.old self.new }

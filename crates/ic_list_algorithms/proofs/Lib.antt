@@ -1,3 +1,4 @@
+pub mod AskedLemmas
 pub mod BackLinks
 pub mod MergedSequences
 pub mod MergeSteps

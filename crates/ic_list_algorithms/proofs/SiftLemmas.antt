@@ -81,21 +81,25 @@ module _ {L E W : Type 0} (between : E → Option Place → Option Place → Typ
 
   -- AT FIRST
   pub sift_begins : {t : L} {list : ListHead W} {s : List Place} {current : Option Place} → Does t t [] → ShowsChain between kept (table t) list s → current ≡ list.head
-      → AllByRecursion Holds s → Sifting t t list s None current
-  sift_begins {s = s} nothing shown on holds = record {
-    done = [];
-    rest = s;
-    out = [];
-    shown = shown;
-    keeps = refl;
-    at = on ∙ shown.head;
-    within = λ q h. h;
-    holds = holds;
-    mixes = λ k o m. m;
-    by_test = λ law. (refl, refl);
-    released = nothing;
-    frame = record { extent = refl; others = λ q out. refl };
-  }
+      → AllByRecursion Holds s → (k : Sifting t t list s None current) × (k.done ≡ []) × (k.rest ≡ s)
+  sift_begins {s = s} nothing shown on holds = (
+    record {
+      done = [];
+      rest = s;
+      out = [];
+      shown = shown;
+      keeps = refl;
+      at = on ∙ shown.head;
+      within = λ q h. h;
+      holds = holds;
+      mixes = λ k o m. m;
+      by_test = λ law. (refl, refl);
+      released = nothing;
+      frame = record { extent = refl; others = λ q out. refl };
+    },
+    refl,
+    refl,
+  )
 
   module _ {old new : L} {list : ListHead W} {s : List Place} {prev current : Option Place} (k : Sifting old new list s prev current) where
     -- the member that is next, in its place
@@ -112,6 +116,9 @@ module _ {L E W : Type 0} (between : E → Option Place → Option Place → Typ
     sift_held on = last_holds Holds k.done k.rest (sym k.keeps ∙ on) k.holds
 
     -- AT THE END
+    pub sift_whole : current ≡ None → ShowsChain between kept (table new) list k.done
+    sift_whole over = let none : k.rest ≡ [] = nothing_first k.rest (sym over ∙ k.at) in rw (none, append-nil) at k.shown
+
     pub sift_ends : current ≡ None → SiftsTo (ShowsChain between kept) table Does Lawful old new list s (sift keep None s) (sift_out keep None s)
     sift_ends over =
         let none : k.rest ≡ [] = nothing_first k.rest (sym over ∙ k.at) in
@@ -146,7 +153,7 @@ module _ {L E W : Type 0} (between : E → Option Place → Option Place → Typ
       {old mid : L} {list : ListHead W} {s : List Place} {prev current : Option Place} {p : Place} {r : List Place} (k : Sifting old mid list s prev current) (is : k.rest ≡ p ∷ r) where
     pub sift_turns : {new : L} {list' : ListHead W} {prev' next : Option Place} (kept_here : Bool) → (Lawful → keep prev p ≡ kept_here)
         → SiftsOne (ShowsChain between kept) table Does kept_here mid new list' k.done p r prev' next
-        → (m : Sifting old new list' s prev' next) × (length m.rest < length k.rest)
+        → (m : Sifting old new list' s prev' next) × (length m.rest < length k.rest) × (m.done ≡ k.done ++ cond kept_here (p ∷ []) []) × (m.rest ≡ r)
     sift_turns {new} {list'} {prev'} {next} true tells one = (
       record {
         done = k.done ++ p ∷ [];
@@ -170,6 +177,8 @@ module _ {L E W : Type 0} (between : E → Option Place → Option Place → Typ
         };
       },
       omega (arith, ap length is),
+      refl,
+      refl,
     )
     sift_turns {new} {list'} {prev'} {next} false tells one = (
       record {
@@ -196,6 +205,8 @@ module _ {L E W : Type 0} (between : E → Option Place → Option Place → Typ
         };
       },
       omega (arith, ap length is),
+      sym (append-nil k.done),
+      refl,
     )
 
 -- SIFTED by a test that says the same, where less is asked for

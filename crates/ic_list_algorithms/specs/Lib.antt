@@ -1,3 +1,4 @@
+pub mod Asked
 pub mod Counts
 pub mod Ordered
 pub mod Runs

@@ -7,12 +7,14 @@
 
 ghost use Rattle.std.specs.Prelude.{◌≡◌, ◌∷◌, ◌++◌, Bool, true, not, Option, Some, None, List};
 ghost use Rattle.std.specs.List.{filter};
-ghost use Rattle.std.specs.Fn.{ComputesKey, ComputesOnPairs};
+ghost use Rattle.std.specs.List.Retain.{IsFiltered, IsDeduped};
+ghost use Rattle.std.specs.Fn.{ComputesKey, ComputesOnPairs, CalledAt, CalledAtTwo};
 ghost use Rattle.ic_unsafe_ref.specs.declared.place.Place.{Place};
 ghost use Rattle.ic_unsafe_ref.specs.Objects.{is_placed};
 ghost use Rattle.ic_link_ops.specs.Sequences.{last};
 ghost use Rattle.ic_link_ops.specs.Chains.{ShowsChain};
 ghost use Rattle.ic_link_ops.specs.PlacedObjects.{ShowsPlaced};
+ghost use Rattle.ic_list_algorithms.specs.Asked.{AsksAt, AsksBoth, AsksBeside, KeepsInTurn};
 ghost use Rattle.ic_list_algorithms.specs.Walks.{test_at};
 ghost use Rattle.ic_list_algorithms.specs.Sifts.{sift as sifted, sift_out, keep_at, dedup, duplicates, SiftsTo, SiftsOne};
 
@@ -23,7 +25,8 @@ use ic_unsafe_ref::{Place, Values};
 
 /// Keeps the members for which the test holds, in their order, and unlinks the others.
 ///
-/// It requires that all members are placed. It walks from the front, and calls the test once for each member. O(n), and no memory.
+/// It requires that all members are placed. It walks from the front, and calls the test once for each member, whatever the test keeps from
+/// one call to the next. O(n), and no memory.
 pub fn retain<K: ForwardLinks<L>, T, V, L: LinkOps, O: Values<V>, F: FnMut(&V) -> bool>(
     list: &mut Chain<K, T>,
     links: &mut L,
@@ -35,6 +38,9 @@ pub fn retain<K: ForwardLinks<L>, T, V, L: LinkOps, O: Values<V>, F: FnMut(&V) -
     ensures retained { (s : List Place) (holds : V → Bool) → ShowsChain K.Between K.kept (L.table links.old) list.old s
         → SiftsTo (ShowsChain K.Between K.kept) L.table L.Does (ComputesKey F.FnMut holds test) links.old links.new list.new s
         (filter (test_at holds (O.values objects.now)) s) (filter (λ q. not (test_at holds (O.values objects.now) q)) s) }
+    ensures asked { (s : List Place) → ShowsChain K.Between K.kept (L.table links.old) list.old s
+        → (kept : List Place) × ShowsChain K.Between K.kept (L.table links.new) list.new kept
+        × IsFiltered (AsksAt (O.values objects.now) (CalledAt F.FnMut)) test s kept }
 {
     let mut keep = Passes::new(test);
     sift::<K, T, V, L, O, Passes<F>>(list, links, objects, &mut keep);
@@ -55,6 +61,9 @@ pub fn dedup_by<K: ForwardLinks<L>, T, V, L: LinkOps, O: Values<V>, F: FnMut(&V,
     ensures firsts_stay { (s : List Place) (alike : V → V → Bool) → ShowsChain K.Between K.kept (L.table links.old) list.old s
         → SiftsTo (ShowsChain K.Between K.kept) L.table L.Does (ComputesOnPairs F.FnMut alike same) links.old links.new list.new s
         (dedup alike (O.values objects.now) s) (duplicates alike (O.values objects.now) s) }
+    ensures asked { (s : List Place) → ShowsChain K.Between K.kept (L.table links.old) list.old s
+        → (kept : List Place) × ShowsChain K.Between K.kept (L.table links.new) list.new kept
+        × IsDeduped (AsksBoth (O.values objects.now) (CalledAtTwo F.FnMut)) same s kept }
 {
     let mut keep = Differs::new(same);
     sift::<K, T, V, L, O, Differs<F>>(list, links, objects, &mut keep);
@@ -72,6 +81,9 @@ fn sift<K: ForwardLinks<L>, T, V, L: LinkOps, O: Values<V>, S: Keeps<V>>(
     ensures sifted { (s : List Place) (test : Option V → V → Bool) → ShowsChain K.Between K.kept (L.table links.old) list.old s
         → SiftsTo (ShowsChain K.Between K.kept) L.table L.Does (S.obeys keep.old test) links.old links.new list.new s
         (sifted (keep_at test (O.values objects.now)) None s) (sift_out (keep_at test (O.values objects.now)) None s) }
+    ensures asked { (s : List Place) → ShowsChain K.Between K.kept (L.table links.old) list.old s
+        → (kept : List Place) × ShowsChain K.Between K.kept (L.table links.new) list.new kept
+        × KeepsInTurn (AsksBeside (O.values objects.now) S.asks) keep.old None s kept keep.new }
 {
     let mut current = list.first();
     let mut prev = None;
@@ -99,7 +111,8 @@ fn sift_one<K: ForwardLinks<L>, T, V, L: LinkOps, O: Values<V>, S: Keeps<V>>(
     requires prev_placed { (q : Place) → prev ≡ Some q → is_placed (O.values objects.now) q ≡ true }
     ensures sifted { (kept : Bool) × ((test : Option V → V → Bool) → S.obeys keep.old test → keep_at test (O.values objects.now) prev member ≡ kept)
         × ((front back : List Place) → ShowsChain K.Between K.kept (L.table links.old) list.old (front ++ member ∷ back) → prev ≡ last front
-        → SiftsOne (ShowsChain K.Between K.kept) L.table L.Does kept links.old links.new list.new front member back result.0 result.1) }
+        → SiftsOne (ShowsChain K.Between K.kept) L.table L.Does kept links.old links.new list.new front member back result.0 result.1)
+        × AsksBeside (O.values objects.now) S.asks keep.old prev member kept keep.new }
     ensures again { S.ready keep.new }
     ensures obeys { (test : Option V → V → Bool) → S.obeys keep.old test → S.obeys keep.new test }
 {
@@ -123,6 +136,7 @@ fn is_kept<V, O: Values<V>, S: Keeps<V>>(
     requires placed { is_placed (O.values objects.now) member ≡ true }
     requires prev_placed { (q : Place) → prev ≡ Some q → is_placed (O.values objects.now) q ≡ true }
     ensures answer { (test : Option V → V → Bool) → S.obeys keep.old test → keep_at test (O.values objects.now) prev member ≡ result }
+    ensures asked { AsksBeside (O.values objects.now) S.asks keep.old prev member result keep.new }
     ensures again { S.ready keep.new }
     ensures obeys { (test : Option V → V → Bool) → S.obeys keep.old test → S.obeys keep.new test }
 {

@@ -7,12 +7,13 @@
 //! ```
 
 ghost use Rattle.std.specs.Prelude.{◌≡◌, ◌↔◌, ℕ, Bool, true, Some, IsTrue, MatchOption, List, length, drop};
-ghost use Rattle.std.specs.Fn.{ComputesKey};
+ghost use Rattle.std.specs.Fn.{ComputesKey, CalledAt};
 ghost use Rattle.ic_unsafe_ref.specs.declared.place.Place.{Place};
 ghost use Rattle.ic_unsafe_ref.specs.Objects.{is_placed};
 ghost use Rattle.ic_link_ops.specs.Sequences.{first};
 ghost use Rattle.ic_link_ops.specs.Chains.{ShowsChain, ShowsSomeChain};
 ghost use Rattle.ic_link_ops.specs.PlacedObjects.{ShowsPlaced};
+ghost use Rattle.ic_list_algorithms.specs.Asked.{AnswersNo, AsksAt, FindsFirst};
 ghost use Rattle.ic_list_algorithms.specs.Ordered.{GoesBy, IsOrdered};
 ghost use Rattle.ic_list_algorithms.specs.Runs.{less_at};
 ghost use Rattle.ic_list_algorithms.specs.Walks.{test_at, HoldsNowhere, HoldsFirst, stands_behind, are_neighbors_ordered};
@@ -57,7 +58,8 @@ pub fn nth<K: ForwardLinks<L>, T, L: LinkOps>(
 
 /// The position of the first member for which the test holds, counted from 0, or `None` if it holds for none.
 ///
-/// It requires that all members are placed. It walks from the front, and calls the test once for each member up to that one.
+/// It requires that all members are placed. It walks from the front, and calls the test once for each member up to that one, whatever the
+/// test keeps from one call to the next.
 pub fn position<K: ForwardLinks<L>, T, V, L: LinkOps, O: Values<V>, F: FnMut(&V) -> bool>(
     list: &Chain<K, T>,
     links: &L,
@@ -69,8 +71,12 @@ pub fn position<K: ForwardLinks<L>, T, V, L: LinkOps, O: Values<V>, F: FnMut(&V)
     ensures found { (s : List Place) (holds : V → Bool) → ShowsChain K.Between K.kept (L.table links.now) list.now s → ComputesKey F.FnMut holds test
         → MatchOption result (HoldsNowhere (test_at holds (O.values objects.now)) s)
         (λ at. (q : Place) × HoldsFirst (test_at holds (O.values objects.now)) s at q) }
+    ensures asked { (s : List Place) → ShowsChain K.Between K.kept (L.table links.now) list.now s
+        → MatchOption result ((after : F) × AnswersNo (AsksAt (O.values objects.now) (CalledAt F.FnMut)) test s after)
+        (λ at. (q : Place) × (after : F) × FindsFirst (AsksAt (O.values objects.now) (CalledAt F.FnMut)) test s after at q) }
 {
-    let (at, _) = find_first(list, links, objects, test)?;
+    let mut test = test;
+    let (at, _) = find_first(list, links, objects, &mut test)?;
     Some(at)
 }
 
@@ -86,8 +92,12 @@ pub fn find<K: ForwardLinks<L>, T, V, L: LinkOps, O: Values<V>, F: FnMut(&V) -> 
     ensures found { (s : List Place) (holds : V → Bool) → ShowsChain K.Between K.kept (L.table links.now) list.now s → ComputesKey F.FnMut holds test
         → MatchOption result (HoldsNowhere (test_at holds (O.values objects.now)) s)
         (λ object. (at : ℕ) × HoldsFirst (test_at holds (O.values objects.now)) s at object) }
+    ensures asked { (s : List Place) → ShowsChain K.Between K.kept (L.table links.now) list.now s
+        → MatchOption result ((after : F) × AnswersNo (AsksAt (O.values objects.now) (CalledAt F.FnMut)) test s after)
+        (λ object. (at : ℕ) × (after : F) × FindsFirst (AsksAt (O.values objects.now) (CalledAt F.FnMut)) test s after at object) }
 {
-    let (_, place) = find_first(list, links, objects, test)?;
+    let mut test = test;
+    let (_, place) = find_first(list, links, objects, &mut test)?;
     Some(UnsafeRef::new(place))
 }
 
@@ -96,15 +106,17 @@ fn find_first<K: ForwardLinks<L>, T, V, L: LinkOps, O: Values<V>, F: FnMut(&V) -
     list: &Chain<K, T>,
     links: &L,
     objects: &O,
-    test: F,
+    test: &mut F,
 ) -> Option<(usize, Place)>
-    requires callable { F.IsAlwaysCallable test }
+    requires callable { F.IsAlwaysCallable test.old }
     requires placed { ShowsPlaced (ShowsChain K.Between K.kept (L.table links.now) list.now) (O.values objects.now) }
-    ensures found { (s : List Place) (holds : V → Bool) → ShowsChain K.Between K.kept (L.table links.now) list.now s → ComputesKey F.FnMut holds test
+    ensures found { (s : List Place) (holds : V → Bool) → ShowsChain K.Between K.kept (L.table links.now) list.now s → ComputesKey F.FnMut holds test.old
         → MatchOption result (HoldsNowhere (test_at holds (O.values objects.now)) s)
         (λ found. HoldsFirst (test_at holds (O.values objects.now)) s found.0 found.1) }
+    ensures asked { (s : List Place) → ShowsChain K.Between K.kept (L.table links.now) list.now s
+        → MatchOption result (AnswersNo (AsksAt (O.values objects.now) (CalledAt F.FnMut)) test.old s test.new)
+        (λ found. FindsFirst (AsksAt (O.values objects.now) (CalledAt F.FnMut)) test.old s test.new found.0 found.1) }
 {
-    let mut test = test;
     let mut at = 0;
     let mut current = list.first();
     let mut prev = None;

@@ -134,6 +134,20 @@ module _ {E : Type 0} {n : E → Neighbors} where
         (chain_last (IsBetween n) t0 t1 (Some p) r (Some p) (first r) behind c.distinct.1 c.chain.1);
   }
 
+  -- and so of any stretch
+  pub circle_bypassed : {t0 t1 t2 : Place → E} (out r : List Place) → IsCircle n t0 (out ++ r)
+      → TurnsBehind (IsBetween n) t0 t1 (last r) (first (out ++ r)) (first r)
+      → TurnsBefore (IsBetween n) t1 t2 (first r) (last_or (last (out ++ r)) out) (last r) → IsCircle n t2 r
+  circle_bypassed {t0} {t1} {t2} out r c behind before =
+      let b = IsBetween n in
+      let distinct = distinct_right out r c.distinct in
+      let cut = chain_cut b t0 (last (out ++ r)) out r (first (out ++ r)) c.chain in
+      record {
+        distinct = distinct;
+        chain = chain_first b t1 t2 (last_or (last (out ++ r)) out) (last r) r (first r) before distinct
+            (chain_last b t0 t1 (last_or (last (out ++ r)) out) r (first (out ++ r)) (first r) behind distinct cut.1);
+      }
+
   -- IN: p, which stands between the last and the first already, is put between them where both are turned to it
   pub circle_filled : {t0 t1 t2 : Place → E} (p : Place) (r : List Place) {b : Place} → Some b ≡ first r → IsCircle n t0 r → IsAbsent p r
       → IsBetween n (t0 p) (last r) (first r)

@@ -4,3 +4,4 @@ pub mod JoinedRings
 pub mod RingWalks
 pub mod Clearance
 pub mod CursorPlaces
+pub mod Turning

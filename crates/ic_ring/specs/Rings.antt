@@ -1,5 +1,5 @@
 -- Which members a table shows for a ring, whose head is a place of the table, and what stays where a ring changes.
-use Rattle.std.specs.Prelude.{◌≡◌, ◌⊎◌, cond, Option, List, [], ◌∷◌, ◌++◌}
+use Rattle.std.specs.Prelude.{◌≡◌, ◌≢◌, ◌⊎◌, cond, Option, Some, List, [], ◌∷◌, ◌++◌}
 use Rattle.ic_unsafe_ref.specs.declared.place.Place.{Place}
 use Rattle.ic_link_ops.specs.Sequences.{IsAbsent, IsMember, IsDistinct, IsDisjoint, first, last}
 use Rattle.ic_link_ops.specs.Tables.{Table}
@@ -35,6 +35,15 @@ module _ {E : Type 0} (neighbors : E → Neighbors) where
   pub record OthersStay (old new : Table E) (places : List Place) : Type 0 where
     pub rings : (r : List Place) → IsCircle old.entry r → IsDisjoint places r → IsCircle new.entry r
     pub lists : (list : Ends) (s : List Place) → doubly.Shows neighbors old list s → doubly.Shows neighbors new list s
+
+  -- THESE TWO ARE TURNED: `next` stands behind the first, and `prev` in front of the second. What stands behind and in front of each other
+  -- place stays, and so does which places are linked
+  pub record TurnsTo (old new : Table E) (first second next prev : Place) : Type 0 where
+    pub next_is : (neighbors_at neighbors new first).next ≡ Some next
+    pub prev_is : (neighbors_at neighbors new second).prev ≡ Some prev
+    pub other_next : (q : Place) → q ≢ first → (neighbors_at neighbors new q).next ≡ (neighbors_at neighbors old q).next
+    pub other_prev : (q : Place) → q ≢ second → (neighbors_at neighbors new q).prev ≡ (neighbors_at neighbors old q).prev
+    pub linked : (q : Place) → (neighbors_at neighbors new q).linked ≡ (neighbors_at neighbors old q).linked
 
   -- the places from `front` on, up to `end` and without it
   abbrev pub members_until : Table E → Option Place → Place → List Place

@@ -8,12 +8,12 @@
 //! turn_to(&mut links, before, place, behind); // in: the place stands between the two already
 //! ```
 
-ghost use Rattle.std.specs.Prelude.{◌≡◌, ◌≢◌, ◌∷◌, [], List, Some, IsSome};
+ghost use Rattle.std.specs.Prelude.{◌≡◌, ◌≢◌, ◌∷◌, ◌++◌, [], List, Some, IsSome};
 ghost use Rattle.ic_unsafe_ref.specs.declared.place.Place.{Place};
 ghost use Rattle.ic_link_ops.specs.Sequences.{IsAbsent, first, last};
 ghost use Rattle.ic_link_ops.specs.Tables.{IsLinked, ChangesOnly};
 ghost use Rattle.ic_link_ops.specs.LinkedList.{neighbors_at, IsBetween};
-ghost use Rattle.ic_ring.specs.Rings.{IsCircle, InRing};
+ghost use Rattle.ic_ring.specs.Rings.{IsCircle, InRing, TurnsTo};
 
 use ic_link_ops::LinkOps;
 use ic_link_ops::linked_list::LinkedListOps;
@@ -53,15 +53,19 @@ pub(crate) fn prev_of<L: LinkedListOps>(links: &L, place: Place) -> Place
     there(links.prev(place))
 }
 
-/// Turns two places to each other. What stood between them has left their ring, and stays linked. O(1).
+/// Turns two places to each other. What stood between them, however many, has left their ring, and stays linked. O(1).
 ///
-/// It requires only that both are linked. Linux: `__list_del`.
+/// It requires only that both are linked. Whatever the other words say, it writes these two alone, and links and unlinks nothing. Linux:
+/// `__list_del`.
 #[inline]
 pub fn bypass<L: LinkedListOps>(links: &mut L, before: Place, behind: Place)
     requires before { IsLinked L.linked (L.table links.old) before }
     requires behind { IsLinked L.linked (L.table links.old) behind }
     ensures closed { (p : Place) (r : List Place) → IsCircle L.neighbors (L.table links.old).entry (p ∷ r)
         → Some before ≡ last r → Some behind ≡ first r → IsCircle L.neighbors (L.table links.new).entry r }
+    ensures stretch { (out r : List Place) → IsCircle L.neighbors (L.table links.old).entry (out ++ r)
+        → Some before ≡ last r → Some behind ≡ first r → IsCircle L.neighbors (L.table links.new).entry r }
+    ensures turned { TurnsTo L.neighbors (L.table links.old) (L.table links.new) before behind behind before }
     ensures no_step { L.Does links.old links.new [] }
     ensures extent { (L.table links.new).extent ≡ (L.table links.old).extent }
     ensures others { (q : Place) → q ≢ before → q ≢ behind → (L.table links.new).entry q ≡ (L.table links.old).entry q }
@@ -72,7 +76,8 @@ pub fn bypass<L: LinkedListOps>(links: &mut L, before: Place, behind: Place)
 
 /// Turns two places to a third one, which stands between them already, and is in their ring then. O(1).
 ///
-/// It requires only that both are linked, and that the table's words have room for the third. Linux: `__list_add`, whose other two writes are the table's `link_between`.
+/// It requires only that both are linked, and that the table's words have room for the third. Whatever the other words say, it writes these
+/// two alone, and links and unlinks nothing. Linux: `__list_add`, whose other two writes are the table's `link_between`.
 #[inline]
 pub fn turn_to<L: LinkedListOps>(links: &mut L, before: Place, place: Place, behind: Place)
     requires before { IsLinked L.linked (L.table links.old) before }
@@ -82,6 +87,7 @@ pub fn turn_to<L: LinkedListOps>(links: &mut L, before: Place, place: Place, beh
         → Some before ≡ last r → Some behind ≡ first r
         → IsBetween L.neighbors ((L.table links.old).entry place) (Some before) (Some behind)
         → IsCircle L.neighbors (L.table links.new).entry (place ∷ r) }
+    ensures turned { TurnsTo L.neighbors (L.table links.old) (L.table links.new) before behind place place }
     ensures no_step { L.Does links.old links.new [] }
     ensures extent { (L.table links.new).extent ≡ (L.table links.old).extent }
     ensures others { (q : Place) → q ≢ before → q ≢ behind → (L.table links.new).entry q ≡ (L.table links.old).entry q }

@@ -37,6 +37,8 @@ fn meet_numbers<A: Allocator, W: PrevPlace>(rt: &impl Abort, numbers: &mut Liste
     let first = numbers.place_front(10).expect(rt, "memory");
     let second = numbers.place_front(20).expect(rt, "memory");
     assert_same(rt, numbers.first(), Some(second.place()));
+    let _behind = numbers.place_back(30).expect(rt, "memory");
+    assert_same(rt, forget_oldest(numbers), Some(30));
     assert_same(rt, renew(numbers, &first, 11), Some(10));
     assert_same(rt, numbers.first(), Some(first.place()));
     assert_same(rt, forget_oldest(numbers), Some(20));

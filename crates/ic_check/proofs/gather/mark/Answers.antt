@@ -4,7 +4,7 @@ use Rattle.ic_link_ops.specs.Sequences.{at_front}
 use Rattle.ic_link_ops.proofs.ShownTrees.{one_sequence}
 use Rattle.ic_check.specs.WholeTables.{AreUnmarked, MarksAlso}
 use Rattle.ic_check.proofs.Marking.{here, marks_none, marks_met, marks_more, marks_all}
-use Rattle.ic_check.proofs.TreeWalks.{safe_null, member_linked, member_safe, member_next}
+use Rattle.ic_check.proofs.TreeWalks.{safe_null, member_linked, member_safe, member_next, member_marks}
 use Rattle.ic_check.proofs.gather.mark.Goals as goal
 
 pub step-current-requires : goal.step-current-requires
@@ -55,3 +55,9 @@ pub returns-clause-marked : goal.returns-clause-marked
 returns-clause-marked g c s shown =
     let k = c.loop-current.invariant in
     (subst (λ (x : List Place). AreUnmarked c.args.marks.now x × MarksAlso c.args.marks.now c.loop-current.marks x) (one_sequence k.1 shown) (marks_all k.2 c.in_default.is), tt)
+
+pub returns-then-marks-index-clause-only : goal.returns-then-marks-index-clause-only
+returns-then-marks-index-clause-only g c = let k = c.loop-current.invariant in member_marks g.L.RBTreeOps.node k.2 k.1 g.met.L.RBTreeOps.linked_alike
+
+pub returns-clause-only : goal.returns-clause-only
+returns-clause-only g c = let k = c.loop-current.invariant in member_marks g.L.RBTreeOps.node k.2 k.1 g.met.L.RBTreeOps.linked_alike

@@ -40,6 +40,7 @@ returns-then-is_kept-clause-sifted g c = (
     last_kept = sym (last_of_push front c.args.member);
     behind = next_is g.met.K.ForwardLinks.leads front back shown prev c.next-behind.ensures;
   },
+  c.if-is_kept.ensures.asked,
 )
 
 pub returns-clause-sifted : goal.returns-clause-sifted
@@ -62,4 +63,5 @@ returns-clause-sifted g c = (
         last_kept = rw append-nil prev;
         behind = behind;
       },
+  c.if-is_kept.ensures.asked,
 )

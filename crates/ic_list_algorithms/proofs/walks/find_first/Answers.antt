@@ -1,4 +1,8 @@
-use Rattle.std.proofs.Common.{◌≡◌, IsSome, drop, length, length-append, sym, ap, ◌∙◌, arith, of_calls}
+use Rattle.std.proofs.Common.{◌≡◌, IsSome, drop, length, length-append, refl, sym, ap, ◌∙◌, arith, of_calls}
+use Rattle.std.specs.Fn.{CalledAt}
+use Rattle.std.proofs.lemmas.Fn.{called_at}
+use Rattle.ic_list_algorithms.specs.Asked.{AsksAt}
+use Rattle.ic_list_algorithms.proofs.AskedLemmas.{no_more, no_all}
 use Rattle.std.proofs.slice.Orders.{answers_next}
 use Rattle.ic_unsafe_ref.specs.Objects.{object_at}
 use Rattle.ic_link_ops.proofs.Walks.{few_places}
@@ -10,7 +14,7 @@ pub loop-current-init : goal.loop-current-init
 loop-current-init g c = record {
   callable = c.requires.callable;
   answers = λ holds h. h;
-  passed = λ s shown. let k = walk_begins shown c.first-current.ensures in (k.0, sym (ap length k.1), λ holds h. rw k.1 tt);
+  passed = λ s shown. let k = walk_begins shown c.first-current.ensures in (k.0, sym (ap length k.1), (λ holds h. rw k.1 tt), rw k.1 refl);
 }
 
 pub value-requires : goal.value-requires
@@ -31,6 +35,17 @@ returns-then-found g c = record {
         index = k.1;
         before = k.2 holds computes;
         here = test_there holds (g.O.Values.values c.args.objects.now) c.in-Some.member c.value.ensures (sym e.0) ∙ c.if-found.true;
+      };
+  asked = λ s shown.
+      let k = c.loop-current.invariant.passed s shown in
+      record {
+        front = k.0.done;
+        back = drop 1 k.0.rest;
+        parts = (walk_at k.0 c.in-Some.is).1;
+        index = k.1;
+        then = c.loop-current.test;
+        before = k.3;
+        here = record { value = c.value.result.now; stands = c.value.ensures; asked = called_at g.F.FnMut c.test-found.ensures c.if-found.true };
       };
 }
 
@@ -64,6 +79,7 @@ loop-current-preserved g c =
             λ holds computes.
                 let e = answers_next g.F.FnMut (λ a r. r ≡ holds a.0.now) _ _ _ _ c.test-found.ensures (c.loop-current.invariant.answers holds computes) in
                 nowhere_more (test_at holds (g.O.Values.values c.args.objects.now)) k.0.done (k.2 holds computes) (test_there holds (g.O.Values.values c.args.objects.now) c.in-Some.member c.value.ensures (sym e.0) ∙ c.if-found.false) m.2,
+            no_more (AsksAt (g.O.Values.values c.args.objects.now) (CalledAt g.F.FnMut)) c.args.test.now k.0.done c.loop-current.test c.test-found.new.self c.in-Some.member k.3 (record { value = c.value.result.now; stands = c.value.ensures; asked = called_at g.F.FnMut c.test-found.ensures c.if-found.false }) m.2,
           );
     }
 
@@ -72,4 +88,7 @@ returns g c = record {
   found = λ s holds shown computes.
       let k = c.loop-current.invariant.passed s shown in
       nowhere_all (test_at holds (g.O.Values.values c.args.objects.now)) (walk_ends k.0 c.in_default.is).1 (k.2 holds computes);
+  asked = λ s shown.
+      let k = c.loop-current.invariant.passed s shown in
+      no_all (AsksAt (g.O.Values.values c.args.objects.now) (CalledAt g.F.FnMut)) c.args.test.now c.loop-current.test (walk_ends k.0 c.in_default.is).1 k.3;
 }

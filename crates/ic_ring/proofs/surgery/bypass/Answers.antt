@@ -1,6 +1,8 @@
-use Rattle.std.proofs.Common.{Some, [], ◌∙◌}
+use Rattle.std.proofs.Common.{Some, [], ◌++◌, ◌∙◌}
+use Rattle.ic_link_ops.specs.Sequences.{first, last, last_or}
 use Rattle.ic_link_ops.proofs.DoublyLists.{next_turns, prev_turns}
-use Rattle.ic_ring.proofs.Circles.{circle_closed}
+use Rattle.ic_ring.proofs.Circles.{circle_closed, circle_bypassed}
+use Rattle.ic_ring.proofs.Turning.{turned}
 use Rattle.ic_ring.proofs.surgery.bypass.Goals as goal
 
 pub set_prev-requires : goal.set_prev-requires
@@ -11,6 +13,15 @@ returns-clause-closed g c p r circle before behind =
     circle_closed p r circle
     (rw (before, behind) at (next_turns {n = g.L.LinkedListOps.neighbors} (Some p) c.set_next.ensures.frame c.set_next.ensures.set))
     (rw (before, behind) at (prev_turns {n = g.L.LinkedListOps.neighbors} (Some p) c.set_prev.ensures.frame c.set_prev.ensures.set))
+
+pub returns-clause-stretch : goal.returns-clause-stretch
+returns-clause-stretch g c out r circle before behind =
+    circle_bypassed out r circle
+    (rw (before, behind) at (next_turns {n = g.L.LinkedListOps.neighbors} (first (out ++ r)) c.set_next.ensures.frame c.set_next.ensures.set))
+    (rw (before, behind) at (prev_turns {n = g.L.LinkedListOps.neighbors} (last_or (last (out ++ r)) out) c.set_prev.ensures.frame c.set_prev.ensures.set))
+
+pub returns-clause-turned : goal.returns-clause-turned
+returns-clause-turned g c = turned g.L.LinkedListOps.neighbors c.set_next.ensures.frame c.set_next.ensures.set c.set_prev.ensures.frame c.set_prev.ensures.set
 
 pub returns-clause-no_step : goal.returns-clause-no_step
 returns-clause-no_step g c = g.met.L.LinkOps.does_on _ _ _ _ _ c.set_next.ensures.no_step c.set_prev.ensures.no_step

@@ -2,6 +2,7 @@ use Rattle.std.proofs.Common.{[], ◌∙◌}
 use Rattle.ic_link_ops.specs.Sequences.{first, last}
 use Rattle.ic_link_ops.proofs.DoublyLists.{next_turns, prev_turns}
 use Rattle.ic_ring.proofs.Circles.{circle_filled}
+use Rattle.ic_ring.proofs.Turning.{turned}
 use Rattle.ic_ring.proofs.surgery.turn_to.Goals as goal
 
 pub set_prev-requires : goal.set_prev-requires
@@ -12,6 +13,9 @@ returns-clause-filled g c r circle out before behind stands =
     circle_filled c.args.place r behind circle out (rw (before, behind) at stands)
     (rw before at (next_turns {n = g.L.LinkedListOps.neighbors} (first r) c.set_next.ensures.frame c.set_next.ensures.set))
     (rw behind at (prev_turns {n = g.L.LinkedListOps.neighbors} (last r) c.set_prev.ensures.frame c.set_prev.ensures.set))
+
+pub returns-clause-turned : goal.returns-clause-turned
+returns-clause-turned g c = turned g.L.LinkedListOps.neighbors c.set_next.ensures.frame c.set_next.ensures.set c.set_prev.ensures.frame c.set_prev.ensures.set
 
 pub returns-clause-no_step : goal.returns-clause-no_step
 returns-clause-no_step g c = g.met.L.LinkOps.does_on _ _ _ _ _ c.set_next.ensures.no_step c.set_prev.ensures.no_step

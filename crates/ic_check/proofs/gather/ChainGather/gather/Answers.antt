@@ -1,6 +1,6 @@
 use Rattle.std.proofs.Common.{◌≡◌, ℕ, true, false, slice_index_or, ◌+◌, refl, sym, ap, ◌∙◌, subst, arith}
 use Rattle.ic_check.proofs.Checking.{checks_stands, checks_whole, stands_after}
-use Rattle.ic_check.proofs.MarkedWalks.{walks_none, walks_more, walks_met, walks_few, walks_covered, walks_all}
+use Rattle.ic_check.proofs.MarkedWalks.{walks_none, walks_more, walks_met, walks_few, walks_covered, walks_only, walks_all}
 use Rattle.ic_check.proofs.gather.ChainGather.gather.Goals as goal
 
 pub loop-current-init : goal.loop-current-init
@@ -58,3 +58,18 @@ returns-else-ends_with-clause-gathered g c s shown free =
 
 pub returns-then-not-tells_linked-clause-length : goal.returns-then-not-tells_linked-clause-length
 returns-then-not-tells_linked-clause-length g c = c.loop-current.invariant.walks.also.long
+
+pub returns-then-not-tells_linked-clause-only : goal.returns-then-not-tells_linked-clause-only
+returns-then-not-tells_linked-clause-only g c = walks_only g.K.ForwardLinks.step g.met.K.ForwardLinks.leads c.loop-current.invariant.walks g.L.LinkOps.linked g.met.K.ForwardLinks.between_linked
+
+pub returns-then-marks-index-clause-only : goal.returns-then-marks-index-clause-only
+returns-then-marks-index-clause-only g c = walks_only g.K.ForwardLinks.step g.met.K.ForwardLinks.leads c.loop-current.invariant.walks g.L.LinkOps.linked g.met.K.ForwardLinks.between_linked
+
+pub returns-then-not-stands_behind-clause-only : goal.returns-then-not-stands_behind-clause-only
+returns-then-not-stands_behind-clause-only g c = walks_only g.K.ForwardLinks.step g.met.K.ForwardLinks.leads c.loop-current.invariant.walks g.L.LinkOps.linked g.met.K.ForwardLinks.between_linked
+
+pub returns-then-ends_with-clause-only : goal.returns-then-ends_with-clause-only
+returns-then-ends_with-clause-only g c = walks_only g.K.ForwardLinks.step g.met.K.ForwardLinks.leads c.loop-current.invariant.walks g.L.LinkOps.linked g.met.K.ForwardLinks.between_linked
+
+pub returns-else-ends_with-clause-only : goal.returns-else-ends_with-clause-only
+returns-else-ends_with-clause-only g c = walks_only g.K.ForwardLinks.step g.met.K.ForwardLinks.leads c.loop-current.invariant.walks g.L.LinkOps.linked g.met.K.ForwardLinks.between_linked

@@ -1,0 +1,55 @@
+-- Of which members a test was asked, how often, in which order, and what it answered.
+use Rattle.std.specs.Prelude.{◌≡◌, ℕ, Bool, true, false, not, cond, length, Option, Some, None, List, [], ◌∷◌, ◌++◌}
+use Rattle.ic_unsafe_ref.specs.declared.place.Place.{Place}
+use Rattle.ic_unsafe_ref.specs.Objects.{Objects, object_at}
+
+-- `asks f x answer g`: one call of the test f at x may answer so, and leave it as g
+module _ {X F : Type 0} (asks : F → X → Bool → F → Type 0) where
+  -- ASKED OF EACH of these once, in their order, it answered no
+  abbrev pub AnswersNo : F → List X → F → Type 0
+  AnswersNo f [] g = g ≡ f
+  AnswersNo f (x ∷ s) g = (next : F) × asks f x false next × AnswersNo next s g
+
+  -- FOUND q at this position: it was asked of each in front, and then of q, once each, and of none behind
+  pub record FindsFirst (f : F) (s : List X) (after : F) (position : ℕ) (q : X) : Type 0 where
+    pub front : List X
+    pub back : List X
+    pub parts : s ≡ front ++ q ∷ back
+    pub index : position ≡ length front
+    pub then : F
+    pub before : AnswersNo f front then
+    pub here : asks then q true after
+
+-- `asks f prev x kept g`: the test f says whether x is kept, where `prev` was kept last, none at first, and is g then
+module _ {X F : Type 0} (asks : F → Option X → X → Bool → F → Type 0) where
+  -- ASKED OF EACH of s once, in their order, it keeps these
+  abbrev pub KeepsInTurn : F → Option X → List X → List X → F → Type 0
+  KeepsInTurn f prev [] kept g = (kept ≡ []) × (g ≡ f)
+  KeepsInTurn f prev (x ∷ s) kept g = (answer : Bool) × (next : F) × asks f prev x answer next
+      × (rest : List X) × (kept ≡ cond answer (x ∷ rest) rest) × KeepsInTurn next (cond answer (Some x) prev) s rest g
+
+-- a test of two that are the same says whether the second is kept: the first of all is kept, and nothing is asked of it
+abbrev pub asks_two : {V F : Type 0} → (F → V → V → Bool → F → Type 0) → F → Option V → V → Bool → F → Type 0
+asks_two asks f None x kept g = (kept ≡ true) × (g ≡ f)
+asks_two asks f (Some p) x kept g = (same : Bool) × asks f p x same g × (kept ≡ not same)
+
+module _ {V F : Type 0} (objects : Objects V) where
+  -- A CALL AT THE OBJECT at p
+  pub record AsksAt (asks : F → V → Bool → F → Type 0) (f : F) (p : Place) (answer : Bool) (g : F) : Type 0 where
+    pub value : V
+    pub stands : object_at objects p ≡ Some value
+    pub asked : asks f value answer g
+
+  -- A CALL AT TWO OBJECTS, first that which was kept last; it changes neither
+  pub record AsksBoth (asks : F → V → V → Bool → F → Type 0) (f : F) (p last : Place) (answer : Bool) (g : F) (p' last' : Place) : Type 0 where
+    pub before : V
+    pub value : V
+    pub stood : object_at objects last ≡ Some before
+    pub stands : object_at objects p ≡ Some value
+    pub asked : asks f before value answer g
+    pub same : (p' ≡ p) × (last' ≡ last)
+
+  -- A CALL AT THE OBJECT at p and at that which was kept last, if there is one
+  abbrev pub AsksBeside : (F → Option V → V → Bool → F → Type 0) → F → Option Place → Place → Bool → F → Type 0
+  AsksBeside asks f None p answer g = (value : V) × (object_at objects p ≡ Some value) × asks f None value answer g
+  AsksBeside asks f (Some last) p answer g = (before : V) × (value : V) × (object_at objects last ≡ Some before) × (object_at objects p ≡ Some value) × asks f (Some before) value answer g
