@@ -3,3 +3,4 @@ pub mod Members
 pub mod Placed
 pub mod Ready
 pub mod Trees
+pub mod TwoTrees

@@ -8,4 +8,5 @@ mod looks;
 mod shape;
 mod summaries;
 pub(crate) mod trees;
+mod two_trees;
 mod walks;

@@ -25,7 +25,7 @@ apart_left q p c a b once m e = let k : one_at q p ≡ 1 = rw e (one_at_self p) 
 pub apart_right : (q p : Place) (c : Color) (a b : Tree) → ((x : Place) → times x (fork c a p b) ≤ 1) → 1 ≤ times q b → q ≢ p
 apart_right q p c a b once m e = let k : one_at q p ≡ 1 = rw e (one_at_self p) in omega (arith, k, m, once q)
 
-where_is : (i k : ℕ) → 1 ≤ i + k → (1 ≤ i) ⊎ (1 ≤ k)
+pub where_is : (i k : ℕ) → 1 ≤ i + k → (1 ≤ i) ⊎ (1 ≤ k)
 where_is zero k m = inr (omega (arith, m))
 where_is (suc i) k m = inl (omega arith)
 
@@ -123,6 +123,22 @@ module _ {S : Type 0} where
       let left = under_summed z q a j.left_is h.1 in
       let right = under_summed z q b j.right_is h.2 in
       (f.1 ∙ ap Some (j.joined ∙ join_seen z q (Some q) a b left right), u.1, left, right)
+
+  -- the same of a root whose parent is this one, or none
+  pub fresh_summed : (z : Sums S) (up : Option Place) (t : Tree) → ((p : Place) → top t ≡ Some p → (is_fresh (z.fresh p) ≡ true) × (z.upper p ≡ up)) → IsConsistentTree z t → IsSummed z up t
+  fresh_summed z up leaf f h = tt
+  fresh_summed z up (fork c a p b) f h =
+      let at = f p refl in
+      let s = fresh_some (z.fresh p) at.0 in
+      let j = h.0 s.0 s.1 in
+      let left = under_summed z p a j.left_is h.1 in
+      let right = under_summed z p b j.right_is h.2 in
+      (s.1 ∙ ap Some (j.joined ∙ join_seen z p (Some p) a b left right), at.1, left, right)
+
+  pub summed_top : (z : Sums S) (up : Option Place) (t : Tree) (p : Place) → IsSummed z up t → top t ≡ Some p → (is_fresh (z.fresh p) ≡ true) × (z.upper p ≡ up)
+  summed_top z up leaf p h e = absurd (none_not p e)
+  summed_top z up (fork c a x b) p h e =
+      subst (λ (y : Place). (is_fresh (z.fresh y) ≡ true) × (z.upper y ≡ up)) (some_same e) (ap is_fresh h.0, h.1)
 
   -- A REFRESH, by cases
   same_still : (z : Sums S) (q : Place) → IsSameAt z z q

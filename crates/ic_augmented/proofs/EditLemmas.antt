@@ -1,19 +1,19 @@
 -- Edits of a tree keep each fresh summary right.
 use Rattle.std.specs.declared.cmp.Ordering.{Ordering}
-use Rattle.std.proofs.Common.{◌≡◌, ◌≢◌, ◌≤◌, ◌+◌, true, false, Option, None, List, [], ◌∷◌, refl, sym, ap, ◌∙◌, subst, arith, inl, inr}
+use Rattle.std.proofs.Common.{◌≡◌, ◌≢◌, ◌≤◌, ◌+◌, Bool, true, false, Option, Some, None, List, [], ◌∷◌, refl, sym, ap, ◌∙◌, subst, arith, inl, inr}
 use Rattle.ic_unsafe_ref.specs.declared.place.Place.{Place}
 use Rattle.ic_unsafe_ref.specs.Objects.{Objects}
 use Rattle.ic_unsafe_ref.proofs.PlaceLemmas.{same_or_not}
 use Rattle.ic_link_ops.specs.declared.side.Side.{Side}
 use Rattle.ic_link_ops.specs.Sequences.{Cut, join, insert, IsAbsent, IsDisjoint}
 use Rattle.ic_link_ops.specs.Tables.{Table, ChangesOnly}
-use Rattle.ic_link_ops.specs.Trees.{in_order}
+use Rattle.ic_link_ops.specs.Trees.{top, in_order}
 use Rattle.ic_link_ops.specs.RedBlackTree.{Node, Shows}
 use Rattle.ic_link_ops.specs.Times.{one_at, times, times_in}
 use Rattle.ic_link_ops.proofs.Times.{one_at_self, one_at_other, times_append, times_order, absent_times}
 use Rattle.ic_link_ops.proofs.SequenceLemmas.{disjoint_cons}
 use Rattle.ic_link_ops.proofs.ShownTrees.{holds_once, shows_beside, shows_frame, free_absent, one_sequence}
-use Rattle.ic_rbtree.specs.Closed.{IsNode}
+use Rattle.ic_rbtree.specs.Closed.{AreIn, IsNode, IsClosedBut}
 use Rattle.ic_rbtree.specs.Comparing.{compared, own_order}
 use Rattle.ic_rbtree.specs.Height.{height}
 use Rattle.ic_rbtree.specs.Insertion.{IsHole, Attaches}
@@ -22,9 +22,11 @@ use Rattle.ic_rbtree.specs.Pieces.{loose, Shown}
 use Rattle.ic_rbtree.proofs.Attaching.{inserts}
 use Rattle.ic_rbtree.proofs.Removing.{shows_of}
 use Rattle.ic_rbtree.proofs.Climbed.{path_few}
-use Rattle.ic_augmented.specs.Sums.{Sums}
+use Rattle.ic_rbtree.proofs.ShownClosed.{with_itself, shown_closed_but, hole_in}
+use Rattle.ic_augmented.specs.Sums.{Sums, is_fresh}
 use Rattle.ic_augmented.specs.Consistent.{IsSameAt, IsConsistent, IsConsistentTree, KeepsConsistent, ShowsConsistent, ShowsSummed, Refreshes, IsJoined}
-use Rattle.ic_augmented.proofs.ConsistencyLemmas.{not_stale, consistent_tree, tree_consistent, consistent_kept, summed_consistent_tree}
+use Rattle.ic_augmented.proofs.FenceLemmas.{fence_of, fence_is}
+use Rattle.ic_augmented.proofs.ConsistencyLemmas.{not_stale, times_top, summed_top, fresh_summed, consistent_tree, tree_consistent, consistent_kept, summed_consistent_tree}
 
 module _ {E : Type 0} (n : E → Node) where
   -- a linked place beside the tree
@@ -62,6 +64,14 @@ module _ {E : Type 0} (n : E → Node) where
   pub attached_shows : (v w : Table E) (root new_root parent : Option Place) (d : Side) (p : Place) (gap : Cut) → Attaches n v w root new_root parent d p
       → IsNode n v p → IsAbsent p (join gap) → Shows n v root (join gap) → IsHole n v parent d gap → Shows n w new_root (insert gap p)
   attached_shows v w root new_root parent d p gap done linked out h hole = shows_of n (done v gap [] (loose_shown v root (join gap) p h out linked) hole)
+
+  -- the tree and the place are closed but there, and have the parent
+  pub attach_closed : (v : Table E) (root parent : Option Place) (d : Side) (p : Place) (gap : Cut) → IsNode n v p → IsAbsent p (join gap) → Shows n v root (join gap) → IsHole n v parent d gap
+      → IsClosedBut n v root (Some p) (fence_of n v root p) × AreIn (fence_of n v root p) (Some p ∷ parent ∷ [])
+  attach_closed v root parent d p gap linked out h hole =
+      let there = loose_shown v root (join gap) p h out linked in
+      subst (λ (S : Place → Bool). IsClosedBut n v root (Some p) S × AreIn S (Some p ∷ parent ∷ [])) (sym (fence_is n p h))
+      (shown_closed_but n there, (with_itself n there, (hole_in n v p parent d gap hole, tt)))
 
   -- and a tree that shares no place with it is as it was
   pub attached_others : (v w : Table E) (root new_root parent other : Option Place) (d : Side) (p : Place) (gap : Cut) (t : List Place) → Attaches n v w root new_root parent d p
@@ -123,6 +133,17 @@ module _ {E S : Type 0} (n : E → Node) where
   others_consistent v z w root s ej same h =
       let members : (q : Place) → 1 ≤ times q h.0.tree → IsSameAt z w q = λ q m. same q (omega (arith, m, member_times n v root s h.0 q)) in
       (h.0, shown_consistent v w root s h.0 (consistent_kept z w h.0.tree ej members (consistent_shown v z root s h)))
+
+  -- AND THE TREE STAYS SUMMED
+  pub still_summed : (v w : Table E) (z y : Sums S) (root : Option Place) (s : List Place) → ((q : Place) → 1 ≤ times_in q s → IsSameAt z y q)
+      → ShowsSummed n z v root s → ShowsConsistent n y w root s → ShowsSummed n y w root s
+  still_summed v w z y root s same h k = record { shows = k.0; summed = fresh_summed y None k.0.tree (λ p e. at p e) (consistent_shown w y root s k) } where
+    at : (p : Place) → top k.0.tree ≡ Some p → (is_fresh (y.fresh p) ≡ true) × (y.upper p ≡ None)
+    at p e =
+        let was : top h.shows.tree ≡ Some p = sym h.shows.starts ∙ (k.0.starts ∙ e) in
+        let kept = same p (omega (arith, times_top p h.shows.tree was, member_times n v root s h.shows p)) in
+        let told = summed_top z None h.shows.tree p h.summed was in
+        (ap is_fresh kept.fresh ∙ told.0, kept.upper ∙ told.1)
 
   -- another place changes
   pub beside_consistent : (v w : Table E) (z : Sums S) (t : List Place) (p : Place) → IsAbsent p t → ChangesOnly v w p → IsConsistent n v z t → IsConsistent n w z t

@@ -1,4 +1,6 @@
 mod ConsistencyLemmas
+pub mod BesideLemmas
+mod FenceLemmas
 pub mod EditLemmas
 pub mod StepLemmas
 mod CountLemmas

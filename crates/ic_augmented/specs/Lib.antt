@@ -2,6 +2,8 @@ pub mod Sums
 pub mod MarkLaws
 pub mod Summed
 pub mod Consistent
+pub mod Beside
+pub mod Fences
 pub mod SummedSteps
 pub mod StepLaws
 pub mod Marking

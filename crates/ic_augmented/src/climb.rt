@@ -4,16 +4,17 @@
 //! settle(&links, &mut sums, place, edge); // up to the edge, and on while summaries change
 //! ```
 
-ghost use Rattle.std.specs.Prelude.{◌≡◌, Option, Some, None, List, ◌∷◌, ◌++◌, IsTrue, IfSome, IfNone};
+ghost use Rattle.std.specs.Prelude.{◌≡◌, Bool, false, Option, Some, None, List, ◌∷◌, ◌++◌, IsTrue, IfSome, IfNone};
 ghost use Rattle.ic_unsafe_ref.specs.declared.place.Place.{Place};
 ghost use Rattle.ic_link_ops.specs.Frames.{Frame, plug};
 ghost use Rattle.ic_link_ops.specs.Positions.{HasMember};
 ghost use Rattle.ic_link_ops.specs.RedBlackTree.{IsTree, Shows};
-ghost use Rattle.ic_link_ops.specs.Sequences.{IsDisjoint};
+ghost use Rattle.ic_link_ops.specs.Sequences.{IsAbsent, IsDisjoint};
 ghost use Rattle.ic_link_ops.specs.Tables.{Table};
 ghost use Rattle.ic_link_ops.specs.Trees.{Tree, top};
 ghost use Rattle.ic_link_ops.specs.Times.{times};
-ghost use Rattle.ic_rbtree.specs.Closed.{IsNode};
+ghost use Rattle.ic_rbtree.specs.Closed.{IsIn, IsNode};
+ghost use Rattle.ic_augmented.specs.Beside.{IsWrittenIn};
 ghost use Rattle.ic_augmented.specs.Changes.{IsAmong, RenewsAt, PassesOn, ClimbsTo};
 ghost use Rattle.ic_augmented.specs.Consistent.{IsSameAt, IsConsistent, IsConsistentBut, IsConsistentTree, IsConsistentBelow, Refreshes};
 ghost use Rattle.ic_augmented.specs.Subtrees.{IsSubtree};
@@ -180,6 +181,9 @@ pub(crate) fn settle<N: Nodes, M: RenewSums>(
     ensures others { (root other : Option Place) (front back t : List Place) → Shows N.node (N.table links.now) root (front ++ place ∷ back)
         → Shows N.node (N.table links.now) other t → IsDisjoint (front ++ place ∷ back) t
         → IsConsistentBut N.node (N.table links.now) (M.sums sums.old) t edge → IsConsistent N.node (N.table links.now) (M.sums sums.new) t }
+    ensures beside { (root : Option Place) (front back : List Place) → Shows N.node (N.table links.now) root (front ++ place ∷ back)
+        → (inside : Place → Bool) → IsWrittenIn (M.sums sums.old) inside → IsIn inside edge
+        → (q : Place) → IsAbsent q (front ++ place ∷ back) → inside q ≡ false → IsSameAt (M.sums sums.old) (M.sums sums.new) q }
 {
     let Some(edge) = edge else {
         return;

@@ -17,6 +17,7 @@ ghost use Rattle.ic_rbtree.specs.Insertion.{IsHole, Attaches};
 ghost use Rattle.ic_rbtree.specs.Kept.{TellsEnds, IsBelow};
 ghost use Rattle.ic_rbtree.specs.Tree.{head_of, root_in, adapter_of};
 ghost use Rattle.ic_augmented.specs.Summed.{links_of, sums_of};
+ghost use Rattle.ic_augmented.specs.Beside.{IsWrittenWithin};
 ghost use Rattle.ic_augmented.specs.Consistent.{IsSameAt, ShowsConsistent, ShowsSummed};
 
 use crate::climb::settle;
@@ -27,11 +28,13 @@ use crate::sums::RenewSums;
 use ic_link_ops::Side;
 use ic_rbtree::{Nodes, RBTree, TreeHead};
 use ic_unsafe_ref::Place;
+use std::marker::Brand;
 
 /// Puts `place` in, as [`RBTree::attach`] does, and renews the stale summaries of the tree: then it is summed.
 ///
 /// It does what `RBTree::attach` and [`refresh`] do, and is faster: the summaries above the place are renewed as far as they change, each by what has
-/// changed below. Each fresh summary of another tree in the table stays right. It requires what `RBTree::attach` requires, that the links show a
+/// changed below. Each fresh summary of another tree in the table stays right, and it stays fresh where those of this tree were written below its own
+/// members, as they are in a tree that is summed. It requires what `RBTree::attach` requires, that the links show a
 /// tree with this hole, and that there is room for a summary at each linked place. O(log n + v) for v summaries that were stale before.
 pub fn attach_fresh<A, E: TreeHead, N: Nodes, M: RenewSums>(
     tree: &mut RBTree<A, E>,
@@ -55,6 +58,9 @@ pub fn attach_fresh<A, E: TreeHead, N: Nodes, M: RenewSums>(
     ensures others { (s t : List Place) (other : Option Place) → Shows N.node (N.table (links_of summed.old)) (root_in E.kept tree.old) s → IsDisjoint t s → IsAbsent place t
         → ShowsConsistent N.node (M.sums (sums_of summed.old)) (N.table (links_of summed.old)) other t
         → ShowsConsistent N.node (M.sums (sums_of summed.new)) (N.table (links_of summed.new)) other t }
+    ensures same { (s : List Place) → Shows N.node (N.table (links_of summed.old)) (root_in E.kept tree.old) s
+        → IsWrittenWithin (M.sums (sums_of summed.old)) (place ∷ s) → (q : Place) → IsAbsent q (place ∷ s)
+        → IsSameAt (M.sums (sums_of summed.old)) (M.sums (sums_of summed.new)) q }
     ensures attached { Attaches N.node (N.table (links_of summed.old)) (N.table (links_of summed.new)) (root_in E.kept tree.old) (root_in E.kept tree.new) parent side place }
     ensures ends { (gap : Cut) → IsBelow parent side gap → IsDistinct (join gap) → TellsEnds (E.kept (head_of tree.old)) (join gap)
         → TellsEnds (E.kept (head_of tree.new)) (insert gap place) }
@@ -65,7 +71,7 @@ pub fn attach_fresh<A, E: TreeHead, N: Nodes, M: RenewSums>(
     ensures adapter { adapter_of tree.new ≡ adapter_of tree.old }
 {
     invalidate_up(&summed.links, &mut summed.sums, place);
-    let edge = attach_marking(tree, summed, parent, side, place);
+    let edge = attach_marking::<Brand, _, _, _, _>(tree, summed, parent, side, place);
     settle(&summed.links, &mut summed.sums, place, edge);
     let top = tree.root();
     let _ = refresh_below(&summed.links, &mut summed.sums, top, None, 67);

@@ -9,14 +9,15 @@ ghost use Rattle.std.specs.Prelude.{◌≡◌, Option, OnOk, OnErr, IfErr, List,
 ghost use Rattle.ic_unsafe_ref.specs.declared.place.Place.{Place};
 ghost use Rattle.ic_link_ops.specs.LinkSteps.{acquires};
 ghost use Rattle.ic_link_ops.specs.RedBlackTree.{Shows};
-ghost use Rattle.ic_link_ops.specs.Sequences.{IsDisjoint};
+ghost use Rattle.ic_link_ops.specs.Sequences.{IsAbsent, IsDisjoint};
 ghost use Rattle.ic_link_ops.specs.Tables.{IsCovered};
 ghost use Rattle.ic_rbtree.specs.Comparing.{compared, own_order};
 ghost use Rattle.ic_rbtree.specs.Kept.{ShowsKept};
 ghost use Rattle.ic_rbtree.specs.Ordered.{InsertsInOrder};
 ghost use Rattle.ic_rbtree.specs.Tree.{head_of, root_in, adapter_of};
 ghost use Rattle.ic_augmented.specs.Summed.{links_of, sums_of};
-ghost use Rattle.ic_augmented.specs.Consistent.{ShowsConsistent, ShowsSummed};
+ghost use Rattle.ic_augmented.specs.Beside.{IsWrittenWithin};
+ghost use Rattle.ic_augmented.specs.Consistent.{IsSameAt, ShowsConsistent, ShowsSummed};
 
 use crate::edits::attach_fresh;
 use crate::summed::Summed;
@@ -57,6 +58,9 @@ pub fn insert_fresh<A: KeyAdapter, E: TreeHead, L: RBTreeOps + LinkValues<A::Val
     ensures others { (s t : List Place) (other : Option Place) → Shows L.node (L.table (links_of summed.old)) (root_in E.kept tree.old) s → IsDisjoint t s
         → ShowsConsistent L.node (M.sums (sums_of summed.old)) (L.table (links_of summed.old)) other t
         → ShowsConsistent L.node (M.sums (sums_of summed.new)) (L.table (links_of summed.new)) other t }
+    ensures same { (s : List Place) → Shows L.node (L.table (links_of summed.old)) (root_in E.kept tree.old) s
+        → IsWrittenWithin (M.sums (sums_of summed.old)) (object ∷ s) → (q : Place) → IsAbsent q (object ∷ s)
+        → IsSameAt (M.sums (sums_of summed.old)) (M.sums (sums_of summed.new)) q }
     ensures acquired { OnOk result (L.Does (links_of summed.old) (links_of summed.new) (acquires object ∷ [])) }
     ensures join { (M.sums (sums_of summed.new)).join ≡ (M.sums (sums_of summed.old)).join }
     ensures covers { (q : Place) → M.Covers (sums_of summed.old) q → M.Covers (sums_of summed.new) q }

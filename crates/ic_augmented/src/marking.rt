@@ -4,15 +4,18 @@
 //! let edge = attach_marking(&mut tree, &mut summed, parent, side, place); // its summary is as it was
 //! ```
 
-ghost use Rattle.std.specs.Prelude.{◌≡◌, ◌⊎◌, Some, None, List, [], ◌∷◌};
+ghost use Rattle.std.specs.Prelude.{◌≡◌, ◌⊎◌, Bool, true, Some, None, List, [], ◌∷◌};
 ghost use Rattle.ic_unsafe_ref.specs.declared.place.Place.{Place};
 ghost use Rattle.ic_link_ops.specs.Sequences.{Cut, join, insert, IsDistinct};
-ghost use Rattle.ic_rbtree.specs.Closed.{IsSafeBut, KeepsNodes};
+ghost use Rattle.ic_rbtree.specs.Closed.{AreIn, IsIn, IsClosedBut, KeepsNodes};
 ghost use Rattle.ic_rbtree.specs.Insertion.{Attaches};
 ghost use Rattle.ic_rbtree.specs.Kept.{TellsEnds, IsBelow};
 ghost use Rattle.ic_rbtree.specs.Tree.{head_of, root_in, adapter_of};
+ghost use Rattle.ic_augmented.specs.Beside.{IsWrittenIn, IsSameBeside, StaysInside};
 ghost use Rattle.ic_augmented.specs.Consistent.{IsConsistent, IsConsistentBut, KeepsEdge};
+ghost use Rattle.ic_augmented.specs.Marking.{links_in, QuietlyMarks};
 ghost use Rattle.ic_augmented.specs.Summed.{links_of, sums_of};
+ghost use Rattle.ic_augmented.specs.Sums.{MarksAlone};
 
 use crate::stale::invalidate_from;
 use crate::summed::Summed;
@@ -20,23 +23,40 @@ use crate::sums::Sums;
 use ic_link_ops::Side;
 use ic_rbtree::{Color, Nodes, RBTree, TreeHead};
 use ic_unsafe_ref::Place;
+use std::marker::{Brand, PhantomData};
 
-/// Links and summaries, and the place whose child was written and whose summary was left as it was, if there is one.
-pub(crate) struct Marking<'a, N, M> {
-    summed: &'a mut Summed<N, M>,
-    edge: Option<Place>,
+/// The places at which an edit may write: its call picks them.
+pub(crate) trait Fence {
+    ghost inside: { Place → Bool };
 }
 
-impl<'a, N, M> Marking<'a, N, M> {
+impl Fence for Brand {
+    ghost inside = { λ q. true };
+}
+
+/// Links and summaries, and the place whose child was written and whose summary was left as it was, if there is one.
+///
+/// A place outside the fence is seen as not linked. So what an edit requires of it, that it is linked where it writes, keeps the edit inside.
+pub(crate) struct Marking<'a, N, M, F> {
+    summed: &'a mut Summed<N, M>,
+    edge: Option<Place>,
+    fence: PhantomData<F>,
+}
+
+impl<'a, N, M, F> Marking<'a, N, M, F> {
     ghost use Rattle.ic_augmented.specs.Marking.{edge_in, Borrows};
 
     // With no stale summary.
     #[inline]
-    fn new(summed: &'a mut Summed<N, M>) -> Marking<'a, N, M>
+    fn new(summed: &'a mut Summed<N, M>) -> Marking<'a, N, M, F>
         ensures borrows { Borrows summed.entry result }
         ensures edge { edge_in result ≡ None }
     {
-        Marking { summed, edge: None }
+        Marking {
+            summed,
+            edge: None,
+            fence: PhantomData,
+        }
     }
 }
 
@@ -50,24 +70,27 @@ fn invalidate_in<N: Nodes, M: Sums>(
     ensures writable { ((M.sums (sums_of summed.new)).fresh place ≡ None) ⊎ (result ≡ Some place) }
     ensures covers { (q : Place) → M.Covers (sums_of summed.old) q → M.Covers (sums_of summed.new) q }
     ensures edge { KeepsEdge N.node (N.table (links_of summed.old)) (N.table (links_of summed.new)) (M.sums (sums_of summed.old)) (M.sums (sums_of summed.new)) edge result }
+    ensures beside { (inside : Place → Bool) → inside place ≡ true
+        → StaysInside (M.sums (sums_of summed.old)) (M.sums (sums_of summed.new)) edge result inside }
     ensures links { links_of summed.new ≡ links_of summed.old }
 {
     invalidate_from(&summed.links, &mut summed.sums, edge, place)
 }
 
 /// Each write of a child below a fresh summary moves the edge to its place, and makes the summaries from the old edge up to there stale.
-impl<N: Nodes, M: Sums> Nodes for Marking<'_, N, M> {
-    ghost use Rattle.ic_augmented.specs.Marking.{links_in, sums_in, QuietlyMarks};
-    ghost use Rattle.ic_augmented.specs.MarkLaws.{marks_still, marks_on};
-    ghost use Rattle.std.proofs.Common.{refl, ◌∙◌};
+impl<N: Nodes, M: Sums, F: Fence> Nodes for Marking<'_, N, M, F> {
+    ghost use Rattle.ic_augmented.specs.Fences.{fenced, fenced_node};
+    ghost use Rattle.ic_augmented.specs.Marking.{sums_in, edge_in};
+    ghost use Rattle.ic_augmented.specs.MarkLaws.{marks_still, marks_on, inside_still, inside_on};
+    ghost use Rattle.std.proofs.Common.{refl, ap, ◌&&◌, ◌∙◌};
 
-    type Entry = N::Entry;
+    type Entry = (bool, N::Entry);
 
-    ghost table = { λ t. N.table (links_in t) };
+    ghost table = { λ t. fenced F.inside (N.table (links_in t)) };
 
-    ghost node = { N.node };
+    ghost node = { fenced_node N.node };
 
-    ghost Quiet = { QuietlyMarks N.Quiet N.node N.table M.sums M.Covers };
+    ghost Quiet = { QuietlyMarks N.Quiet N.node N.table M.sums M.Covers F.inside };
 
     #[inline]
     fn left(&self, place: Place) -> Option<Place> {
@@ -116,22 +139,43 @@ impl<N: Nodes, M: Sums> Nodes for Marking<'_, N, M> {
         self.summed.links.set_parent_and_color(place, parent, color);
     }
 
-    ghost quiet_still = { λ t. record { name = refl; quiet = N.quiet_still (links_in t); consistent = λ s h. h; marks = marks_still (M.sums (sums_in t)); covers = λ q h. h; join = refl } };
+    ghost quiet_still = { λ t. record { name = refl; quiet = N.quiet_still (links_in t); consistent = λ s h. h; marks = marks_still (M.sums (sums_in t)); beside = inside_still (M.sums (sums_in t)) (edge_in t) F.inside; covers = λ q h. h; join = refl } };
 
-    ghost quiet_on = { λ a b c x y. record { name = y.name ∙ x.name; quiet = N.quiet_on (links_in a) (links_in b) (links_in c) x.quiet y.quiet; consistent = λ s h. y.consistent s (x.consistent s h); marks = marks_on x.marks y.marks; covers = λ q h. y.covers q (x.covers q h); join = y.join ∙ x.join } };
+    ghost quiet_on = { λ a b c x y. record { name = y.name ∙ x.name; quiet = N.quiet_on (links_in a) (links_in b) (links_in c) x.quiet y.quiet; consistent = λ s h. y.consistent s (x.consistent s h); marks = marks_on x.marks y.marks; beside = inside_on (edge_in a) (edge_in b) (edge_in c) F.inside x.marks x.beside y.beside; covers = λ q h. y.covers q (x.covers q h); join = y.join ∙ x.join } };
 
-    ghost quiet_keeps = { λ old new x. N.quiet_keeps (links_in old) (links_in new) x.quiet };
+    ghost quiet_keeps = { λ old new x q. ap (λ is. F.inside q && is) (N.quiet_keeps (links_in old) (links_in new) x.quiet q) };
+}
+
+// Puts the place in, as `RBTree::attach` does. Inside the fence stand the tree and the place, and nothing outside it is written.
+fn attach_inside<F: Fence, A, E: TreeHead, N: Nodes, M: Sums>(
+    tree: &mut RBTree<A, E>,
+    marking: &mut Marking<'_, N, M, F>,
+    parent: Option<Place>,
+    side: Side,
+    place: Place,
+)
+    requires closed { IsClosedBut N.node (N.table (links_in marking.old)) (root_in E.kept tree.old) (Some place) F.inside }
+    requires inside { AreIn F.inside (Some place ∷ parent ∷ []) }
+    ensures attached { Attaches N.node (N.table (links_in marking.old)) (N.table (links_in marking.new)) (root_in E.kept tree.old) (root_in E.kept tree.new) parent side place }
+    ensures ends { (gap : Cut) → IsBelow parent side gap → IsDistinct (join gap) → TellsEnds (E.kept (head_of tree.old)) (join gap)
+        → TellsEnds (E.kept (head_of tree.new)) (insert gap place) }
+    ensures quiet { QuietlyMarks N.Quiet N.node N.table M.sums M.Covers F.inside marking.old marking.new }
+    ensures adapter { adapter_of tree.new ≡ adapter_of tree.old }
+{
+    tree.attach(marking, parent, side, place);
 }
 
 // Puts the place in, as `RBTree::attach` does, and tells the edge: above the stale summaries, with one that is as it was and may be wrong.
-pub(crate) fn attach_marking<A, E: TreeHead, N: Nodes, M: Sums>(
+// What no place inside the fence leads to stays the same.
+pub(crate) fn attach_marking<F: Fence, A, E: TreeHead, N: Nodes, M: Sums>(
     tree: &mut RBTree<A, E>,
     summed: &mut Summed<N, M>,
     parent: Option<Place>,
     side: Side,
     place: Place,
 ) -> Option<Place>
-    requires { IsSafeBut N.node (N.table (links_of summed.old)) (root_in E.kept tree.old) place (Some place ∷ parent ∷ []) }
+    requires closed { IsClosedBut N.node (N.table (links_of summed.old)) (root_in E.kept tree.old) (Some place) F.inside }
+    requires inside { AreIn F.inside (Some place ∷ parent ∷ []) }
     ensures attached { Attaches N.node (N.table (links_of summed.old)) (N.table (links_of summed.new)) (root_in E.kept tree.old) (root_in E.kept tree.new) parent side place }
     ensures ends { (gap : Cut) → IsBelow parent side gap → IsDistinct (join gap) → TellsEnds (E.kept (head_of tree.old)) (join gap)
         → TellsEnds (E.kept (head_of tree.new)) (insert gap place) }
@@ -139,12 +183,19 @@ pub(crate) fn attach_marking<A, E: TreeHead, N: Nodes, M: Sums>(
     ensures quiet { N.Quiet (links_of summed.old) (links_of summed.new) }
     ensures consistent { (s : List Place) → IsConsistent N.node (N.table (links_of summed.old)) (M.sums (sums_of summed.old)) s
         → IsConsistentBut N.node (N.table (links_of summed.new)) (M.sums (sums_of summed.new)) s result }
+    ensures marks { MarksAlone (M.sums (sums_of summed.old)) (M.sums (sums_of summed.new)) }
+    ensures beside { IsWrittenIn (M.sums (sums_of summed.old)) F.inside
+        → IsIn F.inside result × IsSameBeside (M.sums (sums_of summed.old)) (M.sums (sums_of summed.new)) F.inside }
     ensures join { (M.sums (sums_of summed.new)).join ≡ (M.sums (sums_of summed.old)).join }
     ensures covers { (q : Place) → M.Covers (sums_of summed.old) q → M.Covers (sums_of summed.new) q }
     ensures adapter { adapter_of tree.new ≡ adapter_of tree.old }
 {
-    let mut marking = Marking::new(summed);
-    tree.attach(&mut marking, parent, side, place);
-    let Marking { summed: _, edge } = marking;
+    let mut marking: Marking<'_, N, M, F> = Marking::new(summed);
+    attach_inside(tree, &mut marking, parent, side, place);
+    let Marking {
+        summed: _,
+        edge,
+        fence: _,
+    } = marking;
     edge
 }

@@ -6,7 +6,7 @@
 //! refresh_path(&links, &mut sums, place, TURNS); // from a place up
 //! ```
 
-ghost use Rattle.std.specs.Prelude.{◌≡◌, ◌<◌, ◌⊎◌, suc, Option, Some, None, List, length};
+ghost use Rattle.std.specs.Prelude.{◌≡◌, ◌<◌, ◌⊎◌, suc, Bool, true, Option, Some, None, List, length};
 ghost use Rattle.ic_unsafe_ref.specs.declared.place.Place.{Place};
 ghost use Rattle.ic_link_ops.specs.Frames.{Frame, plug};
 ghost use Rattle.ic_link_ops.specs.RedBlackTree.{IsTree};
@@ -14,6 +14,7 @@ ghost use Rattle.ic_link_ops.specs.Trees.{Tree, top};
 ghost use Rattle.ic_link_ops.specs.Tables.{Table};
 ghost use Rattle.ic_link_ops.specs.Times.{times};
 ghost use Rattle.ic_rbtree.specs.Closed.{IsNode};
+ghost use Rattle.ic_augmented.specs.Beside.{IsWrittenIn, IsSameBeside, StaysInside};
 ghost use Rattle.ic_augmented.specs.Consistent.{IsSameAt, IsConsistent, IsConsistentBut, IsConsistentTree, IsConsistentBelow, IsConsistentBeside, KeepsConsistent, KeepsEdge, Refreshes};
 ghost use Rattle.ic_augmented.specs.Subtrees.{IsSubtree};
 ghost use Rattle.ic_augmented.specs.Sums.{seen, IsSummed};
@@ -31,6 +32,8 @@ pub(crate) fn invalidate_up<N: Nodes, M: Sums>(_links: &N, sums: &mut M, place: 
     ensures closed { (s : List Place) → IsConsistentBut N.node (N.table _links.now) (M.sums sums.old) s (Some place)
         → IsConsistent N.node (N.table _links.now) (M.sums sums.new) s }
     ensures consistent { KeepsConsistent N.node (N.table _links.now) (N.table _links.now) (M.sums sums.old) (M.sums sums.new) }
+    ensures beside { (inside : Place → Bool) → IsWrittenIn (M.sums sums.old) inside → inside place ≡ true
+        → IsSameBeside (M.sums sums.old) (M.sums sums.new) inside }
 {
     let mut at = Some(place);
     while let Some(here) = at {
@@ -48,6 +51,8 @@ pub(crate) fn invalidate_up<N: Nodes, M: Sums>(_links: &N, sums: &mut M, place: 
 fn invalidate_up_to<N: Nodes, M: Sums>(_links: &N, sums: &mut M, edge: Place, place: Place)
     ensures covers { (q : Place) → M.Covers sums.old q → M.Covers sums.new q }
     ensures edge { KeepsEdge N.node (N.table _links.now) (N.table _links.now) (M.sums sums.old) (M.sums sums.new) (Some edge) (Some place) }
+    ensures beside { (inside : Place → Bool) → IsWrittenIn (M.sums sums.old) inside → inside edge ≡ true
+        → IsSameBeside (M.sums sums.old) (M.sums sums.new) inside }
 {
     let mut from = Some(edge);
     while let Some(here) = from {
@@ -73,6 +78,7 @@ pub(crate) fn invalidate_from<N: Nodes, M: Sums>(
     ensures writable { ((M.sums sums.new).fresh place ≡ None) ⊎ (result ≡ Some place) }
     ensures covers { (q : Place) → M.Covers sums.old q → M.Covers sums.new q }
     ensures edge { KeepsEdge N.node (N.table links.now) (N.table links.now) (M.sums sums.old) (M.sums sums.new) edge result }
+    ensures beside { (inside : Place → Bool) → inside place ≡ true → StaysInside (M.sums sums.old) (M.sums sums.new) edge result inside }
 {
     if is_at(edge, place) {
         return edge;

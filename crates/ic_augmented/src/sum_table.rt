@@ -9,6 +9,9 @@ ghost use Rattle.std.specs.Prelude.{◌≡◌, ◌≢◌, ◌<◌, ◌≤◌, �
 ghost use Rattle.ic_unsafe_ref.specs.declared.place.Place.{Place};
 ghost use Rattle.ic_unsafe_ref.specs.Places.{index_of};
 ghost use Rattle.ic_link_ops.specs.declared.errors.CoverError.TheVariants as CoverError;
+ghost use Rattle.ic_link_ops.specs.Sequences.{IsAbsent};
+ghost use Rattle.ic_link_ops.specs.Times.{times_in};
+ghost use Rattle.ic_augmented.specs.Beside.{IsWrittenWithin};
 ghost use Rattle.ic_augmented.specs.Changes.{Rejoins};
 ghost use Rattle.ic_augmented.specs.Consistent.{IsConsistent, IsSameAt};
 ghost use Rattle.ic_augmented.specs.SumTables.{joined, room_of, value_of};
@@ -258,7 +261,8 @@ impl<V: Joins<S>, S: Copy + Drop, A: Allocator> RenewSums for SumTable<V, S, A> 
 
 /// Sets the value at `place`, and makes the summaries stale that it changes.
 ///
-/// It requires that there is room for the place. Each fresh summary stays right, of every tree in the table. O(log n).
+/// It requires that there is room for the place. Each fresh summary stays right, of every tree in the table, and stays fresh outside the tree of
+/// the place, where that tree's summaries were written below its own members, as they are in a tree that is summed. O(log n).
 pub fn set_value<N: Nodes, V: Joins<S>, S: Copy + Drop, A: Allocator>(
     summed: &mut Summed<N, SumTable<V, S, A>>,
     place: Place,
@@ -270,6 +274,8 @@ pub fn set_value<N: Nodes, V: Joins<S>, S: Copy + Drop, A: Allocator>(
     ensures consistent { (s : List Place)
         → IsConsistent N.node (N.table (links_of summed.old)) (joined V.join V.initial (sums_of summed.old)) s
         → IsConsistent N.node (N.table (links_of summed.new)) (joined V.join V.initial (sums_of summed.new)) s }
+    ensures same { (s : List Place) → 1 ≤ times_in place s → IsWrittenWithin (joined V.join V.initial (sums_of summed.old)) s
+        → (q : Place) → IsAbsent q s → IsSameAt (joined V.join V.initial (sums_of summed.old)) (joined V.join V.initial (sums_of summed.new)) q }
     ensures covers { (q : Place) → index_of q < room_of (sums_of summed.old) → index_of q < room_of (sums_of summed.new) }
     ensures links { links_of summed.new ≡ links_of summed.old }
 {

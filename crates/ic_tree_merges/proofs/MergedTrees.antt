@@ -1,5 +1,5 @@
 -- From runs to trees: what the calls make of their trees in several steps.
-use Rattle.std.proofs.Common.{◌≡◌, ◌+◌, ◌≤◌, inl, inr, Option, None, IsSome, List, [], ◌∷◌, ◌++◌, length, ◌∙◌, ap, subst, arith}
+use Rattle.std.proofs.Common.{◌≡◌, ◌+◌, ◌≤◌, inl, inr, Option, None, IsSome, List, [], ◌∷◌, ◌++◌, length, sym, ◌∙◌, ap, subst, arith}
 use Rattle.std.specs.List.{AllByRecursion}
 use Rattle.std.specs.declared.cmp.Ordering.{Ordering}
 use Rattle.ic_unsafe_ref.specs.declared.place.Place.{Place}
@@ -10,11 +10,13 @@ use Rattle.ic_link_ops.specs.RedBlackTree.{Node, Shows}
 use Rattle.ic_link_ops.specs.Sequences.{IsAbsent, IsDistinct, IsDisjoint}
 use Rattle.ic_link_ops.specs.Tables.{Table, KeepsBeside}
 use Rattle.ic_link_ops.proofs.SequenceLemmas.{absent_left, absent_right, absent_both, absent_swap, disjoint_sym, distinct_splice}
-use Rattle.ic_link_ops.proofs.ShownTrees.{shows_frame, one_sequence}
+use Rattle.ic_link_ops.proofs.ShownTrees.{holds_frame, shows_frame, one_sequence}
+use Rattle.ic_link_ops.proofs.Trees.{one_tree}
+use Rattle.ic_rbtree.specs.Height.{IsLowest}
 use Rattle.ic_rbtree.specs.Vines.{ShowsVine, Rearranges}
 use Rattle.ic_rbtree.proofs.Vines.{vine_beside}
 use Rattle.ic_tree_merges.specs.Merges.{Interleaves}
-use Rattle.ic_tree_merges.specs.TwoTrees.{TwoShown, MergesTo, PartsTo, UnitesTo}
+use Rattle.ic_tree_merges.specs.TwoTrees.{TwoShown, MergesTo, PartsTo, UnitesTo, ShowsLowest}
 use Rattle.ic_tree_merges.specs.Vines.{IsRun, MergesRuns, PartsRun}
 
 -- what both parts owe to the whole
@@ -54,6 +56,12 @@ module _ {E V : Type 0} {n : E → Node} {objects : Objects V} where
 module _ {E : Type 0} {n : E → Node} where
   pub both_distinct : {v w : Table E} {a b : Option Place} {s u : List Place} → Shows n v a s → Shows n w b u → IsDisjoint s u → IsDistinct (s ++ u)
   both_distinct {v} {w} {a} {b} {s} {u} shown other apart = distinct_splice [] s u other.held.distinct shown.held.distinct apart
+
+  -- a tree stays as low as it is where entries of others are changed
+  pub lowest_still : {v w : Table E} {root : Option Place} {s t : List Place} → Shows n v root s → IsDisjoint s t → KeepsBeside v w t → ShowsLowest n v root → ShowsLowest n w root
+  lowest_still {v} {w} {root} {s} {t} shown apart frame low r h =
+      let still = holds_frame shown.held apart frame in
+      subst IsLowest (one_tree n w.entry None shown.tree h.tree still.entries h.held.entries (sym shown.starts ∙ h.starts)) (low s shown)
 
   -- the other tree stays where this one becomes a vine, and this vine where the other does
   pub other_still : {v w : Table E} {ends : Ends} {b : Option Place} {s u : List Place} → Rearranges (ShowsVine n) v w ends s → IsDisjoint s u → Shows n v b u → Shows n w b u
@@ -145,6 +153,9 @@ module _ {E : Type 0} {n : E → Node} where
               merged.frame.others q (absent_both q s m.rest (absent_left q s u o) (absent_parts q m.common m.rest u m.is.interleaved in_u).1) ∙ m.frame.others q in_u;
         };
       }
+
+      pub doubles_lowest : {v2 : Table E} {new_root : Option Place} → MergesTo (Shows n) cmp v1 v2 new_root s m.rest → ShowsLowest n v1 doubles_root → ShowsLowest n v2 doubles_root
+      doubles_lowest merged low = lowest_still m.common_shown doubles_apart merged.frame low
 
       pub few_added : length m.rest ≤ length u
       few_added = omega (arith, length_parts m.common m.rest u m.is.interleaved)

@@ -1,11 +1,13 @@
 -- Two trees that are made one, and one that is parted in two.
-use Rattle.std.specs.Prelude.{List, ◌++◌}
+use Rattle.std.specs.Prelude.{Option, List, ◌++◌}
 use Rattle.std.specs.declared.cmp.Ordering.{Ordering}
 use Rattle.ic_unsafe_ref.specs.declared.place.Place.{Place}
 use Rattle.ic_unsafe_ref.specs.Objects.{Objects}
 use Rattle.ic_link_ops.specs.PlacedObjects.{ArePlaced}
+use Rattle.ic_link_ops.specs.RedBlackTree.{Node, Shows}
 use Rattle.ic_link_ops.specs.Sequences.{IsDisjoint}
 use Rattle.ic_link_ops.specs.Tables.{Table, KeepsBeside}
+use Rattle.ic_rbtree.specs.Height.{IsLowest}
 use Rattle.ic_tree_merges.specs.Merges.{Merges, Parts}
 
 -- `Shows t head s`: the table shows s for the tree with this head
@@ -48,3 +50,8 @@ module _ {E H : Type 0} (Shows : Table E → H → List Place → Type 0) where
       pub parts : Parts cmp u s doubles added
       pub is : Merges cmp s added united
       pub frame : KeepsBeside old new (s ++ u)
+
+module _ {E : Type 0} (n : E → Node) where
+  -- THE TREE with this root IS AS LOW AS CAN BE, whatever members the table shows for it
+  abbrev pub ShowsLowest : Table E → Option Place → Type 0
+  ShowsLowest t root = (s : List Place) (h : Shows n t root s) → IsLowest h.tree

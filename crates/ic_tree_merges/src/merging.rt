@@ -9,10 +9,9 @@ ghost use Rattle.ic_unsafe_ref.specs.declared.place.Place.{Place};
 ghost use Rattle.ic_unsafe_ref.specs.Objects.{is_placed};
 ghost use Rattle.ic_link_ops.specs.RedBlackTree.{Shows};
 ghost use Rattle.ic_link_ops.specs.Sequences.{IsDistinct, IsDisjoint};
-ghost use Rattle.ic_rbtree.specs.Height.{IsLowest};
 ghost use Rattle.ic_rbtree.specs.Tree.{root_of, adapter_of};
 ghost use Rattle.ic_tree_merges.specs.Merges.{compared_at};
-ghost use Rattle.ic_tree_merges.specs.TwoTrees.{TwoShown, MergesTo};
+ghost use Rattle.ic_tree_merges.specs.TwoTrees.{TwoShown, MergesTo, ShowsLowest};
 ghost use Rattle.ic_tree_merges.specs.Vines.{ends_of, takes_left, looks_between, IsRun, MergesRuns};
 
 use crate::compares::Compares;
@@ -88,8 +87,9 @@ pub(crate) fn merge_runs<V, N: Nodes, O: Values<V>, C: Compares<V>>(
 
 /// Merges another tree into this one: all members of both, and of what is equal, those of this tree go first.
 ///
-/// It requires that the two trees share no member, and that an object stands at each. If both were in order, so is what comes out. It takes
-/// no memory, no link is acquired or released, and trees that share no member with either stay. At most n + m looks, and O(n + m).
+/// It requires that the two trees share no member, and that an object stands at each. If both were in order, so is what comes out, in a tree as
+/// low as can be. It takes no memory, no link is acquired or released, and trees that share no member with either stay. At most n + m looks, and
+/// O(n + m).
 pub fn merge<A: Copy + Drop, V, N: Nodes, O: Values<V>, C: Compares<V>>(
     tree: &mut RBTree<A>,
     nodes: &mut N,
@@ -101,7 +101,7 @@ pub fn merge<A: Copy + Drop, V, N: Nodes, O: Values<V>, C: Compares<V>>(
     ensures merged { (s u : List Place) → Shows N.node (N.table nodes.old) (root_of tree.old) s → Shows N.node (N.table nodes.old) (root_of other) u
         → IsDisjoint s u → MergesTo (Shows N.node) (compared_at (C.order order.old) (O.values objects.now)) (N.table nodes.old) (N.table nodes.new)
         (root_of tree.new) s u }
-    ensures lowest { (r : List Place) (h : Shows N.node (N.table nodes.new) (root_of tree.new) r) → IsLowest h.tree }
+    ensures lowest { ShowsLowest N.node (N.table nodes.new) (root_of tree.new) }
     ensures few { (s u : List Place) → Shows N.node (N.table nodes.old) (root_of tree.old) s → Shows N.node (N.table nodes.old) (root_of other) u
         → IsDisjoint s u → C.looks order.new ≤ C.looks order.old + (length s + length u) }
     ensures same { C.order order.new ≡ C.order order.old }

@@ -14,7 +14,7 @@ ghost use Rattle.ic_link_ops.specs.RedBlackTree.{Shows};
 ghost use Rattle.ic_link_ops.specs.Sequences.{IsDistinct, IsDisjoint};
 ghost use Rattle.ic_rbtree.specs.Tree.{root_of, adapter_of};
 ghost use Rattle.ic_tree_merges.specs.Merges.{compared_at};
-ghost use Rattle.ic_tree_merges.specs.TwoTrees.{TwoShown, PartsTo, UnitesTo};
+ghost use Rattle.ic_tree_merges.specs.TwoTrees.{TwoShown, PartsTo, UnitesTo, ShowsLowest};
 ghost use Rattle.ic_tree_merges.specs.Vines.{ends_of, standing, IsRun, PartsRun};
 
 use crate::compares::Compares;
@@ -94,6 +94,7 @@ fn part<A: Copy + Drop, B, V, N: Nodes, O: Values<V>, C: Compares<V>>(
     ensures parted { (s u : List Place) → Shows N.node (N.table nodes.old) (root_of tree) s → Shows N.node (N.table nodes.old) (root_of other.now) u
         → IsDisjoint s u → PartsTo (Shows N.node) (compared_at (C.order order.old) (O.values objects.now)) (N.table nodes.old) (N.table nodes.new)
         (root_of result.0) (root_of result.1) s u }
+    ensures lowest { ShowsLowest N.node (N.table nodes.new) (root_of result.0) × ShowsLowest N.node (N.table nodes.new) (root_of result.1) }
     ensures few { (s u : List Place) → Shows N.node (N.table nodes.old) (root_of tree) s → Shows N.node (N.table nodes.old) (root_of other.now) u
         → IsDisjoint s u → C.looks order.new ≤ C.looks order.old + (length s + length u) }
     ensures same { C.order order.new ≡ C.order order.old }
@@ -115,8 +116,8 @@ fn part<A: Copy + Drop, B, V, N: Nodes, O: Values<V>, C: Compares<V>>(
 /// Keeps the members that are equal to one of the other tree, and hands out the rest, in order.
 ///
 /// It requires that the two trees share no member, and that an object stands at each. If both were in order, exactly those are kept that are
-/// equal to one of the other. That one stays as it is. It takes no memory, no link is acquired or released, and trees that share no member
-/// with this one stay. At most n + m looks, and O(n + m).
+/// equal to one of the other. That one stays as it is. Both trees that come out are as low as can be. It takes no memory, no link is acquired
+/// or released, and trees that share no member with this one stay. At most n + m looks, and O(n + m).
 pub fn intersection<A: Copy + Drop, B, V, N: Nodes, O: Values<V>, C: Compares<V>>(
     tree: &mut RBTree<A>,
     nodes: &mut N,
@@ -128,6 +129,7 @@ pub fn intersection<A: Copy + Drop, B, V, N: Nodes, O: Values<V>, C: Compares<V>
     ensures parted { (s u : List Place) → Shows N.node (N.table nodes.old) (root_of tree.old) s → Shows N.node (N.table nodes.old) (root_of other.now) u
         → IsDisjoint s u → PartsTo (Shows N.node) (compared_at (C.order order.old) (O.values objects.now)) (N.table nodes.old) (N.table nodes.new)
         (root_of tree.new) (root_of result) s u }
+    ensures lowest { ShowsLowest N.node (N.table nodes.new) (root_of tree.new) × ShowsLowest N.node (N.table nodes.new) (root_of result) }
     ensures few { (s u : List Place) → Shows N.node (N.table nodes.old) (root_of tree.old) s → Shows N.node (N.table nodes.old) (root_of other.now) u
         → IsDisjoint s u → C.looks order.new ≤ C.looks order.old + (length s + length u) }
     ensures same { C.order order.new ≡ C.order order.old }
@@ -144,8 +146,8 @@ pub fn intersection<A: Copy + Drop, B, V, N: Nodes, O: Values<V>, C: Compares<V>
 /// Keeps the members that are equal to none of the other tree, and hands out the others, in order.
 ///
 /// It requires that the two trees share no member, and that an object stands at each. If both were in order, exactly those are handed out that
-/// are equal to one of the other. That one stays as it is. It takes no memory, no link is acquired or released, and trees that share no member
-/// with this one stay. At most n + m looks, and O(n + m).
+/// are equal to one of the other. That one stays as it is. Both trees that come out are as low as can be. It takes no memory, no link is
+/// acquired or released, and trees that share no member with this one stay. At most n + m looks, and O(n + m).
 pub fn difference<A: Copy + Drop, B, V, N: Nodes, O: Values<V>, C: Compares<V>>(
     tree: &mut RBTree<A>,
     nodes: &mut N,
@@ -157,6 +159,7 @@ pub fn difference<A: Copy + Drop, B, V, N: Nodes, O: Values<V>, C: Compares<V>>(
     ensures parted { (s u : List Place) → Shows N.node (N.table nodes.old) (root_of tree.old) s → Shows N.node (N.table nodes.old) (root_of other.now) u
         → IsDisjoint s u → PartsTo (Shows N.node) (compared_at (C.order order.old) (O.values objects.now)) (N.table nodes.old) (N.table nodes.new)
         (root_of result) (root_of tree.new) s u }
+    ensures lowest { ShowsLowest N.node (N.table nodes.new) (root_of tree.new) × ShowsLowest N.node (N.table nodes.new) (root_of result) }
     ensures few { (s u : List Place) → Shows N.node (N.table nodes.old) (root_of tree.old) s → Shows N.node (N.table nodes.old) (root_of other.now) u
         → IsDisjoint s u → C.looks order.new ≤ C.looks order.old + (length s + length u) }
     ensures same { C.order order.new ≡ C.order order.old }
@@ -173,8 +176,8 @@ pub fn difference<A: Copy + Drop, B, V, N: Nodes, O: Values<V>, C: Compares<V>>(
 /// Moves the members of the other tree that are equal to none of this one into this tree, and hands out the others, in order.
 ///
 /// It requires that the two trees share no member, and that an object stands at each. If both were in order, so is what comes out, and exactly
-/// those are handed out that are equal to one of this tree. It takes no memory, no link is acquired or released, and trees that share no
-/// member with either stay. At most 2 (n + m) looks, and O(n + m).
+/// those are handed out that are equal to one of this tree. Both trees that come out are as low as can be. It takes no memory, no link is
+/// acquired or released, and trees that share no member with either stay. At most 2 (n + m) looks, and O(n + m).
 pub fn union<A: Copy + Drop, V, N: Nodes, O: Values<V>, C: Compares<V>>(
     tree: &mut RBTree<A>,
     nodes: &mut N,
@@ -186,6 +189,7 @@ pub fn union<A: Copy + Drop, V, N: Nodes, O: Values<V>, C: Compares<V>>(
     ensures united { (s u : List Place) → Shows N.node (N.table nodes.old) (root_of tree.old) s → Shows N.node (N.table nodes.old) (root_of other) u
         → IsDisjoint s u → UnitesTo (Shows N.node) (compared_at (C.order order.old) (O.values objects.now)) (N.table nodes.old) (N.table nodes.new)
         (root_of tree.new) (root_of result) s u }
+    ensures lowest { ShowsLowest N.node (N.table nodes.new) (root_of tree.new) × ShowsLowest N.node (N.table nodes.new) (root_of result) }
     ensures few { (s u : List Place) → Shows N.node (N.table nodes.old) (root_of tree.old) s → Shows N.node (N.table nodes.old) (root_of other) u
         → IsDisjoint s u → C.looks order.new ≤ C.looks order.old + 2 * (length s + length u) }
     ensures same { C.order order.new ≡ C.order order.old }

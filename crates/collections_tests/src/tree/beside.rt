@@ -11,9 +11,9 @@ use crate::notes::assert_words;
 use crate::tree::trees::OwnKey;
 use ic_link_ops::rbtree::{LinkOpsWith, NarrowLinkOpsWith, RBTreeOps};
 use ic_link_ops::{Link, LinkValues, ThreeNarrowWords};
-use ic_rbtree::{KeyAdapter, RBTree, RBTreeCached};
+use ic_rbtree::{KeyAdapter, KeyProbe, RBTree, RBTreeCached};
 use ic_test_support::answers::write_places;
-use ic_test_support::notes::Text;
+use ic_test_support::notes::{Answer, Text};
 use ic_test_support::objects::{place_at, reference};
 use ic_unsafe_ref::{UnsafeRef, Values};
 
@@ -33,7 +33,23 @@ fn write_inserted<L: RBTreeOps + LinkValues<u64>>(
     write_places(notes, &[tree.front(&*links).get_ptr()]);
 }
 
-// Does so in a tree that keeps its ends, and notes both.
+// Puts the object in where a probe for the key wants it, and notes at how many members the probe looked.
+fn write_looks<L: RBTreeOps + LinkValues<u64>>(
+    notes: &mut Text,
+    tree: &mut RBTree<OwnKey>,
+    links: &mut L,
+    key: &u64,
+    object: UnsafeRef<u64>,
+)
+    requires covered { IsCovered (L.table links.old) object }
+    requires placed { ShowsPlaced (Shows L.node (L.table links.old) (root_of tree.old)) (L.values links.old) }
+{
+    let mut probe = KeyProbe::new(OwnKey, key);
+    let _ = tree.insert_keyed_by(links, &mut probe, object);
+    notes.add(Answer::Number(probe.looks()), " ");
+}
+
+// Puts the object in where its key belongs in a tree that keeps its ends, and notes both.
 fn write_inserted_cached<K: KeyAdapter, L: RBTreeOps + LinkValues<K::Value>>(
     notes: &mut Text,
     tree: &mut RBTreeCached<K>,
@@ -66,6 +82,22 @@ fn keys_beside_links(rt: HostRuntime) {
     write_inserted_cached(&mut notes, &mut tree, &mut links, reference(2));
     write_inserted_cached(&mut notes, &mut tree, &mut links, reference(3));
     assert_words(&rt, &notes, "0 1 2 2 3 2");
+}
+
+// A key that is less than those of the root and of the member on its left is compared with both.
+#[test]
+fn probe_beside_links(rt: HostRuntime) {
+    let mut notes = Text::new(rt.alloc());
+    let mut links: LinkOpsWith<u64> = LinkOpsWith::new(rt.alloc());
+    let _ = links.cover(3);
+    assert!(rt; links.covers() == 3);
+    links.set_value(place_at(0), 20);
+    links.set_value(place_at(1), 10);
+    let mut tree = RBTree::new(OwnKey);
+    write_inserted(&mut notes, &mut tree, &mut links, reference(0));
+    write_inserted(&mut notes, &mut tree, &mut links, reference(1));
+    write_looks(&mut notes, &mut tree, &mut links, &5, reference(2));
+    assert_words(&rt, &notes, "0 1 2");
 }
 
 // A link of 4-byte words takes 12 bytes, and 16 with a key of 4 bytes beside it.

@@ -1,6 +1,9 @@
-use Rattle.std.proofs.Common.{Option, refl, subst, ◌++◌, ◌∷◌}
+use Rattle.std.proofs.Common.{Option, refl, ap, subst, ◌++◌, ◌∷◌, ◌∙◌}
 use Rattle.ic_unsafe_ref.specs.declared.place.Place.{Place}
+use Rattle.ic_link_ops.specs.Times.{times}
 use Rattle.ic_link_ops.specs.Trees.{fork}
+use Rattle.ic_link_ops.proofs.ShownTrees.{holds_out}
+use Rattle.ic_rbtree.specs.Closed.{IsIn}
 use Rattle.ic_augmented.specs.Consistent.{IsConsistentBut}
 use Rattle.ic_augmented.proofs.EditLemmas.{consistent_shown}
 use Rattle.ic_augmented.proofs.ChangeLemmas.{settled, others_settled}
@@ -61,3 +64,15 @@ returns-clause-others g c root other front back t h k apart but =
     let z = g.M.Sums.sums c.args.sums.now in
     others_settled n v z _ root other front c.args.place c.in-Some.edge back t c.climb.ensures.join c.climb.ensures.others (c.is_above.ensures c.if-not-is_above.false) h k apart
     (subst (λ (o : Option Place). IsConsistentBut n v z t o) c.in-Some.is but)
+
+pub returns-in_default-clause-beside : goal.returns-in_default-clause-beside
+returns-in_default-clause-beside g c root front back h inside written i q absent out = record { fresh = refl; upper = refl }
+
+pub returns-then-not-is_above-clause-beside : goal.returns-then-not-is_above-clause-beside
+returns-then-not-is_above-clause-beside g c root front back h inside written i q absent out =
+    c.invalidate_up.ensures.beside inside written (subst (λ (o : Option Place). IsIn inside o) c.in-Some.is i) q out
+
+pub returns-clause-beside : goal.returns-clause-beside
+returns-clause-beside g c root front back h inside written i q absent out =
+    let x = member_subtree g.N.Nodes.node (g.N.Nodes.table c.args.links.now) root front c.args.place back h in
+    c.climb.ensures.others x.fs (fork x.c x.a c.args.place x.b) x.subtree refl q (ap (times q) x.same ∙ holds_out h.held q absent)

@@ -1,10 +1,24 @@
-use Rattle.std.proofs.Common.{◌∙◌, sym, subst, None}
+use Rattle.std.proofs.Common.{◌∙◌, [], ◌∷◌, Bool, Option, sym, subst, None}
+use Rattle.ic_unsafe_ref.specs.declared.place.Place.{Place}
 use Rattle.ic_link_ops.specs.Sequences.{insert, join, IsDisjoint}
 use Rattle.ic_link_ops.proofs.SequenceLemmas.{disjoint_insert, disjoint_sym}
 use Rattle.ic_link_ops.proofs.ShownTrees.{holds_out, one_sequence}
+use Rattle.ic_rbtree.specs.Closed.{IsIn}
+use Rattle.ic_rbtree.proofs.ShownClosed.{with_place, among_there}
+use Rattle.ic_augmented.specs.Beside.{IsWrittenIn, IsSameBeside}
+use Rattle.ic_augmented.specs.MarkLaws.{written_still, marks_on}
+use Rattle.ic_augmented.proofs.BesideLemmas.{written_among, absent_out, absent_insert}
+use Rattle.ic_augmented.proofs.ConsistencyLemmas.{same_on}
+use Rattle.ic_augmented.proofs.FenceLemmas.{fence_is}
 use Rattle.ic_augmented.proofs.ChangeLemmas.{member_out}
-use Rattle.ic_augmented.proofs.EditLemmas.{attached_shows, attached_others, stale_with, refreshed_tree, still_consistent, others_consistent}
+use Rattle.ic_augmented.proofs.EditLemmas.{attach_closed, attached_shows, attached_others, stale_with, refreshed_tree, still_consistent, others_consistent}
 use Rattle.ic_augmented.proofs.edits.attach_fresh.Goals as goal
+
+pub attach_marking-edge-requires : goal.attach_marking-edge-requires
+attach_marking-edge-requires g c =
+    let r = c.requires.hole in
+    let x = attach_closed g.N.Nodes.node _ _ c.args.parent c.args.side c.args.place r.0 r.1 r.2 r.3 r.4 in
+    record { closed = x.0; inside = x.1 }
 
 pub settle-requires-clause-member : goal.settle-requires-clause-member
 settle-requires-clause-member g c =
@@ -57,3 +71,26 @@ returns-clause-others g c s t other shown apart absent h =
     let settled = c.settle.ensures.others _ other r.0.front r.0.back t tree still both (c.attach_marking-edge.ensures.consistent t (c.invalidate_up.ensures.consistent.consistent t h.1)) in
     let fresh = c.refresh_below.ensures.refreshed None tree.tree tree.held.entries (c.root-top.ensures ∙ tree.starts) in
     others_consistent n _ _ _ other t fresh.join (λ q m. fresh.frame q (holds_out tree.held q (member_out q (insert r.0 p) t both m))) (still, settled)
+
+pub returns-clause-same : goal.returns-clause-same
+returns-clause-same g c s shown within q absent =
+    let n = g.N.Nodes.node in
+    let p = c.args.place in
+    let r = c.requires.hole in
+    let z0 = g.M.Sums.sums c.args.summed.now.sums in
+    let z1 = g.M.Sums.sums c.invalidate_up.new.sums in
+    let z2 = g.M.Sums.sums c.attach_marking-edge.new.summed.sums in
+    let z3 = g.M.Sums.sums c.settle.new.sums in
+    let z4 = g.M.Sums.sums c.refresh_below.new.sums in
+    let inside = with_place p s in
+    let out = absent_out q (p ∷ s) absent in
+    let written = written_among z0 (p ∷ s) within in
+    let stale = c.invalidate_up.ensures.beside inside written (among_there p [] s) q out in
+    let still = written_still z0 z1 c.invalidate_up.ensures.consistent.marks inside written in
+    let put = subst (λ (S : Place → Bool). IsWrittenIn z1 S → IsIn S c.attach_marking-edge.result × IsSameBeside z1 z2 S) (fence_is n p shown)
+    c.attach_marking-edge.ensures.beside still in
+    let tree = attached_shows n _ _ _ _ c.args.parent c.args.side p r.0 c.attach_marking-edge.ensures.attached r.1 r.2 r.3 r.4 in
+    let beyond = absent_insert q p r.0 s (one_sequence shown r.3) absent in
+    let fresh = c.refresh_below.ensures.refreshed None tree.tree tree.held.entries (c.root-top.ensures ∙ tree.starts) in
+    let settled = c.settle.ensures.beside _ r.0.front r.0.back tree inside (written_still z1 z2 c.attach_marking-edge.ensures.marks inside still) put.0 q beyond out in
+    same_on z0 z1 z4 q stale (same_on z1 z2 z4 q (put.1 q out) (same_on z2 z3 z4 q settled (fresh.frame q (holds_out tree.held q beyond))))

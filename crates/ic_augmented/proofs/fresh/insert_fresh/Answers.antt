@@ -107,3 +107,10 @@ pub returns-then-not-acquire_link-clause-others : goal.returns-then-not-acquire_
 returns-then-not-acquire_link-clause-others g c s t other was apart h =
     subst (λ (v : Table g.row.L-Entry.Denot). ShowsConsistent g.L.RBTreeOps.node (g.M.Sums.sums c.args.summed.now.sums) v other t)
     (sym (g.met.L.LinkOps.refused_keeps _ _ _ c.if-not-acquire_link.ensures.refused)) h
+
+pub returns-clause-same : goal.returns-clause-same
+returns-clause-same g c s was within q absent =
+    let n = g.L.RBTreeOps.node in
+    let alike = g.met.L.RBTreeOps.linked_alike in
+    let l = g.met.L.LinkOps.does_replay _ _ _ c.if-not-acquire_link.ensures.acquired in
+    c.attach_fresh.ensures.same s (still_shown n g.L.LinkOps.linked alike l.was l.is c.acquire_link.ensures.frame was) (rw c.place-place.ensures within) q (rw c.place-place.ensures absent)

@@ -3,10 +3,13 @@ use Rattle.ic_augmented.specs.Consistent.{IsConsistentBut}
 use Rattle.ic_augmented.specs.Marking.{links_in, sums_in, edge_in}
 use Rattle.ic_augmented.proofs.marking.attach_marking.Goals as goal
 
+pub attach_inside-requires-clause-closed : goal.attach_inside-requires-clause-closed
+attach_inside-requires-clause-closed g c = rw c.new-marking.ensures.borrows.1 c.requires.closed
+
 pub returns-clause-consistent : goal.returns-clause-consistent
 returns-clause-consistent g c s h =
     let n = g.N.Nodes.node in
     let start : IsConsistentBut n (g.N.Nodes.table (links_in c.new-marking.result)) (g.M.Sums.sums (sums_in c.new-marking.result)) s (edge_in c.new-marking.result)
     = rw (c.new-marking.ensures.borrows.1, c.new-marking.ensures.edge) h in
-    let done = c.attach.ensures.quiet.consistent s start in
+    let done = c.attach_inside.ensures.quiet.consistent s start in
     search rules

@@ -1,8 +1,9 @@
 use Rattle.std.proofs.Common.{Option, Some, refl, sym, subst, ◌∙◌, inl, inr}
 use Rattle.ic_unsafe_ref.specs.declared.place.Place.{Place}
 use Rattle.ic_link_ops.proofs.Walks.{is_end_yes}
+use Rattle.ic_rbtree.specs.Closed.{IsIn}
 use Rattle.ic_augmented.specs.Consistent.{IsConsistentBut}
-use Rattle.ic_augmented.specs.MarkLaws.{marks_still}
+use Rattle.ic_augmented.specs.MarkLaws.{marks_still, inside_still}
 use Rattle.ic_augmented.proofs.ConsistencyLemmas.{stale_none, invalidated_none, invalidated_starts}
 use Rattle.ic_augmented.proofs.stale.invalidate_from.Goals as goal
 
@@ -33,3 +34,15 @@ returns-clause-edge g c =
       marks = c.invalidate_up_to.ensures.edge.marks;
       join = c.invalidate_up_to.ensures.edge.join;
     }
+
+pub returns-then-is_at-clause-beside : goal.returns-then-is_at-clause-beside
+returns-then-is_at-clause-beside g c inside here = inside_still (g.M.Sums.sums c.args.sums.now) c.args.edge inside
+
+pub returns-then-not-is_fresh-clause-beside : goal.returns-then-not-is_fresh-clause-beside
+returns-then-not-is_fresh-clause-beside g c inside here = inside_still (g.M.Sums.sums c.args.sums.now) c.args.edge inside
+
+pub returns-in_default-clause-beside : goal.returns-in_default-clause-beside
+returns-in_default-clause-beside g c inside here written i = (here, λ q out. record { fresh = refl; upper = refl })
+
+pub returns-clause-beside : goal.returns-clause-beside
+returns-clause-beside g c inside here written i = (here, c.invalidate_up_to.ensures.beside inside written (subst (λ (o : Option Place). IsIn inside o) c.in-Some.is i))

@@ -1,5 +1,7 @@
-use Rattle.std.proofs.Common.{◌≡◌, Some, None, List, ◌⊎◌}
+use Rattle.std.proofs.Common.{◌≡◌, true, Bool, Some, None, List, ◌⊎◌}
 use Rattle.ic_unsafe_ref.specs.declared.place.Place.{Place}
+use Rattle.ic_rbtree.specs.Closed.{IsIn}
+use Rattle.ic_augmented.specs.Beside.{IsWrittenIn, IsSameBeside}
 use Rattle.ic_augmented.specs.Consistent.{IsConsistentBut}
 use Rattle.ic_augmented.specs.Sums.{MarksAlone}
 use Rattle.ic_augmented.proofs.stale.invalidate_up.Given as goal
@@ -12,6 +14,7 @@ invariant-loop-at g l =
     record {
       stale : (l.at ≡ Some l.fn.place) ⊎ (z.fresh l.fn.place ≡ None);
       consistent : (s : List Place) → IsConsistentBut n v (g.M.Sums.sums l.fn.sums) s (Some l.fn.place) → IsConsistentBut n v z s l.at;
+      beside : (inside : Place → Bool) → IsWrittenIn (g.M.Sums.sums l.fn.sums) inside → inside l.fn.place ≡ true → IsIn inside l.at × IsSameBeside (g.M.Sums.sums l.fn.sums) z inside;
       marks : MarksAlone (g.M.Sums.sums l.fn.sums) z;
       covers : (q : Place) → g.M.Sums.Covers l.fn.sums q → g.M.Sums.Covers l.sums q;
       join : z.join ≡ (g.M.Sums.sums l.fn.sums).join;

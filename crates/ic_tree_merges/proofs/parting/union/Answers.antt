@@ -1,6 +1,6 @@
 use Rattle.std.proofs.Common.{arith}
 use Rattle.ic_link_ops.proofs.SequenceLemmas.{disjoint_sym}
-use Rattle.ic_tree_merges.proofs.MergedTrees.{swapped, tree_still, added_apart, can_merge, united_trees, few_added}
+use Rattle.ic_tree_merges.proofs.MergedTrees.{swapped, tree_still, added_apart, can_merge, united_trees, doubles_lowest, few_added}
 use Rattle.ic_tree_merges.proofs.parting.union.Goals as goal
 
 pub part-doubles-requires : goal.part-doubles-requires
@@ -16,6 +16,13 @@ pub returns-clause-united : goal.returns-clause-united
 returns-clause-united g c s u shown other apart =
     let m = c.part-doubles.ensures.parted u s other shown (disjoint_sym s u apart) in
     united_trees shown apart m (rw c.part-doubles.ensures.same at (c.merge.ensures.merged s m.rest (tree_still shown apart m) m.rest_shown (added_apart shown apart m)))
+
+pub returns-clause-lowest : goal.returns-clause-lowest
+returns-clause-lowest g c =
+    let two = c.requires.two in
+    let m = c.part-doubles.ensures.parted two.second two.first two.other two.shown (disjoint_sym two.first two.second two.apart) in
+    let merged = rw c.part-doubles.ensures.same at (c.merge.ensures.merged two.first m.rest (tree_still two.shown two.apart m) m.rest_shown (added_apart two.shown two.apart m)) in
+    (c.merge.ensures.lowest, doubles_lowest two.shown two.apart m merged c.part-doubles.ensures.lowest.0)
 
 pub returns-clause-few : goal.returns-clause-few
 returns-clause-few g c s u shown other apart =

@@ -1,0 +1,53 @@
+-- Two trees of one table: one member in each.
+use Rattle.std.proofs.Common.{◌≡◌, ◌≢◌, ◌≤◌, ◌+◌, Option, None, List, [], ◌∷◌, ◌++◌, length, refl, sym, ap, ◌∙◌, subst, arith}
+use Rattle.std.specs.declared.cmp.Ordering.{Ordering}
+use Rattle.ic_unsafe_ref.specs.declared.place.Place.{Place}
+use Rattle.ic_link_ops.specs.RedBlackTree.{Node, Shows}
+use Rattle.ic_link_ops.specs.Sequences.{IsAbsent, IsDisjoint}
+use Rattle.ic_link_ops.specs.Tables.{Table}
+use Rattle.ic_link_ops.specs.Times.{one_at, times_in}
+use Rattle.ic_link_ops.proofs.ShownTrees.{shows_nothing}
+use Rattle.ic_link_ops.proofs.Times.{one_at_other}
+use Rattle.ic_rbtree.specs.Ordered.{InsertsInOrder}
+use Rattle.ic_augmented.specs.Beside.{IsWrittenWithin}
+use Rattle.ic_augmented.specs.Consistent.{IsSameAt, ShowsConsistent, ShowsSummed}
+use Rattle.ic_augmented.specs.SumTables.{joined_in}
+use Rattle.ic_augmented.specs.Sums.{Sums}
+use Rattle.ic_augmented.specs.declared.sum_table.Cell.{Cell}
+use Rattle.ic_augmented.proofs.BesideLemmas.{stale_within}
+use Rattle.ic_augmented.proofs.EditLemmas.{still_consistent, still_summed}
+
+-- where there is no room, nothing is fresh
+pub no_room : {V S : Type 0} (join : V → Option S → Option S → S) (initial : V) (items : List (Cell V S)) → length items ≡ 0 → (q : Place) → (joined_in join initial items).fresh q ≡ None
+no_room join initial [] e q = refl
+no_room join initial (x ∷ items) e q = absurd (omega (arith, e))
+
+cut_nothing : (front back : List Place) (p : Place) → front ++ back ≡ [] → front ++ p ∷ back ≡ p ∷ []
+cut_nothing [] back p e = ap (λ (z : List Place). p ∷ z) e
+cut_nothing (x ∷ front) back p e = let none : length (x ∷ (front ++ back)) ≡ 0 = ap length e in absurd (omega (arith, none))
+
+-- a stale place was written within itself
+pub within_itself : {S : Type 0} (z : Sums S) (p : Place) → z.fresh p ≡ None → IsWrittenWithin z (p ∷ [])
+within_itself z p stale = stale_within z [] p stale (λ q r member fresh up. absurd (omega (arith, member)))
+
+pub nothing_there : {E : Type 0} {n : E → Node} (v : Table E) {root : Option Place} → root ≡ None → Shows n v root []
+nothing_there v e = rw e (shows_nothing v)
+
+module _ {E S : Type 0} {n : E → Node} where
+  pub nothing_right : (z : Sums S) (v : Table E) {root : Option Place} → root ≡ None → ShowsConsistent n z v root []
+  nothing_right z v e = (nothing_there v e, λ q member but x fresh. absurd (omega (arith, member)))
+
+  -- the first member of an empty tree
+  pub alone : {at : Place → Ordering} {y : Sums S} {old w : Table E} {root : Option Place} {p : Place} → InsertsInOrder (ShowsSummed n y) at old w root [] p → ShowsSummed n y w root (p ∷ [])
+  alone {y = y} {w = w} {root} {p} i = subst (ShowsSummed n y w root) (cut_nothing i.gap.front i.gap.back p i.same) i.inserted.shows
+
+  -- THE FIRST TREE STAYS SUMMED, where the second one gets its first member
+  pub beside_stays : {v w : Table E} {z y : Sums S} {first second : Option Place} {p q : Place} → ShowsSummed n z v first (p ∷ []) → z.fresh q ≡ None → q ≢ p → second ≡ None
+      → ((s : List Place) → Shows n v second s → IsWrittenWithin z (q ∷ s) → (x : Place) → IsAbsent x (q ∷ s) → IsSameAt z y x)
+      → ((s t : List Place) (other : Option Place) → Shows n v second s → IsDisjoint t s → ShowsConsistent n z v other t → ShowsConsistent n y w other t) → ShowsSummed n y w first (p ∷ [])
+  beside_stays {v} {w} {z} {y} {first} {second} {p} {q} one stale other none same right =
+      still_summed n v w z y first (p ∷ []) (λ x m. same [] (nothing_there v none) (within_itself z q stale) x (apart x m, tt)) one
+      (right [] (p ∷ []) first (nothing_there v none) (tt, tt) (still_consistent n v z first (p ∷ []) one))
+    where
+      apart : (x : Place) → 1 ≤ times_in x (p ∷ []) → x ≢ q
+      apart x m e = let k = one_at_other x p (λ (i : x ≡ p). other (sym e ∙ i)) in omega (arith, m, k)

@@ -1,0 +1,68 @@
+//! Two trees in one table of summaries: what comes into one of them leaves the other one summed.
+
+ghost use Rattle.std.specs.Prelude.{◌≡◌, ◌<◌, ◌≤◌, None};
+ghost use Rattle.ic_unsafe_ref.specs.declared.place.Place.{Place};
+ghost use Rattle.ic_unsafe_ref.specs.Places.{index_of};
+ghost use Rattle.ic_link_ops.specs.Tables.{IsCovered};
+ghost use Rattle.ic_rbtree.specs.Tree.{root_of};
+ghost use Rattle.ic_augmented.specs.Counts.{counts};
+ghost use Rattle.ic_augmented.specs.Summed.{links_of, sums_of};
+ghost use Rattle.ic_augmented.specs.SumTables.{room_of};
+
+use crate::notes::assert_words;
+use crate::tree::trees::OwnKey;
+use ic_augmented::{Counts, Summed, insert_fresh, nth};
+use ic_link_ops::LinkValues;
+use ic_link_ops::rbtree::{LinkOpsWith, RBTreeOps};
+use ic_rbtree::RBTree;
+use ic_test_support::answers::write_places;
+use ic_test_support::notes::Text;
+use ic_test_support::objects::reference;
+use std::alloc::Global;
+use std::process::Abort;
+
+// Puts a member into each of two trees, and notes the first tree's member at position 0. No call renews the first tree's counts behind its insert.
+fn play<L: RBTreeOps + LinkValues<u64>>(
+    rt: &impl Abort,
+    notes: &mut Text,
+    first: &mut RBTree<OwnKey>,
+    second: &mut RBTree<OwnKey>,
+    summed: &mut Summed<L, Counts>,
+)
+    requires covers { (L.table (links_of summed.old)).extent.places ≡ 4 }
+    requires empty { (root_of first.old ≡ None) × (root_of second.old ≡ None) }
+    requires room { (q : Place) → IsCovered (L.table (links_of summed.old)) q → index_of q < room_of (sums_of summed.old) }
+    requires stale { (q : Place) → (counts (sums_of summed.old)).fresh q ≡ None }
+{
+    let put = insert_fresh(first, summed, reference(0));
+    assert!(rt; put.is_ok());
+    let beside = insert_fresh(second, summed, reference(1));
+    assert!(rt; beside.is_ok());
+    write_places(notes, &[nth(&*first, &*summed, 0)]);
+}
+
+// Counts with room for four places, of which none is fresh.
+fn four_counts(rt: &impl Abort, alloc: Global) -> Counts
+    ensures room { 4 ≤ room_of result }
+    ensures stale { (q : Place) → (counts result).fresh q ≡ None }
+{
+    let mut sums = Counts::new(alloc);
+    let covered = sums.cover(4);
+    assert!(rt; covered.is_ok());
+    sums
+}
+
+// Promise: a tree stays summed while another one of its table gets a member.
+#[test]
+fn a_tree_beside_another(rt: HostRuntime) {
+    let mut notes = Text::new(rt.alloc());
+    let mut links: LinkOpsWith<u64> = LinkOpsWith::new(rt.alloc());
+    let _ = links.cover(4);
+    assert!(rt; links.covers() == 4);
+    let sums = four_counts(&rt, rt.alloc());
+    let mut summed = Summed { links, sums };
+    let mut first = RBTree::new(OwnKey);
+    let mut second = RBTree::new(OwnKey);
+    play(&rt, &mut notes, &mut first, &mut second, &mut summed);
+    assert_words(&rt, &notes, "0");
+}

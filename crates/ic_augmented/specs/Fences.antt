@@ -1,0 +1,14 @@
+-- A table behind a fence: a place outside it is seen as not linked, so no call can write there.
+use Rattle.std.specs.Prelude.{Bool, ◌&&◌}
+use Rattle.ic_unsafe_ref.specs.declared.place.Place.{Place}
+use Rattle.ic_link_ops.specs.RedBlackTree.{Node}
+use Rattle.ic_link_ops.specs.Tables.{Table}
+
+module _ {E : Type 0} where
+  -- each entry, and whether its place is inside
+  abbrev pub fenced : (Place → Bool) → Table E → Table (Bool × E)
+  fenced inside t = record { extent = t.extent; entry = λ q. (inside q, t.entry q) }
+
+  -- what it says, where it says it inside alone that the place is linked
+  abbrev pub fenced_node : (E → Node) → Bool × E → Node
+  fenced_node n e = record (n e.1) { linked = e.0 && (n e.1).linked }
