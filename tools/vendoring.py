@@ -18,6 +18,50 @@ TEMPLATES = {
     "intrusive_collections": ROOT / "tools/intrusive_collections",
 }
 LINE = "crate-line.txt"
+# The README of a new repository.
+PAGE = """# {name}
+
+A repository of proved Rattle, begun over copies of crates of Fasciahyssop, intrusive collections that are proved.
+
+| Part | What it is |
+|---|---|
+| [`crates/{own}`](crates/{own}/README.md) | the crate that is yours to change |
+| the other crates | copies of version {version}, which a later run of `tools/vendor` renews |
+| [`crates.txt`](crates.txt) | each crate with the crates that it stands on, lowest first. Your own lines stand outside the two comments |
+| [`HANDLES`](HANDLES) | which handles a program may have: threads, and to wait for them |
+| [`fasciahyssop.lock`](fasciahyssop.lock) | the version, the crates that were named, and the checksum of each file that was copied |
+| [`licenses`](licenses) | the licenses of the copies |
+
+## Work
+
+In `crates/{own}`:
+
+```sh
+rt try --test # compiles, runs the tests, and proves nothing
+rt check      # proves the crate, and at first the crates that it stands on
+```
+
+At the top, `rt ci` is the gate. It proves all crates from nothing, and runs all tests.
+
+## A crate of your own
+
+Write its code in `crates/NAME/src/lib.rt`, or in `src/main.rt` if it is a program, and give it a line in `crates.txt`:
+
+```text
+NAME: ic_unsafe_ref ic_link_ops ic_pool
+```
+
+A crate stands on those that its line names, and uses no other one. `rt check --start FUNCTION --allow-holes` writes the file of a proof, and prints the goals that
+are left.
+
+## The copies
+
+| Crate that was named | What it is |
+|---|---|
+{rows}
+The crates that these stand on were copied, too. In a checkout of Fasciahyssop `tools/vendor CRATE FOLDER` copies one more into this folder, and
+`tools/vendor FOLDER` renews all. A copy that you have changed is named, and kept.
+"""
 BLOCK = re.compile(rf"^# {NAME} \S+: begin\n(.*?)^# {NAME} \S+: end\n\n?", re.M | re.S)
 ASKED = re.compile(r"^# Crates: ?(.*)$", re.M)
 LINES = re.compile(r"^# crates\.txt: (\w{64})$", re.M)
@@ -153,15 +197,51 @@ def vendor(path, names, force=False):
     return 1 if folder.kept else 0
 
 
-def begin(path):
-    """Makes a repository with the crate to begin with."""
+def line_of(crate):
+    """A crate's own line, of a program too, and what it stands on here."""
+    if crate in TEMPLATES or crate not in all_lines():
+        raise Refused(f"no crate of {ROOT / 'crates.txt'}: {crate}")
+    line, below = all_lines()[crate]
+    return line, [it for it in below if (ROOT / "crates" / it).is_dir()]
+
+
+def handles_of(lines):
+    """What the crates of these lines may do: `may_wait` in a line is for a program or a library, and `tests_may` for tests."""
+    said = " ".join(line.partition(":")[0] for line in lines)
+    handles = [name for name, words in (("Threads", ("may_wait", "Threads")), ("Wait", ("may_wait", "Wait"))) if any(it in said for it in words)]
+    return f"Handles allowed: {', '.join(handles) or 'none'}.\n"
+
+
+def sentence_of(crate):
+    """The first sentence of a crate's page, without its links."""
+    page = next(data for path, data in files_of(crate).items() if path.endswith("README.md")).decode()
+    text = re.sub(r"\[([^]]*)\]\([^)]*\)", r"\1", " ".join(page.split("\n\n")[1].split()))
+    return re.split(r"(?<=\.)\s|:$", text, maxsplit=1)[0].rstrip(":")
+
+
+def page_of(path, own, asked):
+    """The README of a new repository."""
+    rows = "".join(f"| [`{it}`](crates/{it}/README.md) | {sentence_of(it)} |\n" for it in asked)
+    return PAGE.format(name=path.resolve().name, own=own, version=VERSION, rows=rows)
+
+
+def begin(path, names=(), own=OWN):
+    """Makes a repository with the crate to begin with, and copies of what it stands on and of the crates that are named."""
     if path.exists() and any(it.name != ".git" for it in path.iterdir()):
         raise Refused(f"not empty: {path}")
-    own = with_all_below([OWN])[OWN]
-    texts = {"HANDLES": "Handles allowed: none.\n", ".gitignore": "crates/*/out/\n", "crates.txt": f"# your own\n{own}\n"}
-    for name, data in [*((name, text.encode()) for name, text in texts.items()), *files_of(OWN).items()]:
+    line, below = line_of(own)
+    if own in with_all_below([*below, *names]):
+        raise Refused(f"{own} is the crate of your own, and a named crate stands on it")
+    asked = [*below, *(it for it in names if it not in below)]
+    texts = {
+        "HANDLES": handles_of([line, *with_all_below(asked).values()]),
+        ".gitignore": "crates/*/out/\n",
+        "crates.txt": f"# your own\n{line}\n",
+        "README.md": page_of(path, own, asked),
+    }
+    for name, data in [*((name, text.encode()) for name, text in texts.items()), *files_of(own).items()]:
         (path / name).parent.mkdir(parents=True, exist_ok=True)
         (path / name).write_bytes(data)
-    vendor(path, [it for it in own.partition(":")[2].split() if (ROOT / "crates" / it).is_dir()])
-    print(f"Your own crate is {path}/crates/{OWN}. `rt try --test` there runs its test, and `rt check` proves it. `rt ci` at the top is the gate.")
+    vendor(path, asked)
+    print(f"Your own crate is {path}/crates/{own}. `rt try` there runs it, with `--test` its tests, and `rt check` proves it. `rt ci` at the top is the gate.")
     return 0

@@ -14,4 +14,4 @@ mod table;
 
 pub use connection::Connection;
 pub use open_error::OpenError;
-pub use table::{ConnectionTable, HashConnections, TreeConnections};
+pub use table::{ConnectionTable, TreeConnections};

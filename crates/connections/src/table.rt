@@ -8,13 +8,12 @@
 //! table.expire(1, &mut gone)?; // the one that was idle for longest
 //! ```
 
-ghost use Rattle.std.specs.Prelude.{◌≡◌, ℕ, ◌≤◌, ◌<◌, ◌∷◌, ◌++◌, [], None, length, min, max, is_some, IfErr, OnOk, OnErr, MatchOption, MatchBool};
+ghost use Rattle.std.specs.Prelude.{◌≡◌, ℕ, ◌<◌, ◌∷◌, ◌++◌, [], None, length, min, max, is_some, IfErr, OnOk, OnErr, MatchOption, MatchBool};
 ghost use Rattle.std.specs.List.{AllByRecursion};
 ghost use Rattle.std.specs.Option.{option_copied};
 
 use crate::{Connection, OpenError};
-use ic_hash_table::{Buckets, HashTable};
-use ic_keyed::{ByHash, ByKey, Index, InsertError, Keyed};
+use ic_keyed::{ByKey, Index, InsertError, Keyed};
 use ic_rbtree::RBTree;
 use std::alloc::{AllocError, Allocator, Global};
 use std::marker::Model;
@@ -31,9 +30,6 @@ pub struct ConnectionTable<I: Index<Connection, A>, A: Allocator = Global> {
 
 /// Connections that are found by a tree: O(log n).
 pub type TreeConnections<A = Global> = ConnectionTable<RBTree<ByKey<Connection>>, A>;
-
-/// Connections that are found by a hash table: O(1) on average.
-pub type HashConnections<B, A = Global> = ConnectionTable<HashTable<ByHash<Connection>, B>, A>;
 
 impl<I: Index<Connection, A>, A: Allocator> Model for ConnectionTable<I, A> {
     ghost use Rattle.connections.specs.Table.{Table, IsAged};
@@ -60,28 +56,24 @@ impl<A: Allocator> ConnectionTable<RBTree<ByKey<Connection>>, A> {
     }
 }
 
-impl<B: Buckets + Drop, A: Allocator> ConnectionTable<HashTable<ByHash<Connection>, B>, A> {
-    /// No connection, found by a hash table over these buckets. It takes no memory.
+impl<I: Index<Connection, A>, A: Allocator> ConnectionTable<I, A> {
+    ghost use Rattle.connections.specs.Table.{connection_with, others_than, with_live, seen_now, IsSound, IsActive, IsRefused, EndsIdle, Expires, ExpiresIdle};
+
+    /// No connection, found by this index: `ConnectionTable::with_index(rt.alloc(), HashIndex::new(buckets))`. It takes no memory.
     ///
-    /// It requires that the buckets are empty, and that there is one at least and at most 4,294,967,296.
-    pub fn with_buckets(alloc: A, buckets: B) -> HashConnections<B, A>
+    /// It requires that the index is new.
+    pub fn with_index(alloc: A, index: I) -> ConnectionTable<I, A>
     where
         A: Copy,
-        requires some { 1 ≤ length (B.fronts buckets) }
-        requires few { length (B.fronts buckets) ≤ 4294967296 }
-        requires empty { AllByRecursion (λ front. front ≡ None) (B.fronts buckets) }
+        requires new { I.IsNew index }
         ensures live { result.live ≡ [] }
         ensures clock { result.clock ≡ 0 }
     {
         ConnectionTable {
-            live: Keyed::with_buckets(alloc, buckets),
+            live: Keyed::with_index(alloc, index),
             clock: 0,
         }
     }
-}
-
-impl<I: Index<Connection, A>, A: Allocator> ConnectionTable<I, A> {
-    ghost use Rattle.connections.specs.Table.{connection_with, others_than, with_live, seen_now, IsSound, IsActive, IsRefused, EndsIdle, Expires, ExpiresIdle};
 
     /// The connection with the id, if it is open. It does not touch it.
     pub fn find(&self, id: u64) -> Option<&Connection>

@@ -1,3 +1,1 @@
 pub mod Indexed
-pub mod HashIndex
-pub mod HashLaws

@@ -1,4 +1,4 @@
-//! What finds objects by their keys: a tree, or a hash table.
+//! What finds objects by their keys: a tree, for example.
 //!
 //! ```text
 //! index.insert_place(&mut links, &objects, place); // where its key belongs
@@ -6,7 +6,7 @@
 //! index.remove_place(&mut links, &objects, place);
 //! ```
 
-ghost use Rattle.std.specs.Prelude.{◌≡◌, ℕ, true, List, Option, Some};
+ghost use Rattle.std.specs.Prelude.{◌≡◌, ℕ, true, List, Option, None, Some};
 ghost use Rattle.ic_unsafe_ref.specs.declared.place.Place.{Place};
 ghost use Rattle.ic_unsafe_ref.specs.Objects.{Objects as Placed, Frees, is_placed, object_at};
 ghost use Rattle.ic_unsafe_ref.proofs.Placing.{Puts};
@@ -31,11 +31,19 @@ pub trait Index<T: HasKey, A: Allocator>: Drop {
     // THE INDEX HAS EACH OBJECT, and nothing else is linked in its table.
     ghost Has: { Self → Self.Links → Placed T → Type 0 };
 
+    // IT IS NEW: it has no object, and none of its links is written.
+    ghost IsNew: { Self → Type 0 };
+
     // In how many parts the index has the objects: a search looks at those of one part. No call changes that.
     ghost parts: { Self → ℕ };
 
     // SO FEW LOOKS as a search makes: of the parts, the key that is searched, the objects and the looks.
     ghost IsFew: { ℕ → ℕ → List T → ℕ → Type 0 };
+
+    /// The table for the links of a new index. It covers no place and takes no memory. It requires that the index is new.
+    fn new_links(&self, alloc: A) -> Self::Links
+        requires new { IsNew self.now }
+        ensures none { (objects : Placed T) → ((place : Place) → object_at objects place ≡ None) → Has self.now result objects };
 
     /// Where an object of the key stands, if there is one, and how many objects the search looked at. It requires that the index has all
     /// objects.

@@ -7,9 +7,8 @@
 //! ```
 
 ghost use Rattle.std.specs.Prelude.{◌≡◌, ◌≤◌, ◌↔◌, ◌^◌, ◌∷◌, ◌++◌, [], true, None, Some, Err, List, length, OnOk, IfOk, IfErr, IfSome, IsTrue, MatchOption};
-ghost use Rattle.std.specs.List.{AllByRecursion};
 ghost use Rattle.ic_unsafe_ref.specs.declared.place.Place.{Place};
-ghost use Rattle.ic_unsafe_ref.specs.Objects.{Objects as Placed, Frees, Places, is_placed, object_at, with_object};
+ghost use Rattle.ic_unsafe_ref.specs.Objects.{Frees, Places, is_placed, object_at, with_object};
 ghost use Rattle.ic_link_ops.specs.Positions.{object_there};
 ghost use Rattle.ic_pool.specs.Refusals.{value_of};
 ghost use Rattle.ic_container.specs.Orders.{IsWhole};
@@ -19,10 +18,9 @@ ghost use Rattle.ic_indexed.specs.Indexed.{order_in, values_of};
 
 use crate::place::place;
 use crate::renew::renew;
-use crate::{ByHash, ByKey, HasKey, Index, NarrowByHash, NarrowByKey};
+use crate::{ByKey, HasKey, Index, NarrowByKey};
 use ic_container::{Iter, lists};
-use ic_hash_table::{Buckets, HashTable};
-use ic_link_ops::{CoverError, NextWord, NodeWords, PlainTable, PrevPlace};
+use ic_link_ops::{CoverError, NodeWords, PlainTable, PrevPlace};
 use ic_linked_list::LinkedList;
 use ic_pool::{PlaceError, Pool, Tables};
 use ic_rbtree::RBTree;
@@ -44,14 +42,8 @@ pub struct Indexed<T: HasKey, I: Index<T, A>, A: Allocator = Global> {
 /// Objects in a tree by their keys and in a list.
 pub type TreeIndexed<T, A = Global> = Indexed<T, RBTree<ByKey<T>>, A>;
 
-/// Objects in a hash table by their keys and in a list.
-pub type HashIndexed<T, B, A = Global> = Indexed<T, HashTable<ByHash<T>, B>, A>;
-
 /// The same as `TreeIndexed` over links of 4-byte words: half the memory for links, and 536,870,911 places at most.
 pub type NarrowTreeIndexed<T, A = Global> = Indexed<T, RBTree<NarrowByKey<T>>, A>;
-
-/// The same as `HashIndexed` over links of 4-byte words.
-pub type NarrowHashIndexed<T, B, A = Global> = Indexed<T, HashTable<NarrowByHash<T>, B>, A>;
 
 impl<T: HasKey, I: Index<T, A>, A: Allocator> Model for Indexed<T, I, A> {
     ghost use Rattle.ic_link_ops.specs.PlainTables.{linked_by, table};
@@ -98,64 +90,21 @@ impl<T: HasKey, W: NodeWords, O: PrevPlace, A: Allocator> Indexed<T, RBTree<ByKe
     }
 }
 
-impl<T: HasKey, B: Buckets + Drop, A: Allocator> Indexed<T, HashTable<ByHash<T>, B>, A> {
-    /// No objects, with a hash table over these buckets as the index. It takes no memory.
-    ///
-    /// It requires that the buckets are empty, and that there is one at least and at most 4,294,967,296. With as many buckets as there
-    /// are objects a search looks at one or two objects on average.
-    pub fn with_buckets(alloc: A, buckets: B) -> HashIndexed<T, B, A>
-    where
-        A: Copy,
-        requires some { 1 ≤ length (B.fronts buckets) }
-        requires few { length (B.fronts buckets) ≤ 4294967296 }
-        requires empty { AllByRecursion (λ front. front ≡ None) (B.fronts buckets) }
-        ensures empty { values_of result ≡ [] }
-        ensures vacant { (place : Place) → object_at result.values place ≡ None }
-        ensures parts { result.parts ≡ length (B.fronts buckets) }
-    {
-        Indexed::by_hash(alloc, buckets)
-    }
-}
-
-impl<T: HasKey, W: NextWord, O: PrevPlace, B: Buckets + Drop, A: Allocator> Indexed<
-    T,
-    HashTable<ByHash<T, W, O>, B>,
-    A,
-> {
-    /// No objects, with a hash table over these buckets and over links of either width as the index. Else as `with_buckets`.
-    pub fn by_hash(alloc: A, buckets: B) -> Indexed<T, HashTable<ByHash<T, W, O>, B>, A>
-    where
-        A: Copy,
-        requires some { 1 ≤ length (B.fronts buckets) }
-        requires few { length (B.fronts buckets) ≤ 4294967296 }
-        requires empty { AllByRecursion (λ front. front ≡ None) (B.fronts buckets) }
-        ensures empty { values_of result ≡ [] }
-        ensures vacant { (place : Place) → object_at result.values place ≡ None }
-        ensures parts { result.parts ≡ length (B.fronts buckets) }
-    {
-        let links = (PlainTable::new(alloc), PlainTable::new(alloc));
-        Indexed {
-            pool: Pool::new(alloc, links),
-            index: HashTable::new(ByHash::with_words(), buckets),
-            in_order: LinkedList::new(),
-        }
-    }
-}
-
 impl<T: HasKey, I: Index<T, A>, A: Allocator> Indexed<T, I, A> {
-    /// No objects, with this index, whose links are in this table. It takes no memory.
+    /// No objects, with this index: `Indexed::with_index(rt.alloc(), HashIndex::new(buckets))`. It takes no memory.
     ///
-    /// It requires that the index has all objects where there is none.
-    pub fn with_index(alloc: A, index: I, links: I::Links) -> Indexed<T, I, A>
+    /// It requires that the index is new.
+    pub fn with_index(alloc: A, index: I) -> Indexed<T, I, A>
     where
         A: Copy,
-        requires none { (objects : Placed T) → ((place : Place) → object_at objects place ≡ None) → I.Has index links objects }
+        requires new { I.IsNew index }
         ensures empty { values_of result ≡ [] }
         ensures vacant { (place : Place) → object_at result.values place ≡ None }
         ensures parts { result.parts ≡ I.parts index }
     {
+        let links = (index.new_links(alloc), PlainTable::new(alloc));
         Indexed {
-            pool: Pool::new(alloc, (links, PlainTable::new(alloc))),
+            pool: Pool::new(alloc, links),
             index,
             in_order: LinkedList::new(),
         }

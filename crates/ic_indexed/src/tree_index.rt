@@ -1,6 +1,6 @@
 //! A tree finds objects by their keys.
 
-ghost use Rattle.std.specs.Prelude.{length};
+ghost use Rattle.std.specs.Prelude.{◌≡◌, None, length};
 ghost use Rattle.ic_rbtree.specs.Tree.{root_of};
 ghost use Rattle.ic_link_ops.specs.PlainTables.{linked_by, table};
 ghost use Rattle.ic_rbtree.specs.PlainTrees.{node_by};
@@ -21,9 +21,15 @@ impl<T: HasKey, W: NodeWords, O: PrevPlace, A: Allocator> Index<T, A> for RBTree
 
     ghost Has = { λ tree links objects. HasAllIn (node_by W.node) (linked_by W.is_linked) (table W.width W.unlinked) T.key_of links (root_of tree) objects };
 
+    ghost IsNew = { λ tree. root_of tree ≡ None };
+
     ghost parts = { λ tree. 1 };
 
     ghost IsFew = { λ parts key values looks. IsFewLooks looks (length values) };
+
+    fn new_links(&self, alloc: A) -> PlainTable<W, A> {
+        PlainTable::new(alloc)
+    }
 
     fn find_key(
         &self,

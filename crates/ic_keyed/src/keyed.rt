@@ -1,27 +1,23 @@
 //! Values by their keys, in the order of their use.
 //!
 //! ```text
-//! let mut pages = Keyed::new(rt.alloc()); // by a tree; `with_buckets` by a hash table
+//! let mut pages = Keyed::new(rt.alloc()); // by a tree; `with_index` by another index
 //! pages.insert(page)?;
 //! let page = pages.peek(7)?; // the order stays
 //! let page = pages.get(7)?; // it is in front of all others
 //! let page = pages.remove(7)?;
 //! ```
 
-ghost use Rattle.std.specs.Prelude.{◌≡◌, ◌≤◌, ◌↔◌, ◌++◌, ◌∷◌, [], None, Some, Bool, List, filter, length, is_some, IsTrue, OnOk, IfOk, IfErr, MatchOption};
-ghost use Rattle.std.specs.List.{AllByRecursion};
+ghost use Rattle.std.specs.Prelude.{◌≡◌, ◌↔◌, ◌++◌, ◌∷◌, [], None, Some, Bool, List, filter, length, is_some, IsTrue, OnOk, IfOk, IfErr, MatchOption};
 ghost use Rattle.std.specs.Fn.{FnReturnsAt};
 ghost use Rattle.std.specs.Option.{option_copied};
-ghost use Rattle.ic_unsafe_ref.specs.declared.place.Place.{Place};
-ghost use Rattle.ic_unsafe_ref.specs.Objects.{Objects as Placed, object_at};
 ghost use Rattle.ic_keyed.specs.Keyed.{value_with, without, touched, with_values, BeginsWith, EndsWith, HaveOwnKeys, ReplacesLast};
 
 use crate::InsertError;
 use crate::store::{find, place_of};
 use ic_container::Iter;
-use ic_hash_table::{Buckets, HashTable};
-use ic_indexed::{ByHash, ByKey, HasKey, Index, Indexed, NarrowByHash, NarrowByKey};
-use ic_link_ops::{CoverError, NextWord, NodeWords, PrevPlace};
+use ic_indexed::{ByKey, HasKey, Index, Indexed, NarrowByKey};
+use ic_link_ops::{CoverError, NodeWords, PrevPlace};
 use ic_rbtree::RBTree;
 use std::alloc::{Allocator, Global};
 use std::marker::Model;
@@ -40,14 +36,8 @@ pub struct Keyed<T: HasKey, I: Index<T, A>, A: Allocator = Global> {
 /// Values that are found by a tree: O(log n).
 pub type TreeKeyed<T, A = Global> = Keyed<T, RBTree<ByKey<T>>, A>;
 
-/// Values that are found by a hash table: O(1) on average.
-pub type HashKeyed<T, B, A = Global> = Keyed<T, HashTable<ByHash<T>, B>, A>;
-
 /// The same as `TreeKeyed` over links of 4-byte words: half the memory for links, and 536,870,911 places at most.
 pub type NarrowTreeKeyed<T, A = Global> = Keyed<T, RBTree<NarrowByKey<T>>, A>;
-
-/// The same as `HashKeyed` over links of 4-byte words.
-pub type NarrowHashKeyed<T, B, A = Global> = Keyed<T, HashTable<NarrowByHash<T>, B>, A>;
 
 impl<T: HasKey, I: Index<T, A>, A: Allocator> Model for Keyed<T, I, A> {
     ghost use Rattle.ic_indexed.specs.Indexed.{values_of};
@@ -89,63 +79,24 @@ impl<T: HasKey, W: NodeWords, O: PrevPlace, A: Allocator> Keyed<T, RBTree<ByKey<
     }
 }
 
-impl<T: HasKey, B: Buckets + Drop, A: Allocator> Keyed<T, HashTable<ByHash<T>, B>, A> {
-    /// No values, with a hash table over these buckets as the index. It takes no memory.
-    ///
-    /// It requires that the buckets are empty, and that there is one at least and at most 4,294,967,296. With as many buckets as there
-    /// are values a search looks at one or two values on average, if nobody chooses the keys to fall into one chain.
-    pub fn with_buckets(alloc: A, buckets: B) -> HashKeyed<T, B, A>
-    where
-        A: Copy,
-        requires some { 1 ≤ length (B.fronts buckets) }
-        requires few { length (B.fronts buckets) ≤ 4294967296 }
-        requires empty { AllByRecursion (λ front. front ≡ None) (B.fronts buckets) }
-        ensures values { result.values ≡ [] }
-        ensures parts { result.parts ≡ length (B.fronts buckets) }
-    {
-        Keyed::by_hash(alloc, buckets)
-    }
-}
-
-impl<T: HasKey, W: NextWord, O: PrevPlace, B: Buckets + Drop, A: Allocator> Keyed<
-    T,
-    HashTable<ByHash<T, W, O>, B>,
-    A,
-> {
-    /// No values, with a hash table over these buckets and over links of either width as the index. Else as `with_buckets`.
-    pub fn by_hash(alloc: A, buckets: B) -> Keyed<T, HashTable<ByHash<T, W, O>, B>, A>
-    where
-        A: Copy,
-        requires some { 1 ≤ length (B.fronts buckets) }
-        requires few { length (B.fronts buckets) ≤ 4294967296 }
-        requires empty { AllByRecursion (λ front. front ≡ None) (B.fronts buckets) }
-        ensures values { result.values ≡ [] }
-        ensures parts { result.parts ≡ length (B.fronts buckets) }
-    {
-        Keyed {
-            store: Indexed::by_hash(alloc, buckets),
-        }
-    }
-}
-
 impl<T: HasKey, I: Index<T, A>, A: Allocator> Keyed<T, I, A> {
     ghost use Rattle.std.specs.Borrow.{sem};
     ghost use Rattle.ic_keyed.specs.Lends.{EndsAs};
     ghost use Rattle.ic_keyed.specs.Refusals.{IsRefused};
     ghost use Rattle.ic_keyed.specs.Tests.{AreAnswers, Tests, passing};
 
-    /// No values, with this index, whose links are in this table. It takes no memory.
+    /// No values, with this index: `Keyed::with_index(rt.alloc(), HashIndex::new(buckets))`. It takes no memory.
     ///
-    /// It requires that the index has all values where there is none.
-    pub fn with_index(alloc: A, index: I, links: I::Links) -> Keyed<T, I, A>
+    /// It requires that the index is new.
+    pub fn with_index(alloc: A, index: I) -> Keyed<T, I, A>
     where
         A: Copy,
-        requires none { (objects : Placed T) → ((place : Place) → object_at objects place ≡ None) → I.Has index links objects }
+        requires new { I.IsNew index }
         ensures values { result.values ≡ [] }
         ensures parts { result.parts ≡ I.parts index }
     {
         Keyed {
-            store: Indexed::with_index(alloc, index, links),
+            store: Indexed::with_index(alloc, index),
         }
     }
 

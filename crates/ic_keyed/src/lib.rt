@@ -15,6 +15,6 @@ mod keyed;
 mod store;
 
 pub use ic_container::Iter;
-pub use ic_indexed::{ByHash, ByKey, HasKey, Index, NarrowByHash, NarrowByKey};
+pub use ic_indexed::{ByKey, HasKey, Index, NarrowByKey};
 pub use insert_error::InsertError;
-pub use keyed::{HashKeyed, Keyed, NarrowHashKeyed, NarrowTreeKeyed, TreeKeyed};
+pub use keyed::{Keyed, NarrowTreeKeyed, TreeKeyed};

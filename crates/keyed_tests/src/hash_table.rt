@@ -12,6 +12,7 @@ ghost use Rattle.ic_link_ops.specs.Tables.{IsCovered};
 ghost use Rattle.ic_hash_table.specs.HashTable.{adapter_of, slots_of, number, HoldsSome, IsNew, KeepsBuckets};
 
 mod equals;
+mod file;
 mod keyed;
 mod narrow;
 mod words;

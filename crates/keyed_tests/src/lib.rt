@@ -11,6 +11,8 @@ mod builder;
 #[cfg(test)]
 mod hash_table;
 #[cfg(test)]
+mod indexed;
+#[cfg(test)]
 mod keyed;
 #[cfg(test)]
 mod tree_merges;

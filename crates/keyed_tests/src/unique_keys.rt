@@ -1,4 +1,5 @@
 //! The container of unique keys: its worked rows over a tree and over a hash table, with ample memory and with each request refused in turn.
 
-mod calls;
+pub(crate) mod calls;
+mod chains;
 mod rows;

@@ -1,7 +1,7 @@
 //! The cache.
 //!
 //! ```text
-//! let mut cache = LruCache::new(rt.alloc(), 2); // by a tree; `with_buckets` by a hash table
+//! let mut cache = LruCache::new(rt.alloc(), 2); // by a tree; `with_index` by another index
 //! cache.insert(1, 'a')?; // None: no entry leaves
 //! cache.insert(2, 'b')?; // None
 //! cache.get(1); // Some(&'a'), and the entry of 2 is the oldest
@@ -9,14 +9,12 @@
 //! ```
 
 ghost use Rattle.std.specs.Prelude.{◌≡◌, ◌<◌, ◌≤◌, ◌↔◌, ◌++◌, ◌∷◌, [], None, length, IsTrue, IsSome, IsOk, IfNone, OnOk, IfOk, IfErr, MatchOption};
-ghost use Rattle.std.specs.List.{AllByRecursion};
 ghost use Rattle.std.specs.Option.{option_copied, option_map};
 
 use crate::InsertError;
 use crate::entry::Entry;
-use ic_hash_table::{Buckets, HashTable};
-use ic_keyed::{ByHash, ByKey, Index, Keyed, NarrowByHash, NarrowByKey};
-use ic_link_ops::{NextWord, NodeWords, PrevPlace};
+use ic_keyed::{ByKey, Index, Keyed, NarrowByKey};
+use ic_link_ops::{NodeWords, PrevPlace};
 use ic_rbtree::RBTree;
 use std::alloc::{Allocator, Global};
 use std::marker::Model;
@@ -36,18 +34,8 @@ pub struct LruCache<V, I: Index<Entry<V>, A>, A: Allocator = Global> {
 /// A cache whose entries are in a tree by their keys: each search is O(log n).
 pub type TreeLruCache<V, A = Global> = LruCache<V, RBTree<ByKey<Entry<V>>>, A>;
 
-/// A cache whose entries are in a hash table by their keys: each search is O(1) on average.
-pub type HashLruCache<V, B, A = Global> = LruCache<V, HashTable<ByHash<Entry<V>>, B>, A>;
-
 /// The same as `TreeLruCache` over links of 4-byte words: half the memory for links, and 536,870,911 places at most.
 pub type NarrowTreeLruCache<V, A = Global> = LruCache<V, RBTree<NarrowByKey<Entry<V>>>, A>;
-
-/// The same as `HashLruCache` over links of 4-byte words.
-pub type NarrowHashLruCache<V, B, A = Global> = LruCache<
-    V,
-    HashTable<NarrowByHash<Entry<V>>, B>,
-    A,
->;
 
 impl<V, I: Index<Entry<V>, A>, A: Allocator> Model for LruCache<V, I, A> {
     ghost use Rattle.std.specs.Prelude.{◌≤◌, length};
@@ -101,57 +89,28 @@ impl<V, W: NodeWords, O: PrevPlace, A: Allocator> LruCache<V, RBTree<ByKey<Entry
     }
 }
 
-impl<V, B: Buckets + Drop, A: Allocator> LruCache<V, HashTable<ByHash<Entry<V>>, B>, A> {
-    /// A cache of no entries, with a hash table over these buckets as the index. It takes no memory.
-    ///
-    /// It requires that the buckets are empty, and that there is one at least and at most 4,294,967,296. With as many buckets as there
-    /// may be entries a search looks at one or two entries on average, if nobody chooses the keys to fall into one chain.
-    pub fn with_buckets(alloc: A, capacity: usize, buckets: B) -> HashLruCache<V, B, A>
-    where
-        A: Copy,
-        requires some { 1 ≤ length (B.fronts buckets) }
-        requires few { length (B.fronts buckets) ≤ 4294967296 }
-        requires empty { AllByRecursion (λ front. front ≡ None) (B.fronts buckets) }
-        ensures entries { result.entries ≡ [] }
-        ensures capacity { result.capacity ≡ capacity }
-        ensures parts { result.parts ≡ length (B.fronts buckets) }
-    {
-        LruCache::by_hash(alloc, capacity, buckets)
-    }
-}
-
-impl<V, W: NextWord, O: PrevPlace, B: Buckets + Drop, A: Allocator> LruCache<
-    V,
-    HashTable<ByHash<Entry<V>, W, O>, B>,
-    A,
-> {
-    /// A cache of no entries, with a hash table over these buckets and over links of either width as the index. Else as `with_buckets`.
-    pub fn by_hash(
-        alloc: A,
-        capacity: usize,
-        buckets: B,
-    ) -> LruCache<V, HashTable<ByHash<Entry<V>, W, O>, B>, A>
-    where
-        A: Copy,
-        requires some { 1 ≤ length (B.fronts buckets) }
-        requires few { length (B.fronts buckets) ≤ 4294967296 }
-        requires empty { AllByRecursion (λ front. front ≡ None) (B.fronts buckets) }
-        ensures entries { result.entries ≡ [] }
-        ensures capacity { result.capacity ≡ capacity }
-        ensures parts { result.parts ≡ length (B.fronts buckets) }
-    {
-        LruCache {
-            entries: Keyed::by_hash(alloc, buckets),
-            capacity,
-        }
-    }
-}
-
 impl<V, I: Index<Entry<V>, A>, A: Allocator> LruCache<V, I, A> {
     ghost use Rattle.std.specs.Borrow.{sem};
     ghost use Rattle.ic_keyed.specs.Keyed.{EndsWith};
     ghost use Rattle.lru_cache.specs.Cache.{entry_of, pair_of, value_with, inserted, leaves, without, touched, with_entries, IsSound};
     ghost use Rattle.lru_cache.specs.Lends.{EndsAs};
+
+    /// A cache of no entries, with this index: `LruCache::with_index(rt.alloc(), 1000, HashIndex::new(buckets))`. It takes no memory.
+    ///
+    /// It requires that the index is new.
+    pub fn with_index(alloc: A, capacity: usize, index: I) -> LruCache<V, I, A>
+    where
+        A: Copy,
+        requires new { I.IsNew index }
+        ensures entries { result.entries ≡ [] }
+        ensures capacity { result.capacity ≡ capacity }
+        ensures parts { result.parts ≡ I.parts index }
+    {
+        LruCache {
+            entries: Keyed::with_index(alloc, index),
+            capacity,
+        }
+    }
 
     /// How many entries there are. O(1).
     #[inline]

@@ -7,10 +7,12 @@
 //! ```
 //!
 //! Each entry is one object with a link in each of two fields, and uses both: in the index of keys, by which it is
-//! found, and in the list of ages, whose last one leaves first. The index is a tree, or a hash table over buckets of yours:
+//! found, and in the list of ages, whose last one leaves first. The index is a tree, or the hash table of `ic_hash_index`, over
+//! buckets of yours:
 //!
 //! ```text
-//! let mut cache = LruCache::with_buckets(rt.alloc(), 1000, buckets); // as many as entries: O(1) on average
+//! let index = HashIndex::new(buckets); // as many as entries: O(1) on average
+//! let mut cache = LruCache::with_index(rt.alloc(), 1000, index);
 //! ```
 #![tactic(auto)]
 
@@ -18,6 +20,6 @@ mod cache;
 mod entry;
 mod insert_error;
 
-pub use cache::{HashLruCache, LruCache, NarrowHashLruCache, NarrowTreeLruCache, TreeLruCache};
+pub use cache::{LruCache, NarrowTreeLruCache, TreeLruCache};
 pub use entry::Entry;
 pub use insert_error::InsertError;

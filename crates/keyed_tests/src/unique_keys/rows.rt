@@ -1,7 +1,8 @@
 //! The worked rows: calls, what they answer, and the numbers of the pages afterwards.
 
 use crate::unique_keys::calls::{Answer, Call, Page, are, make};
-use ic_keyed::{Index, Keyed, NarrowHashKeyed, NarrowTreeKeyed};
+use ic_hash_index::{HashIndex, NarrowHashIndex};
+use ic_keyed::{Index, Keyed, NarrowTreeKeyed};
 use ic_link_ops::PlaceWord;
 use ic_test_support::rationed::Rationed;
 use std::alloc::{Allocator, Global};
@@ -105,7 +106,7 @@ fn play_new(by: By, memory: &Rationed, rows: &[Row]) -> Option<usize> {
         }
         By::HashTable => {
             let buckets = [PlaceWord::of(None), PlaceWord::of(None)];
-            let mut pages = Keyed::with_buckets(memory, buckets);
+            let mut pages = Keyed::with_index(memory, HashIndex::new(buckets));
             play(&mut pages, rows)
         }
         By::NarrowTree => {
@@ -114,9 +115,7 @@ fn play_new(by: By, memory: &Rationed, rows: &[Row]) -> Option<usize> {
         }
         By::NarrowHashTable => {
             let buckets = [PlaceWord::of(None), PlaceWord::of(None)];
-            let mut pages: NarrowHashKeyed<Page, [PlaceWord; 2], &Rationed> = Keyed::by_hash(
-                memory, buckets,
-            );
+            let mut pages = Keyed::with_index(memory, NarrowHashIndex::with_words(buckets));
             play(&mut pages, rows)
         }
     }

@@ -1,10 +1,11 @@
 //! The worked rows: calls, and what they answer.
 
 use crate::cache::calls::{Answer, Call, make};
+use ic_hash_index::{HashIndex, NarrowHashIndex};
 use ic_indexed::Index;
 use ic_link_ops::PlaceWord;
 use ic_test_support::rationed::Rationed;
-use lru_cache::{Entry, LruCache, NarrowHashLruCache, NarrowTreeLruCache};
+use lru_cache::{Entry, LruCache, NarrowTreeLruCache};
 use std::alloc::{Allocator, Global};
 
 type Row = (Call, Answer);
@@ -105,7 +106,7 @@ fn play_new(by: By, memory: &Rationed, capacity: usize, rows: &[Row]) -> Option<
         }
         By::HashTable => {
             let buckets = [PlaceWord::of(None), PlaceWord::of(None)];
-            let mut cache = LruCache::with_buckets(memory, capacity, buckets);
+            let mut cache = LruCache::with_index(memory, capacity, HashIndex::new(buckets));
             play(&mut cache, rows)
         }
         By::NarrowTree => {
@@ -114,9 +115,8 @@ fn play_new(by: By, memory: &Rationed, capacity: usize, rows: &[Row]) -> Option<
         }
         By::NarrowHashTable => {
             let buckets = [PlaceWord::of(None), PlaceWord::of(None)];
-            let mut cache: NarrowHashLruCache<u64, [PlaceWord; 2], &Rationed> = LruCache::by_hash(
-                memory, capacity, buckets,
-            );
+            let index = NarrowHashIndex::with_words(buckets);
+            let mut cache = LruCache::with_index(memory, capacity, index);
             play(&mut cache, rows)
         }
     }
@@ -139,6 +139,7 @@ fn is_refused_in_turn(by: By, alloc: Global, capacity: usize, rows: &[Row], leas
 #[test]
 fn a_cache_with_no_bound(rt: HostRuntime) {
     let mut cache = LruCache::unbounded(rt.alloc());
+    assert!(rt; cache.capacity() == usize::MAX);
     assert!(rt; play(&mut cache, ALL) == Some(0));
 }
 

@@ -1,3 +1,4 @@
+use Rattle.ic_hash_table.specs.Retained.{passing}
 use Rattle.keyed_tests.proofs.Extents.{places_of}
 use Rattle.keyed_tests.proofs.hash_table.keep_small.Goals as goal
 
@@ -7,4 +8,4 @@ returns-clause-covers g c = let q = c.requires.held in places_of (c.retain.ensur
 pub returns-clause-held : goal.returns-clause-held
 returns-clause-held g c =
     let q = c.requires.held in
-    let k = c.retain.ensures.retained q.0 q.1 in (k.0, k.3)
+    let k = c.retain.ensures.asked q.0 q.1 in (passing k.0 q.0, k.3)

@@ -10,7 +10,7 @@ invariant_of-result g c =
     let W = g.I.Order.Words in
     let reads = plain_reads W.width W.unlinked W.is_linked g.I.Order.NextWord.next_word g.I.Order.PrevPlace.prev g.met.I.Order.Words.starts_unlinked in
     record {
-      keyed = rw e.links (c.requires.none c.new-2.result.objects e.vacant);
+      keyed = rw e.links (c.new_links.ensures.none c.new-2.result.objects e.vacant);
       listed = listed_none reads c.new-2.result.links.1 c.new-3.ensures e.empty e.vacant (rw e.links c.new.ensures);
     }
 

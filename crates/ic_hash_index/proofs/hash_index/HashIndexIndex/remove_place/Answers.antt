@@ -1,7 +1,7 @@
 use Rattle.std.proofs.Common.{refl}
 use Rattle.ic_link_ops.proofs.Covering.{still_covered}
-use Rattle.ic_indexed.proofs.HashLemmas.{hash_freed, on_true, singly_covered}
-use Rattle.ic_indexed.proofs.hash_index.HashTableByHashIndex.remove_place.Goals as goal
+use Rattle.ic_hash_index.proofs.HashLemmas.{hash_freed, on_true, singly_covered}
+use Rattle.ic_hash_index.proofs.hash_index.HashIndexIndex.remove_place.Goals as goal
 
 pub remove-requires-clause-placed : goal.remove-requires-clause-placed
 remove-requires-clause-placed g c = rw c.new.ensures c.requires.placed

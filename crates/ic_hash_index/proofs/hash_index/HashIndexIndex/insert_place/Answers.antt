@@ -1,8 +1,8 @@
 use Rattle.std.proofs.Common.{refl, is_some, ap}
 use Rattle.ic_unsafe_ref.proofs.Placing.{placed_there}
 use Rattle.ic_link_ops.proofs.Calling.{accepted}
-use Rattle.ic_indexed.proofs.HashLemmas.{hash_new, hash_ready}
-use Rattle.ic_indexed.proofs.hash_index.HashTableByHashIndex.insert_place.Goals as goal
+use Rattle.ic_hash_index.proofs.HashLemmas.{hash_new, hash_ready}
+use Rattle.ic_hash_index.proofs.hash_index.HashIndexIndex.insert_place.Goals as goal
 
 pub insert-requires-clause-placed : goal.insert-requires-clause-placed
 insert-requires-clause-placed g c = rw c.new.ensures (ap is_some (placed_there c.requires.lacks.places))

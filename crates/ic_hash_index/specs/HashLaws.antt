@@ -13,7 +13,7 @@ use Rattle.ic_hash_table.specs.declared.table.HashTable.{HashTable}
 use Rattle.ic_hash_table.specs.HashTable.{BelongsIn}
 use Rattle.ic_hash_table.specs.Slots.{slot_of}
 use Rattle.ic_hash_table.proofs.Chains.{chains_frame, chains_weakened}
-use Rattle.ic_indexed.specs.HashIndex.{HoldsAll}
+use Rattle.ic_hash_index.specs.HashIndex.{HoldsAll}
 
 -- nothing shares a member with no place
 apart_from_none : (s : List Place) → IsDisjoint s []

@@ -33,7 +33,7 @@ use Rattle.ic_hash_table.proofs.SlotLemmas.{slot_used}
 use Rattle.ic_container.specs.Trees.{IsFound}
 use Rattle.ic_container.proofs.ValueLemmas.{member_placed, no_more, there_is}
 use Rattle.ic_indexed.specs.Indexed.{IsOrderOf}
-use Rattle.ic_indexed.specs.HashIndex.{HoldsAll}
+use Rattle.ic_hash_index.specs.HashIndex.{HoldsAll}
 
 -- only covered places are linked, of whatever width the words are, and so none where no place is
 module _ {W A : Type 0} (width : Width) (unlinked : W) (is_linked : W → Bool) (starts : is_linked unlinked ≡ false) (links : PlainTable W A ⊤) where

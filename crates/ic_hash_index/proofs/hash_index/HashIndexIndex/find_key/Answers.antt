@@ -1,7 +1,7 @@
 use Rattle.std.proofs.Common.{None, Some, refl, sym, ap, eqb-true, eq-eqb, arith}
-use Rattle.ic_indexed.specs.HashIndex.{mixed}
-use Rattle.ic_indexed.proofs.HashLemmas.{hash_chain, hash_found}
-use Rattle.ic_indexed.proofs.hash_index.HashTableByHashIndex.find_key.Goals as goal
+use Rattle.ic_hash_index.specs.HashIndex.{mixed}
+use Rattle.ic_hash_index.proofs.HashLemmas.{hash_chain, hash_found}
+use Rattle.ic_hash_index.proofs.hash_index.HashIndexIndex.find_key.Goals as goal
 
 pub find_by-requires-clause-held : goal.find_by-requires-clause-held
 find_by-requires-clause-held g c = (c.requires.all.members, c.requires.all.held)
@@ -25,10 +25,10 @@ pub returns-in-Some-clause-looks : goal.returns-in-Some-clause-looks
 returns-in-Some-clause-looks g c order whole =
     let chain = hash_chain (λ e. refl) c.requires.all (mixed c.args.key) in
     let l = (rw c.new-probe.ensures.key at c.in-Some.ensures.looks) chain.0 chain.1 in
-    record { slots = c.args.self.now.slots; used = refl; well_formed = c.requires.all.held.well_formed; few = omega (arith, l.counted, l.few, c.looks.ensures, c.new-probe.ensures.none, chain.2 order whole) }
+    record { slots = c.args.self.now.table.slots; used = refl; well_formed = c.requires.all.held.well_formed; few = omega (arith, l.counted, l.few, c.looks.ensures, c.new-probe.ensures.none, chain.2 order whole) }
 
 pub returns-in-None-clause-looks : goal.returns-in-None-clause-looks
 returns-in-None-clause-looks g c order whole =
     let chain = hash_chain (λ e. refl) c.requires.all (mixed c.args.key) in
     let l = (rw c.new-probe.ensures.key at c.in-None.ensures.looks) chain.0 chain.1 in
-    record { slots = c.args.self.now.slots; used = refl; well_formed = c.requires.all.held.well_formed; few = omega (arith, l.counted, l.few, c.looks-in-None.ensures, c.new-probe.ensures.none, chain.2 order whole) }
+    record { slots = c.args.self.now.table.slots; used = refl; well_formed = c.requires.all.held.well_formed; few = omega (arith, l.counted, l.few, c.looks-in-None.ensures, c.new-probe.ensures.none, chain.2 order whole) }

@@ -1,0 +1,2 @@
+pub mod HashIndex
+pub mod HashLaws

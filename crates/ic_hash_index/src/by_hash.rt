@@ -1,0 +1,86 @@
+//! The hashes of keys.
+//!
+//! ```text
+//! let table = HashTable::new(ByHash::new(), buckets); // finds pages by their numbers
+//! ```
+
+ghost use Rattle.std.specs.Prelude.{◌≡◌};
+ghost use Rattle.std.proofs.Common.{ap, eqb-true};
+ghost use Rattle.ic_hash_index.specs.HashIndex.{mixed};
+
+use ic_hash_table::HashAdapter;
+use ic_indexed::HasKey;
+use ic_link_ops::linked_list::TwoWords;
+use ic_link_ops::singly_linked_list::Singly;
+use ic_link_ops::{OneNarrowWord, OneWord, TwoNarrowWords};
+use std::alloc::AllocError;
+use std::marker::PhantomData;
+
+/// The hashes of keys: the upper half of the key times 2^64 over the golden ratio, so that keys in a row are in different chains.
+///
+/// Who chooses the keys can choose them so that all are in one chain. `W`: the words of the hash table's links, `O`: those of
+/// the links of the order beside it.
+pub struct ByHash<T, W = OneWord<Singly>, O = TwoWords> {
+    of: PhantomData<T>,
+    words: PhantomData<W>,
+    order: PhantomData<O>,
+}
+
+/// The same over links of 4-byte words: half the memory for links, and 536,870,911 places at most.
+pub type NarrowByHash<T> = ByHash<T, OneNarrowWord<Singly>, TwoNarrowWords>;
+
+impl<T> ByHash<T> {
+    /// The hashes of keys. O(1).
+    #[inline]
+    pub fn new() -> ByHash<T> {
+        ByHash::with_words()
+    }
+}
+
+impl<T, W, O> ByHash<T, W, O> {
+    /// The hashes of keys, for links of these words. O(1).
+    #[inline]
+    pub fn with_words() -> ByHash<T, W, O> {
+        ByHash {
+            of: PhantomData,
+            words: PhantomData,
+            order: PhantomData,
+        }
+    }
+}
+
+impl<T, W, O> Clone for ByHash<T, W, O> {
+    ghost use Rattle.std.specs.Prelude.{⊤};
+
+    ghost is_clone = { λ a copy. copy ≡ a };
+
+    ghost is_infallible = { λ _. ⊤ };
+
+    fn clone(&self) -> Result<Self, AllocError> {
+        Ok(*self)
+    }
+}
+
+impl<T, W, O> Copy for ByHash<T, W, O> {}
+
+impl<T: HasKey, W, O> HashAdapter for ByHash<T, W, O> {
+    type Value = T;
+
+    type Key = u64;
+
+    ghost key_of = { λ a value. T.key_of value };
+
+    ghost hash_of = { λ a key. mixed key };
+
+    #[inline]
+    fn get_key<'v>(&self, value: &'v T) -> &'v u64 {
+        value.key()
+    }
+
+    #[inline]
+    fn hash(&self, key: &u64) -> u64 {
+        key.wrapping_mul(11_400_714_819_323_198_485) / 4_294_967_296
+    }
+
+    ghost equal_alike = { λ a k l same. ap mixed (eqb-true k l same) };
+}

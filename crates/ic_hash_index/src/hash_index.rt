@@ -1,0 +1,133 @@
+//! A hash table finds objects by their keys.
+//!
+//! ```text
+//! let buckets = empty_buckets(rt.alloc(), 1024)?;
+//! let mut pages = Indexed::with_index(rt.alloc(), HashIndex::new(buckets));
+//! ```
+
+ghost use Rattle.std.specs.Prelude.{◌≡◌, ◌≤◌, None, length};
+ghost use Rattle.std.proofs.Common.{ap};
+ghost use Rattle.std.specs.List.{AllByRecursion};
+ghost use Rattle.ic_hash_table.specs.HashTable.{number};
+ghost use Rattle.ic_link_ops.specs.PlainTables.{linked_by, table};
+ghost use Rattle.ic_link_ops.specs.Readings.{successor_of};
+ghost use Rattle.ic_hash_index.specs.HashIndex.{mixed, table_of, chains_of, HoldsAll, IsFewInChain, IsNewIndex};
+ghost use Rattle.ic_hash_index.specs.HashLaws.{hash_grown, hash_alike};
+
+use crate::ByHash;
+use ic_hash_table::{BucketRow, BucketsFor, HashTable, KeyProbe};
+use ic_indexed::{HasKey, Index, Indexed};
+use ic_link_ops::linked_list::TwoWords;
+use ic_link_ops::singly_linked_list::Singly;
+use ic_link_ops::{NextWord, OneNarrowWord, OneWord, PlainTable, PrevPlace, TwoNarrowWords};
+use ic_unsafe_ref::{Objects, Place, UnsafeRef};
+use std::alloc::{Allocator, Global};
+
+/// A hash table as the index of a container.
+///
+/// A clause sees how many chains it has (`chains_of`), and whether it is new (`IsNewIndex`). `B`: its buckets, which need room for each place that the links can name. So narrow
+/// links can have buckets of 4 bytes or of 8, and wide ones have buckets of 8. `W`: the words of its links, `O`: those of the links of the
+/// order beside it.
+#[derive(Drop)]
+pub struct HashIndex<T, B, W = OneWord<Singly>, O = TwoWords> {
+    table: HashTable<ByHash<T, W, O>, B>,
+}
+
+/// The same over links of 4-byte words: half the memory for links, and 536,870,911 places at most.
+pub type NarrowHashIndex<T, B> = HashIndex<T, B, OneNarrowWord<Singly>, TwoNarrowWords>;
+
+/// Objects in a hash table by their keys and in a list.
+pub type HashIndexed<T, B, A = Global> = Indexed<T, HashIndex<T, B>, A>;
+
+/// The same over links of 4-byte words.
+pub type NarrowHashIndexed<T, B, A = Global> = Indexed<T, NarrowHashIndex<T, B>, A>;
+
+impl<T: HasKey, B: BucketRow> HashIndex<T, B> {
+    /// A new index over these buckets.
+    ///
+    /// It requires that the buckets are empty, and that there is one at least and at most 4,294,967,296. With as many buckets as there
+    /// are objects a search looks at one or two objects on average. O(log n) of n buckets, and no memory.
+    pub fn new(buckets: B) -> HashIndex<T, B>
+        requires some { 1 ≤ length (B.fronts buckets) }
+        requires few { length (B.fronts buckets) ≤ 4294967296 }
+        requires empty { AllByRecursion (λ front. front ≡ None) (B.fronts buckets) }
+        ensures new { IsNewIndex B.fronts result }
+        ensures parts { chains_of result ≡ length (B.fronts buckets) }
+    {
+        HashIndex::with_words(buckets)
+    }
+}
+
+impl<T: HasKey, B: BucketRow, W: NextWord, O: PrevPlace> HashIndex<T, B, W, O> {
+    /// A new index over these buckets, for links of these words: `NarrowHashIndex::with_words(buckets)`. Else as `new`.
+    pub fn with_words(buckets: B) -> HashIndex<T, B, W, O>
+        requires some { 1 ≤ length (B.fronts buckets) }
+        requires few { length (B.fronts buckets) ≤ 4294967296 }
+        requires empty { AllByRecursion (λ front. front ≡ None) (B.fronts buckets) }
+        ensures new { IsNewIndex B.fronts result }
+        ensures parts { chains_of result ≡ length (B.fronts buckets) }
+    {
+        HashIndex {
+            table: HashTable::new(ByHash::with_words(), buckets),
+        }
+    }
+}
+
+impl<
+    T: HasKey,
+    B: BucketsFor<PlainTable<W, A>> + Drop,
+    W: NextWord,
+    O: PrevPlace,
+    A: Allocator,
+> Index<T, A> for HashIndex<T, B, W, O> {
+    type Links = PlainTable<W, A>;
+
+    type Order = O;
+
+    ghost Has = { λ index links objects. HoldsAll (successor_of W.next_word W.is_linked) (linked_by W.is_linked) (number (λ a. T.key_of) (λ a. mixed)) B.fronts (table W.width W.unlinked links) (table_of index) objects };
+
+    ghost IsNew = { λ index. IsNewIndex B.fronts index };
+
+    ghost parts = { λ index. chains_of index };
+
+    ghost IsFew = { IsFewInChain (λ value. T.key_of value) };
+
+    fn new_links(&self, alloc: A) -> PlainTable<W, A> {
+        PlainTable::new(alloc)
+    }
+
+    fn find_key(
+        &self,
+        links: &PlainTable<W, A>,
+        objects: &Objects<T, A>,
+        key: u64,
+    ) -> (Option<Place>, u64) {
+        let mut probe = KeyProbe::new(ByHash::new(), &key);
+        match self.table.find_by(links, objects, &mut probe) {
+            Some(object) => (Some(object.place()), probe.looks()),
+            None => (None, probe.looks()),
+        }
+    }
+
+    fn insert_place(
+        &mut self,
+        links: &mut PlainTable<W, A>,
+        objects: &Objects<T, A>,
+        place: Place,
+    ) {
+        let _ = self.table.insert(links, objects, UnsafeRef::new(place)); // proved: it is not linked
+    }
+
+    fn remove_place(
+        &mut self,
+        links: &mut PlainTable<W, A>,
+        objects: &Objects<T, A>,
+        place: Place,
+    ) {
+        let _ = self.table.remove(links, objects, &UnsafeRef::new(place)); // proved: it is a member
+    }
+
+    ghost has_grown = { λ table old new objects grows all. hash_grown grows.entries all };
+
+    ghost has_alike = { λ table links old new place out value there puts same all. hash_alike all there puts (ap mixed same) };
+}

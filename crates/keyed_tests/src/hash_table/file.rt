@@ -1,0 +1,108 @@
+//! Hash tables of the words of a file, of which nobody knows whether they are one until a check has accepted them.
+
+ghost use Rattle.std.specs.Prelude.{◌≡◌, ◌≤◌, length};
+ghost use Rattle.ic_link_ops.specs.OneWord.{no_word};
+ghost use Rattle.ic_link_ops.specs.PlainTables.{table};
+ghost use Rattle.ic_link_ops.specs.Widths.{HasRoom, wide};
+ghost use Rattle.ic_link_ops.specs.Tables.{IsNameable};
+
+use crate::asserts::assert_true;
+use crate::hash_table::{NUMBERS, OwnKey};
+use ic_check::check_hash_table;
+use ic_hash_table::HashTable;
+use ic_link_ops::singly_linked_list::{LinkOps, SinglyLinkedListOps};
+use ic_test_support::answers::object;
+use ic_test_support::notes::Text;
+use ic_test_support::objects::{eight_objects, place_at};
+use ic_unsafe_ref::{Objects, Place, UnsafeRef};
+use std::alloc::Global;
+use std::process::Abort;
+
+// No place, as a file names it.
+const NONE: usize = 8;
+
+// The place of that index, if it names one.
+fn named(index: usize) -> Option<Place>
+    ensures named { IsNameable (HasRoom wide) result }
+{
+    if index >= NONE {
+        return None;
+    }
+    Some(place_at(index))
+}
+
+// Links each place in front of the one that a file names for it.
+fn read_links(links: &mut LinkOps, pairs: &[(usize, usize)])
+    requires covers { (table wide no_word links.old).extent.places ≡ 8 }
+{
+    for index in 0..pairs.len() {
+        let (first, behind) = pairs[index];
+        if first < NONE {
+            let _ = links.link_before(place_at(first), named(behind));
+        }
+    }
+}
+
+// The first member with this key of the hash table of so many members over these buckets, if the words are those of one.
+fn find_in_file(
+    words: &mut [u64],
+    links: &LinkOps,
+    objects: &Objects<u64>,
+    len: usize,
+    key: u64,
+) -> Option<UnsafeRef<u64>>
+    requires some { 1 ≤ length words.old }
+    requires few { length words.old ≤ 4294967296 }
+{
+    let used = words.len();
+    let hash = HashTable::from_buckets(OwnKey, words, used, len);
+    if !check_hash_table(&hash, links, objects) {
+        return None;
+    }
+    hash.find(links, objects, &key)
+}
+
+// Notes which member with this key a table of four buckets has, whose words are these.
+fn write_found(
+    rt: &impl Abort,
+    alloc: Global,
+    notes: &mut Text,
+    words: [u64; 4],
+    pairs: &[(usize, usize)],
+    len: usize,
+    key: u64,
+) {
+    let (objects, mut links): (_, LinkOps) = eight_objects(alloc, NUMBERS).expect(rt, "memory");
+    read_links(&mut links, pairs);
+    let mut words = words;
+    let found = find_in_file(&mut words[..], &links, &objects, len, key);
+    notes.add(object(found), " ");
+}
+
+// 20 and 40 belong in chain 0, and 10 and 30 in chain 2. The word 7 names no place. The first table is one. In the others 10 is in chain 1, a
+// chain of 10 and 30 runs in a circle, 40 is behind 20 and behind 10, one member more is counted, the first member is not linked, and it is
+// beyond all places.
+// Promise: a hash table of a file.
+#[test]
+fn tables_of_a_file_are_checked(rt: HostRuntime) {
+    let alloc = rt.alloc();
+    let mut notes = Text::new(alloc);
+    let chains = [(0, 3), (3, NONE), (1, NONE)];
+    write_found(&rt, alloc, &mut notes, [16, 0, 8, 7], &chains, 3, 30);
+    write_found(&rt, alloc, &mut notes, [0, 8, 0, 0], &[(0, NONE)], 1, 10);
+    write_found(
+        &rt,
+        alloc,
+        &mut notes,
+        [0, 0, 8, 0],
+        &[(0, 3), (3, 0)],
+        2,
+        10,
+    );
+    let shared = [(0, 5), (1, 5), (5, NONE)];
+    write_found(&rt, alloc, &mut notes, [16, 0, 8, 0], &shared, 4, 10);
+    write_found(&rt, alloc, &mut notes, [0, 0, 8, 0], &[(0, NONE)], 2, 10);
+    write_found(&rt, alloc, &mut notes, [0, 0, 8, 0], &[], 1, 10);
+    write_found(&rt, alloc, &mut notes, [0, 0, 80, 0], &[], 1, 10);
+    assert_true(&rt, notes.has_words("3 none none none none none none"));
+}
