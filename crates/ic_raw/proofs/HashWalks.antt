@@ -5,6 +5,7 @@ use Rattle.std.proofs.lemmas.Bool.Decides.{eqb_tells}
 use Rattle.ic_unsafe_ref.specs.declared.place.Place.{Place}
 use Rattle.ic_link_ops.specs.Sequences.{first, last, but_last, IsDistinct, IsMember}
 use Rattle.ic_link_ops.specs.Tables.{Table, IsCovered, IsLinked}
+use Rattle.ic_link_ops.specs.Chains.{IsChain}
 use Rattle.ic_link_ops.specs.SinglyLinkedList.{Front, IsFollowed, list_from, successor_at}
 use Rattle.ic_link_ops.specs.PlainTables.{entry_at}
 use Rattle.ic_link_ops.proofs.Chains.{chain_cut}
@@ -22,7 +23,7 @@ use Rattle.ic_raw.specs.Keys.{key_of}
 use Rattle.ic_raw.specs.Singly.{Shows, lent_table, successor}
 use Rattle.ic_raw.specs.Tables.{raw_entries}
 use Rattle.ic_raw.specs.Words.{is_linked_one, no_word, HasNumber}
-use Rattle.ic_raw.proofs.Singly.{behind_any}
+use Rattle.ic_raw.proofs.Singly.{behind_any, ended_distinct, LeadsTo, leads_on, ends_there}
 
 -- THE WALK HAS COME to `current`, past members of s that fail a test, of which `before` is the last. No more members are left than steps
 pub record Comes (is : Place → Bool) (t : Table RawOne) (s : List Place) (before current : Option Place) (left : ℕ) : Type 0 where
@@ -105,6 +106,27 @@ shown_behind {t} front p back shown =
       head = m.next;
       tail = refl;
     }
+
+-- and where the places behind a linked one are a list, they are one with it in front
+pub shown_from : {t : Table RawOne} (p : Place) (s : List Place) → is_linked_one (t.entry p) ≡ true → Shows t (list_from (successor_at successor t p).next) s
+    → Shows t (list_from (Some p)) (p ∷ s)
+shown_from {t} p s linked shown =
+    let chain : IsChain (IsFollowed successor) t.entry None (p ∷ s) None = (record { linked = linked; next = shown.head }, behind_any t.entry None (Some p) s None shown.chain) in
+    record { distinct = ended_distinct t.entry None (p ∷ s) chain; chain = chain; head = refl; tail = refl }
+
+-- THE PLACES FROM `front` ON LEAD TO `current`, and where that is none they are a list
+abbrev pub WalksTo : Table RawOne → Option Place → Option Place → Type 0
+WalksTo t front None = (s : List Place) × Shows t (list_from front) s
+WalksTo t front (Some at) = (begin : Place) × (front ≡ Some begin) × LeadsTo t begin at
+
+pub walks_first : (t : Table RawOne) (front : Option Place) → WalksTo t front front
+walks_first t None = ([], record { distinct = tt; chain = tt; head = refl; tail = refl })
+walks_first t (Some begin) = (begin, refl, record { walked = []; chain = tt; starts = refl })
+
+pub walks_on : {t : Table RawOne} {front : Option Place} {at : Place} (next : Option Place) → WalksTo t front (Some at) → is_linked_one (t.entry at) ≡ true
+    → (successor_at successor t at).next ≡ next → WalksTo t front next
+walks_on None walks linked is = let whole = ends_there walks.2 linked is in rw walks.1 (whole.0, whole.1)
+walks_on (Some next) walks linked is = (walks.0, walks.1, leads_on walks.2 linked is)
 
 -- what is named in the view is named among the words
 pub names_back : {words : List RawOne} (t : RawTable RawOne) (keys : List ℕ) (key number : ℕ) → raw_entries t ≡ words

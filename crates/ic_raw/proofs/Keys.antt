@@ -1,5 +1,5 @@
 -- Members that searches find.
-use Rattle.std.proofs.Common.{◌≡◌, ℕ, ◌+◌, ◌<◌, ◌≤◌, Bool, true, false, cond, Option, Some, None, List, [], ◌∷◌, length, refl, sym, ap, ◌∙◌, subst, arith}
+use Rattle.std.proofs.Common.{◌≡◌, ◌≢◌, ℕ, ◌+◌, ◌<◌, ◌≤◌, Bool, true, false, cond, Option, Some, None, List, [], ◌∷◌, ◌++◌, length, refl, sym, ap, ◌∙◌, subst, arith}
 use Rattle.std.proofs.lemmas.Bool.{ltb-true, lt-ltb, le-ltb}
 use Rattle.std.specs.Ordering.{is_eq}
 use Rattle.std.specs.declared.cmp.Ordering.{Ordering}
@@ -9,6 +9,7 @@ use Rattle.ic_unsafe_ref.specs.Places.{index_of}
 use Rattle.ic_unsafe_ref.proofs.IndexLemmas.{placed_in_range}
 use Rattle.ic_link_ops.specs.declared.side.Side.{Side}
 use Rattle.ic_link_ops.specs.declared.side.Side.TheVariants.{Left, Right}
+use Rattle.ic_link_ops.proofs.SequenceLemmas.{some_same, none_not}
 use Rattle.ic_link_ops.specs.Sequences.{Cut, join, first}
 use Rattle.ic_link_ops.specs.Frames.{child_on}
 use Rattle.ic_link_ops.specs.Tables.{Table, IsCovered}
@@ -27,9 +28,12 @@ use Rattle.ic_raw.specs.declared.search.Way.{Way}
 use Rattle.ic_raw.specs.declared.search.Target.{Target}
 use Rattle.ic_raw.specs.declared.search.Target.TheVariants.{Equal, AtLeast, AtMost}
 use Rattle.ic_raw.specs.Gaps.{Stands}
-use Rattle.ic_raw.specs.Keys.{keys_fault, at_root, past, EndsIn, IsTarget}
+use Rattle.ic_raw.specs.Keys.{keys_fault, at_root, past, EndsIn, IsTarget, LeadsDown, SearchEnds}
+use Rattle.ic_raw.specs.declared.nodes.Seen.{Seen}
 use Rattle.ic_raw.specs.Seen.{seen, seen_node, has_place}
-use Rattle.ic_raw.specs.Tree.{Shows, IsHole}
+use Rattle.ic_raw.specs.declared.table.RawTable.{RawTable}
+use Rattle.ic_raw.specs.Tables.{raw_entries}
+use Rattle.ic_raw.specs.Tree.{Shows, IsHole, lent_table, table_of}
 use Rattle.ic_raw.specs.Words.{is_linked_three}
 use Rattle.ic_raw.proofs.Trees.{beside_stands, hole_told, seen_shows}
 
@@ -76,6 +80,17 @@ module _ (t : Table RawThree) {root : Option Place} {at : Place → Ordering} {e
         back_is = x.back ∙ ends.back_is;
       }
 
+-- so the way that is handed out ends, on a known side of equal keys
+pub ends_at : {t : Table RawThree} (tree : Tree) (at : Place → Ordering) {equals side : Side} {way : Way} {result : Option Way}
+    → (w : Way) × (result ≡ Some w) × EndsIn t (gap_in (λ p. goes_left equals (at p)) tree) w → result ≡ Some way → equals ≡ side
+    → EndsIn t (gap_in (λ p. goes_left side (at p)) tree) way
+ends_at {t} tree at {side = side} ends is same =
+    subst (λ (w : Way). EndsIn t (gap_in (λ p. goes_left side (at p)) tree) w) (some_same (sym ends.1 ∙ is))
+    (subst (λ (s : Side). EndsIn t (gap_in (λ p. goes_left s (at p)) tree) ends.0) same ends.2)
+
+pub is_some : {W : Type 0} {way : W} {result : Option W} → result ≡ Some way → result ≢ None
+is_some {way = way} is none = none_not way (sym none ∙ is)
+
 -- THE FOUND MEMBER is the one behind the gap, if its key is equal
 pub finds : {t : Table RawThree} {root : Option Place} {at : Place → Ordering} {s : List Place} (h : trees.Shows seen_node (seen t) root s) {way : Way} → EndsIn t (gap_in (at_most_at at) h.tree) way
     → {result : Option Place} → result ≡ if_passes (equal_at at) way.back → Finds at s result
@@ -91,6 +106,28 @@ pub past_within : (S : Place → Bool) (way : Way) (p : Place) (left : Bool) →
     → AreIn S ((past way p left).parent ∷ (past way p left).front ∷ (past way p left).back ∷ [])
 past_within S way p true here ends = (here, (ends.1.0, (here, tt)))
 past_within S way p false here ends = (here, (here, (ends.1.1.0, tt)))
+
+-- A WAY GOES ON DOWN, by one place more
+pub down_on : (t : Table Seen) (left : Place → Bool) (from : Option Place) (w : List Place) (p : Place) (next : Option Place) → LeadsDown t left from w (Some p)
+    → child_on (side_of (left p)) (seen_node (t.entry p)) ≡ next → LeadsDown t left from (w ++ p ∷ []) next
+down_on t left from [] p next way is = (way, is)
+down_on t left from (x ∷ w) p next way is = (way.0, down_on t left (child_on (side_of (left x)) (seen_node (t.entry x))) w p next way.1 is)
+
+-- and so it does past a place at which a search has looked
+pub down_past : (t : Table Seen) (at : Place → Ordering) (equals : Side) {root : Option Place} {p : Place} {left : Bool} {order : Ordering} {next : Option Place}
+    → (w : List Place) × LeadsDown t (λ q. goes_left equals (at q)) root w (Some p) → left ≡ goes_left equals order → order ≡ at p
+    → next ≡ child_on (side_of left) (seen_node (t.entry p)) → (w : List Place) × LeadsDown t (λ q. goes_left equals (at q)) root w next
+down_past t at equals {root} {p} {next = next} way goes is below = (
+  way.0 ++ p ∷ [],
+  down_on t (λ q. goes_left equals (at q)) root way.0 p next way.1 (ap (λ b. child_on (side_of b) (seen_node (t.entry p))) (sym (goes ∙ ap (goes_left equals) is)) ∙ sym below),
+)
+
+-- what ends in the view ends among the words
+pub ends_back : {es : List RawThree} (t : RawTable RawThree) (target : Target) (keys : List ℕ) (key : ℕ) {root : Option Place} → raw_entries t ≡ es
+    → SearchEnds target keys key (lent_table t) root → SearchEnds target keys key (table_of es) root
+ends_back t target keys key {root} e ends =
+    let back : SearchEnds target keys key (table_of (raw_entries t)) root = ends in
+    subst (λ es. SearchEnds target keys key (table_of es) root) e back
 
 -- there are too few keys, or enough
 pub lacking : (keys : List ℕ) (places : ℕ) → length keys < places → 1 ≡ keys_fault keys places

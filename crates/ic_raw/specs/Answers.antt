@@ -1,26 +1,27 @@
 -- What a status says.
 use Rattle.std.specs.Prelude.{◌≡◌, ◌≤◌, ℕ, zero, suc, List, [], ◌∷◌, Option, Some, None}
 use Rattle.ic_unsafe_ref.specs.declared.place.Place.{Place}
+use Rattle.ic_raw.specs.declared.status.TheConstants.{OK, NULL, BROKEN}
 use Rattle.ic_raw.specs.Words.{HasNumber}
 
 -- one of the six statuses
 abbrev pub IsStatus : ℕ → Type 0
-IsStatus status = status ≤ 5
+IsStatus status = status ≤ BROKEN
 
--- WHY A CALL IS REFUSED: by the first fault of a place that it names, and if none has one, because the words do not fit together (5)
+-- WHY A CALL IS REFUSED: by the first fault of a place that it names, and if none has one, because the words do not fit together
 abbrev pub refusal : (faults : List ℕ) → ℕ
-refusal [] = 5
+refusal [] = BROKEN
 refusal (zero ∷ faults) = refusal faults
 refusal (suc fault ∷ faults) = suc fault
 
 -- THE CALL IS ACCEPTED, and does this
 pub record IsAccepted (status : ℕ) (Does : Type 0) : Type 0 where
-  pub accepted : status ≡ 0
+  pub accepted : status ≡ OK
   pub done : Does
 
 -- A MEMBER IS FOUND, and its number handed out, or there is none
 abbrev pub IsFound : Option Place → (status number : ℕ) → Type 0
-IsFound None status number = status ≡ 4
+IsFound None status number = status ≡ NULL
 IsFound (Some p) status number = IsAccepted status (HasNumber p number)
 
 -- what is so is found

@@ -63,6 +63,10 @@ abbrev pub gap_from : Side → Table RawTwo → Ends → Option Place → Gap
 gap_from After t list at = record { before = at; behind = next_from t list at }
 gap_from Before t list at = record { before = prev_from t list at; behind = at }
 
+-- between which places a member stands, by its words; none between the last member and the first
+abbrev pub around : Table RawTwo → Ends → Option Place → Gap
+around t list at = record { before = prev_from t list at; behind = next_from t list at }
+
 -- THE WORDS TELL OF A GAP on this side of a place: what stands there is linked or none, and leads back to it
 abbrev pub TellsGap : Side → Table RawTwo → Ends → Option Place → Type 0
 TellsGap After t list at = Stands is_linked_two t (next_from t list at) × (prev_from t list (next_from t list at) ≡ at)

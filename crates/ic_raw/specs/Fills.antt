@@ -5,6 +5,7 @@ use Rattle.ic_link_ops.specs.Sequences.{Cut, join}
 use Rattle.ic_link_ops.specs.Tables.{Table}
 use Rattle.ic_link_ops.specs.PlainTables.{table_of}
 use Rattle.ic_link_ops.specs.Edits.{Splices}
+use Rattle.ic_raw.specs.declared.status.TheConstants.{OK}
 use Rattle.ic_raw.specs.Answers.{IsAccepted}
 use Rattle.ic_raw.specs.Calls.{ShowsList}
 use Rattle.ic_raw.specs.Tables.{IsFree}
@@ -20,9 +21,9 @@ abbrev pub run_faults : (fault : Option Place → ℕ) → (first count : ℕ) �
 run_faults fault first zero = []
 run_faults fault first (suc count) = fault (place_of first) ∷ run_faults fault (first + 1) count
 
--- the first fault of these, 0 where there is none
+-- the first fault of these, `OK` where there is none
 abbrev pub first_fault : (faults : List ℕ) → ℕ
-first_fault [] = 0
+first_fault [] = OK
 first_fault (zero ∷ faults) = first_fault faults
 first_fault (suc fault ∷ faults) = suc fault
 

@@ -3,6 +3,7 @@ use Rattle.std.specs.Prelude.{◌≡◌, ◌≢◌, ◌∷◌, List, Bool, Optio
 use Rattle.ic_unsafe_ref.specs.declared.place.Place.{Place}
 use Rattle.ic_link_ops.specs.Sequences.{Cut, at_front, at_back, first, last, IsAfter, IsBefore}
 use Rattle.ic_link_ops.specs.Tables.{Table, IsLinked}
+use Rattle.ic_link_ops.specs.Chains.{Ends, end_of}
 use Rattle.ic_raw.specs.declared.gap.Gap.{Gap}
 use Rattle.ic_raw.specs.declared.gap.Side.{Side}
 use Rattle.ic_raw.specs.declared.gap.Side.TheVariants.{After, Before}
@@ -19,6 +20,24 @@ Stands linked t at = (q : Place) → at ≡ Some q → IsLinked linked t q
 -- both sides of a gap are
 abbrev pub StandBeside : {E : Type 0} → (E → Bool) → Table E → Gap → Type 0
 StandBeside linked t gap = Stands linked t gap.before × Stands linked t gap.behind
+
+-- the gap between two places, none beyond an end
+abbrev pub gap_between : (before behind : Option Place) → Gap
+gap_between before behind = record { before = before; behind = behind }
+
+-- A LIST'S OWN ENDS after an edit at a gap: on a side where a member stands, the end is as it was. Where none stands in front of the gap, the list
+-- begins with the one of these now, and where none stands behind it, it ends with the other
+pub record Turns (gap : Gap) (begins ends : Option Place) (old new : Ends) : Type 0 where
+  pub head : new.head ≡ end_of gap.before begins old.head
+  pub tail : new.tail ≡ end_of gap.behind ends old.tail
+
+-- the place stands in the gap
+abbrev pub PutIn : Gap → (place : Option Place) → (old new : Ends) → Type 0
+PutIn gap place = Turns gap place place
+
+-- nothing stands in the gap any longer: its two sides are neighbors
+abbrev pub TakenOut : Gap → (old new : Ends) → Type 0
+TakenOut gap = Turns gap gap.behind gap.before
 
 -- the place is on neither side of a gap
 abbrev pub IsApart : Gap → Place → Type 0

@@ -3,6 +3,7 @@ use Rattle.std.specs.Prelude.{◌≡◌, ◌≢◌, ◌<◌, ℕ, ◌%◌, Bool,
 use Rattle.ic_unsafe_ref.specs.declared.place.Place.{Place}
 use Rattle.ic_link_ops.specs.Sequences.{IsDisjoint}
 use Rattle.ic_link_ops.specs.Tables.{IsLinked}
+use Rattle.ic_raw.specs.declared.status.TheConstants.{OK, OUT_OF_RANGE}
 use Rattle.ic_raw.specs.declared.words.RawOne.{RawOne}
 use Rattle.ic_raw.specs.declared.words.RawFront.{RawFront}
 use Rattle.ic_raw.specs.Keys.{key_of}
@@ -21,9 +22,9 @@ bucket_at buckets i = slice_index_or buckets i (word_of_front None)
 abbrev pub chain_of : List RawFront → ℕ → RawFront
 chain_of buckets hash = bucket_at buckets (slot_of buckets hash)
 
--- THE FAULT OF BUCKETS: there is none (1)
+-- THE FAULT OF BUCKETS: there is none
 abbrev pub buckets_fault : List RawFront → ℕ
-buckets_fault buckets = cond (nat_eq (length buckets) 0) 1 0
+buckets_fault buckets = cond (nat_eq (length buckets) 0) OUT_OF_RANGE OK
 
 -- there are as many buckets as before, and none has changed but that of this hash
 pub record ChangesOnlyChain (old new : List RawFront) (hash : ℕ) : Type 0 where

@@ -10,7 +10,7 @@ use Rattle.ic_raw.specs.declared.words.RawOne.{RawOne}
 use Rattle.ic_raw.specs.Answers.{IsStatus, HandsOut, refusal}
 use Rattle.ic_raw.specs.Hash.{slot_of, chain_of, buckets_fault, ChangesOnlyChain, HoldsChains, has_key, NamesKey}
 use Rattle.ic_raw.specs.Keys.{key_of, keys_fault}
-use Rattle.ic_raw.specs.Singly.{ShowsList, FreeIn, StandsIn, IsWritten, front_of, fault_at, fault_of, Inserted, Removed}
+use Rattle.ic_raw.specs.Singly.{ShowsList, FreeIn, StandsIn, IsWritten, LosesFront, table_of, front_of, word_of_front, list_of, fault_at, fault_of, Inserted, Removed}
 
 -- `old`, `new`: the words of the table before the call and after it. `buckets`, `buckets'`: those of the buckets
 module _ (old new : List RawOne) (buckets buckets' : List RawFront) (status hash : ℕ) where
@@ -25,6 +25,7 @@ module _ (old new : List RawOne) (buckets buckets' : List RawFront) (status hash
     pub no_place : place ≡ None → status ≢ OK
     pub any : status ≡ OK → 1 ≤ length buckets
     pub told : status ≡ OK → StandsIn old (front_of (chain_of buckets hash))
+    pub own : status ≡ OK → front_of (chain_of buckets' hash) ≡ place
     pub words : status ≡ OK → IsWritten (chain_of buckets' hash)
     pub refused : status ≢ OK → (new ≡ old) × (buckets' ≡ buckets)
     pub why : status ≢ OK → status ≡ refusal (buckets_fault buckets ∷ fault_of old place ∷ [])
@@ -42,6 +43,7 @@ module _ (old new : List RawOne) (buckets buckets' : List RawFront) (status hash
     pub null : (status ≡ NULL) ↔ (place ≡ None)
     pub any : status ≡ OK → 1 ≤ length buckets
     pub stands : status ≡ OK → StandsIn old place
+    pub own : status ≡ OK → LosesFront (table_of old) place (list_of (chain_of buckets hash)) (list_of (chain_of buckets' hash))
     pub words : status ≡ OK → IsWritten (chain_of buckets' hash)
     pub refused : status ≢ OK → (new ≡ old) × (buckets' ≡ buckets)
     pub why : status ≢ OK → status ≢ NULL → status ≡ refusal (buckets_fault buckets ∷ fault_at old place ∷ [])
@@ -54,6 +56,7 @@ module _ (keys : List ℕ) (old new : List RawOne) (status was number : ℕ) whe
     pub found : (s : List Place) → length old ≤ length keys → 1 ≤ length buckets → ShowsList old (chain_of buckets hash) s
         → HandsOut (Finds (has_key keys key) s) status number
     pub linked : status ≡ OK → NamesKey old keys key number
+    pub ended : status ≡ NULL → (s : List Place) × ShowsList old (chain_of buckets hash) s
     pub refused : status ≢ OK → number ≡ was
     pub same : new ≡ old
     pub looked : (status ≡ OK) ⊎ (status ≡ NULL) → (length old ≤ length keys) × (1 ≤ length buckets)
@@ -65,6 +68,7 @@ module _ (keys : List ℕ) (old new : List RawOne) (status was number : ℕ) whe
     pub found : (list : RawFront) (front back : List Place) (p : Place) → at ≡ Some p → length old ≤ length keys → ShowsList old list (front ++ p ∷ back)
         → HandsOut (Finds (has_key keys (key_of keys p)) back) status number
     pub linked : (p : Place) → at ≡ Some p → status ≡ OK → NamesKey old keys (key_of keys p) number
+    pub ended : (p : Place) → at ≡ Some p → status ≡ NULL → (back : List Place) × ShowsList old (word_of_front (Some p)) (p ∷ back)
     pub none : at ≡ None → status ≡ NULL
     pub refused : status ≢ OK → number ≡ was
     pub same : new ≡ old

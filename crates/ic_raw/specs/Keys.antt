@@ -1,34 +1,40 @@
 -- Searches of a tree by keys that stand in an array, one for each place.
-use Rattle.std.specs.Prelude.{◌≡◌, ℕ, Bool, true, false, Option, Some, None, List, length, cond, nat_lt, slice_index}
+use Rattle.std.specs.Prelude.{◌≡◌, ℕ, Bool, true, false, Option, Some, None, List, [], ◌∷◌, length, cond, nat_lt, slice_index}
 use Rattle.std.specs.Ordering.{nat_cmp}
 use Rattle.std.specs.declared.cmp.Ordering.{Ordering}
 use Rattle.ic_unsafe_ref.specs.declared.place.Place.{Place}
 use Rattle.ic_unsafe_ref.specs.Objects.{at_indexes}
 use Rattle.ic_unsafe_ref.specs.Places.{index_of}
+use Rattle.ic_link_ops.specs.Frames.{child_on}
 use Rattle.ic_link_ops.specs.Sequences.{Cut, first, last}
 use Rattle.ic_link_ops.specs.Tables.{Table}
+use Rattle.ic_link_ops.specs.declared.side.Side.{Side}
 use Rattle.ic_link_ops.specs.declared.side.Side.TheVariants.{Left, Right}
-use Rattle.ic_rbtree.specs.Borders.{Finds, IsLowerBorder, IsUpperBorder}
-use Rattle.ic_rbtree.specs.Comparing.{compared}
+use Rattle.ic_rbtree.specs.Borders.{Finds, IsLowerBorder, IsUpperBorder, equal_at}
+use Rattle.ic_rbtree.specs.Comparing.{compared, goes_left}
+use Rattle.ic_rbtree.specs.Descents.{side_of}
 use Rattle.ic_rbtree.specs.Insertion.{IsHole}
 use Rattle.ic_rbtree.specs.Ordered as ordered
 use Rattle.ic_rbtree.specs.declared.keys.key_adapter.Bound.TheVariants.{Included}
+use Rattle.ic_raw.specs.declared.status.TheConstants.{OK, OUT_OF_RANGE}
 use Rattle.ic_raw.specs.declared.words.RawThree.{RawThree}
 use Rattle.ic_raw.specs.declared.words.RawRoot.{RawRoot}
 use Rattle.ic_raw.specs.declared.search.Way.{Way}
 use Rattle.ic_raw.specs.declared.search.Target.{Target}
 use Rattle.ic_raw.specs.declared.search.Target.TheVariants.{Equal, AtLeast, AtMost}
 use Rattle.ic_raw.specs.Answers.{IsAccepted}
+use Rattle.ic_raw.specs.declared.nodes.Seen.{Seen}
 use Rattle.ic_raw.specs.Seen.{seen, seen_node}
+use Rattle.ic_raw.specs.Words.{HasNumber}
 use Rattle.ic_raw.specs.Tree.{Shows, ShowsTree, FreeIn, root_in, table_of}
 
 -- how a key stands to that of each place: `Less` where it is less
 abbrev pub against : ℕ → List ℕ → Place → Ordering
 against key keys = compared (nat_cmp key) (at_indexes keys)
 
--- THE FAULT OF KEYS: there are fewer of them than places (1)
+-- THE FAULT OF KEYS: there are fewer of them than places
 abbrev pub keys_fault : (keys : List ℕ) → (places : ℕ) → ℕ
-keys_fault keys places = cond (nat_lt (length keys) places) 1 0
+keys_fault keys places = cond (nat_lt (length keys) places) OUT_OF_RANGE OK
 
 -- the key of a place
 abbrev pub key_of : List ℕ → Place → ℕ
@@ -48,11 +54,34 @@ pub record EndsIn (t : Table RawThree) (gap : Cut) (way : Way) : Type 0 where
   pub front_is : way.front ≡ last gap.front
   pub back_is : way.back ≡ first gap.back
 
+-- a way from the place `from` down to `to`, none at an end: past these places, at each on the side to which the search goes
+abbrev pub LeadsDown : Table Seen → (Place → Bool) → Option Place → List Place → Option Place → Type 0
+LeadsDown t left from [] to = from ≡ to
+LeadsDown t left from (x ∷ w) to = (from ≡ Some x) × LeadsDown t left (child_on (side_of (left x)) (seen_node (t.entry x))) w to
+
+-- THE WAY DOWN ENDS: it comes to a place without a child on the side to which the search goes
+abbrev pub EndsBelow : Table Seen → (Place → Bool) → Option Place → Type 0
+EndsBelow t left from = (w : List Place) × LeadsDown t left from w None
+
+-- past equal keys a search goes to the left, but for the last member that it is to the right
+abbrev pub equals_of : Target → Side
+equals_of Equal = Left
+equals_of AtLeast = Left
+equals_of AtMost = Right
+
+-- A SEARCH ENDS: the way by the key, from the root of the words as they are read, comes to an end
+abbrev pub SearchEnds : Target → List ℕ → ℕ → Table RawThree → Option Place → Type 0
+SearchEnds target keys key t root = EndsBelow (seen t) (λ p. goes_left (equals_of target) (against key keys p)) root
+
 -- THE MEMBER THAT IS SEARCHED: the first with this key; the first with a key of at least that; the last with a key of at most that
 abbrev pub IsTarget : Target → (Place → Ordering) → List Place → Option Place → Type 0
 IsTarget Equal at s position = Finds at s position
 IsTarget AtLeast at s position = IsLowerBorder (Included at) s position
 IsTarget AtMost at s position = IsUpperBorder (Included at) s position
+
+-- the number is that of a place with this key
+abbrev pub NamesKey : List ℕ → ℕ → ℕ → Type 0
+NamesKey keys key number = (q : Place) × (equal_at (against key keys) q ≡ true) × HasNumber q number
 
 -- p, which is free, is inserted behind all members with no greater key than its own
 abbrev pub InsertedInOrder : (keys : List ℕ) (old new : List RawThree) (tree tree' : RawRoot) (status : ℕ) → List Place → Place → Type 0

@@ -11,10 +11,10 @@ use Rattle.ic_raw.specs.declared.status.TheConstants.{OK, NULL, BROKEN}
 use Rattle.ic_raw.specs.declared.words.RawEnds.{RawEnds}
 use Rattle.ic_raw.specs.declared.words.RawTwo.{RawTwo}
 use Rattle.ic_raw.specs.Answers.{IsStatus, refusal}
-use Rattle.ic_raw.specs.Doubly.{ShowsList, FreeIn, StandsIn, TellsGap, IsEnd, IsWritten, IsFreeRunIn, end_on, table_of, ends_of, words_of, fault_at, fault_of}
+use Rattle.ic_raw.specs.Doubly.{ShowsList, FreeIn, StandsIn, TellsGap, IsEnd, IsWritten, IsFreeRunIn, around, end_on, gap_from, table_of, ends_of, words_of, fault_at, fault_of}
 use Rattle.ic_raw.specs.Doubly.{Inserted, Removed, Popped, Replaced, Moved, Stayed, Spliced, Split, Cleared, Filled}
 use Rattle.ic_raw.specs.Fills.{run_faults}
-use Rattle.ic_raw.specs.Gaps.{IsBeside, outermost}
+use Rattle.ic_raw.specs.Gaps.{IsBeside, PutIn, TakenOut, outermost}
 use Rattle.ic_raw.specs.Words.{is_linked_two, HasNumber}
 
 -- `old`, `new`: the words of the table before the call and after it. `list`, `list'`: those of the list. `status`: what the call returns
@@ -26,6 +26,7 @@ module _ (old new : List RawTwo) (list list' : RawEnds) (status : ℕ) where
     pub no_place : place ≡ None → status ≢ OK
     pub stands : status ≡ OK → StandsIn old at
     pub told : status ≡ OK → TellsGap side (table_of old) (ends_of list) at
+    pub own : status ≡ OK → PutIn (gap_from side (table_of old) (ends_of list) at) place (ends_of list) (ends_of list')
     pub words : IsWritten list → IsWritten list'
     pub refused : status ≢ OK → (new ≡ old) × (list' ≡ list)
     pub why : status ≢ OK → status ≡ refusal (fault_at old at ∷ fault_of old place ∷ [])
@@ -39,6 +40,7 @@ module _ (old new : List RawTwo) (list list' : RawEnds) (status : ℕ) where
     pub stands : status ≡ OK → StandsIn old (end_on side (ends_of list))
     pub outer : status ≡ OK → TellsGap side (table_of old) (ends_of list) None
     pub inner : status ≡ OK → TellsGap side (table_of old) (ends_of list) (end_on side (ends_of list))
+    pub own : status ≡ OK → TakenOut (around (table_of old) (ends_of list) (end_on side (ends_of list))) (ends_of list) (ends_of list')
     pub words : IsWritten list → IsWritten list'
     pub refused : status ≢ OK → (new ≡ old) × (list' ≡ list) × (popped ≡ was)
     pub why : status ≢ OK → status ≢ NULL → status ≡ BROKEN
@@ -51,6 +53,7 @@ module _ (old new : List RawTwo) (list list' : RawEnds) (status : ℕ) where
     pub stands : status ≡ OK → StandsIn old at
     pub before : status ≡ OK → TellsGap Before (table_of old) (ends_of list) at
     pub behind : status ≡ OK → TellsGap After (table_of old) (ends_of list) at
+    pub own : status ≡ OK → TakenOut (around (table_of old) (ends_of list) at) (ends_of list) (ends_of list')
     pub words : IsWritten list → IsWritten list'
     pub refused : status ≢ OK → (new ≡ old) × (list' ≡ list)
     pub why : status ≢ OK → status ≢ NULL → status ≡ refusal (fault_at old at ∷ [])
@@ -65,6 +68,7 @@ module _ (old new : List RawTwo) (list list' : RawEnds) (status : ℕ) where
     pub stands : status ≡ OK → StandsIn old at
     pub before : status ≡ OK → TellsGap Before (table_of old) (ends_of list) at
     pub behind : status ≡ OK → TellsGap After (table_of old) (ends_of list) at
+    pub own : status ≡ OK → PutIn (around (table_of old) (ends_of list) at) place (ends_of list) (ends_of list')
     pub words : status ≡ OK → IsWritten list'
     pub refused : status ≢ OK → (new ≡ old) × (list' ≡ list)
     pub why : status ≢ OK → status ≢ NULL → status ≡ refusal (fault_at old at ∷ fault_of old place ∷ [])

@@ -2,12 +2,13 @@
 use Rattle.std.specs.Prelude.{◌≡◌, ◌≢◌, ◌≤◌, ◌⊎◌, ◌∷◌, ℕ, List, [], Option, Some, None, length}
 use Rattle.ic_unsafe_ref.specs.declared.place.Place.{Place}
 use Rattle.ic_raw.specs.declared.search.Target.{Target}
+use Rattle.ic_raw.specs.declared.search.Target.TheVariants.{Equal}
 use Rattle.ic_raw.specs.declared.status.TheConstants.{OK, NULL}
 use Rattle.ic_raw.specs.declared.words.RawRoot.{RawRoot}
 use Rattle.ic_raw.specs.declared.words.RawThree.{RawThree}
 use Rattle.ic_raw.specs.Answers.{IsStatus, HandsOut, refusal}
-use Rattle.ic_raw.specs.Keys.{against, keys_fault, IsTarget, InsertedInOrder}
-use Rattle.ic_raw.specs.Tree.{ShowsTree, FreeIn, StandsIn, IsWritten, NamesLinked, root_in, fault_of}
+use Rattle.ic_raw.specs.Keys.{against, keys_fault, IsTarget, InsertedInOrder, NamesKey, SearchEnds}
+use Rattle.ic_raw.specs.Tree.{ShowsTree, FreeIn, StandsIn, IsWritten, NamesLinked, root_in, fault_of, table_of}
 
 -- the words of the table before the call and after it
 module _ (keys : List ℕ) (old new : List RawThree) (status : ℕ) where
@@ -27,6 +28,8 @@ module _ (keys : List ℕ) (old new : List RawThree) (status : ℕ) where
   pub record FindCall (tree : RawRoot) (key : ℕ) (target : Target) (was number : ℕ) : Type 0 where
     pub found : (s : List Place) → length old ≤ length keys → ShowsTree old tree s → HandsOut (IsTarget target (against key keys) s) status number
     pub linked : status ≡ OK → NamesLinked old number
+    pub equal : target ≡ Equal → status ≡ OK → NamesKey keys key number
+    pub ended : status ≡ NULL → SearchEnds target keys key (table_of old) (root_in tree)
     pub refused : status ≢ OK → number ≡ was
     pub same : new ≡ old
     pub looked : (status ≡ OK) ⊎ (status ≡ NULL) → (length old ≤ length keys) × StandsIn old (root_in tree)

@@ -1,5 +1,5 @@
 -- Singly linked lists over a caller's words.
-use Rattle.std.specs.Prelude.{◌≡◌, ℕ, List, Option, Some, None}
+use Rattle.std.specs.Prelude.{◌≡◌, ◌≢◌, ℕ, List, Option, Some, None}
 use Rattle.ic_unsafe_ref.specs.declared.place.Place.{Place}
 use Rattle.ic_unsafe_ref.specs.Places.{word_of}
 use Rattle.ic_link_ops.specs.Sequences.{Cut}
@@ -50,6 +50,11 @@ list_of l = list_from (front_of l)
 abbrev pub next_from : Table RawOne → Front → Option Place → Option Place
 next_from t list None = list.head
 next_from t list (Some p) = (successor_at successor t p).next
+
+-- a list's own front after the member `at` left: what stood behind that one where it was the first, and else the first that there was
+pub record LosesFront (t : Table RawOne) (at : Option Place) (old new : Front) : Type 0 where
+  pub first : old.head ≡ at → new.head ≡ next_from t old at
+  pub other : old.head ≢ at → new.head ≡ old.head
 
 -- what a call does to such words
 abbrev pub ShowsList : List RawOne → RawFront → List Place → Type 0

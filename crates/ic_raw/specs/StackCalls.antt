@@ -3,6 +3,7 @@
 use Rattle.std.specs.Prelude.{◌≡◌, ◌≢◌, ◌↔◌, ◌∷◌, ℕ, List, [], Option, Some, None}
 use Rattle.ic_unsafe_ref.specs.declared.place.Place.{Place}
 use Rattle.ic_link_ops.specs.Sequences.{Cut, at_front, last, IsAfter}
+use Rattle.ic_link_ops.specs.Chains.{end_of}
 use Rattle.ic_raw.specs.declared.status.TheConstants.{OK, NULL, BROKEN}
 use Rattle.ic_raw.specs.declared.words.RawFront.{RawFront}
 use Rattle.ic_raw.specs.declared.words.RawOne.{RawOne}
@@ -25,6 +26,7 @@ module _ (old new : List RawOne) (list list' : RawFront) (status : ℕ) where
     pub no_place : place ≡ None → status ≢ OK
     pub stands : status ≡ OK → StandsIn old at
     pub told : status ≡ OK → StandsIn old (behind at)
+    pub own : status ≡ OK → front_of list' ≡ end_of at place (front_of list)
     pub words : status ≡ OK → IsWritten list'
     pub refused : status ≢ OK → (new ≡ old) × (list' ≡ list)
     pub why : status ≢ OK → status ≡ refusal (fault_at old at ∷ fault_of old place ∷ [])
@@ -36,6 +38,7 @@ module _ (old new : List RawOne) (list list' : RawFront) (status : ℕ) where
     pub handed : (p : Place) → front_of list ≡ Some p → status ≡ OK → HasNumber p popped
     pub null : (status ≡ NULL) ↔ (front_of list ≡ None)
     pub stands : status ≡ OK → StandsIn old (front_of list)
+    pub own : status ≡ OK → front_of list' ≡ behind (front_of list)
     pub words : status ≡ OK → IsWritten list'
     pub refused : status ≢ OK → (new ≡ old) × (list' ≡ list) × (popped ≡ was)
     pub why : status ≢ OK → status ≢ NULL → status ≡ BROKEN
@@ -46,9 +49,10 @@ module _ (old new : List RawOne) (list list' : RawFront) (status : ℕ) where
     pub taken : (front back : List Place) (p : Place) → at ≡ last front → Popped old new list list' status removed p front back
     pub handed : (p : Place) → behind at ≡ Some p → status ≡ OK → HasNumber p removed
     pub nothing : (s : List Place) → ShowsList old list s → at ≡ last s → status ≡ NULL
-    pub null : (status ≡ NULL) ↔ (fault_at old at ≡ 0) × (behind at ≡ None)
+    pub null : (status ≡ NULL) ↔ (fault_at old at ≡ OK) × (behind at ≡ None)
     pub stands : status ≡ OK → StandsIn old at
     pub told : status ≡ OK → StandsIn old (behind at)
+    pub own : status ≡ OK → front_of list' ≡ end_of at (behind (behind at)) (front_of list)
     pub words : status ≡ OK → IsWritten list'
     pub refused : status ≢ OK → (new ≡ old) × (list' ≡ list) × (removed ≡ was)
     pub why : status ≢ OK → status ≢ NULL → status ≡ refusal (fault_at old at ∷ [])
@@ -61,9 +65,10 @@ module _ (old new : List RawOne) (list list' : RawFront) (status : ℕ) where
     pub free : (p : Place) → place ≡ Some p → status ≡ OK → FreeIn old p
     pub no_place : place ≡ None → status ≢ OK
     pub nothing : (s : List Place) → ShowsList old list s → at ≡ last s → status ≡ NULL
-    pub null : (status ≡ NULL) ↔ (fault_at old at ≡ 0) × (behind at ≡ None)
+    pub null : (status ≡ NULL) ↔ (fault_at old at ≡ OK) × (behind at ≡ None)
     pub stands : status ≡ OK → StandsIn old at
     pub told : status ≡ OK → StandsIn old (behind at)
+    pub own : status ≡ OK → front_of list' ≡ end_of at place (front_of list)
     pub words : status ≡ OK → IsWritten list'
     pub refused : status ≢ OK → (new ≡ old) × (list' ≡ list) × (out ≡ was)
     pub why : status ≢ OK → status ≢ NULL → status ≡ refusal (fault_at old at ∷ fault_of old place ∷ [])

@@ -9,6 +9,7 @@ use Rattle.ic_link_ops.specs.Links.{link_of}
 use Rattle.ic_link_ops.specs.LinkedList.{Neighbors}
 use Rattle.ic_link_ops.specs.SinglyLinkedList.{Successor}
 use Rattle.ic_link_ops.specs.Readings as readings
+use Rattle.ic_raw.specs.declared.status.TheConstants.{OK, OUT_OF_RANGE, LINKED, NOT_LINKED}
 use Rattle.ic_raw.specs.declared.table.RawTable.{RawTable}
 
 module _ {W : Type 0} where
@@ -24,15 +25,15 @@ module _ {W : Type 0} where
   abbrev pub raw_table : W → RawTable W → Table W
   raw_table unlinked t = table_with unlinked (t.entries.ghost_name ∷ []) (raw_entries t)
 
-  -- THE FAULT OF A MEMBER that is named: it is not linked (3), or none of the table (1). None has no fault
+  -- THE FAULT OF A MEMBER that is named: it is not linked, or none of the table. None has no fault
   abbrev pub member_fault : (is_linked : W → Bool) → Table W → Option Place → ℕ
-  member_fault is_linked t None = 0
-  member_fault is_linked t (Some p) = cond (is_linked (t.entry p)) 0 (cond (nat_lt (index_of p) t.extent.places) 3 1)
+  member_fault is_linked t None = OK
+  member_fault is_linked t (Some p) = cond (is_linked (t.entry p)) OK (cond (nat_lt (index_of p) t.extent.places) NOT_LINKED OUT_OF_RANGE)
 
-  -- THE FAULT OF A PLACE that is to go in: it is linked (2), or none of the table (1)
+  -- THE FAULT OF A PLACE that is to go in: it is linked, or none of the table
   abbrev pub place_fault : (is_linked : W → Bool) → Table W → Option Place → ℕ
-  place_fault is_linked t None = 1
-  place_fault is_linked t (Some p) = cond (nat_lt (index_of p) t.extent.places) (cond (is_linked (t.entry p)) 2 0) 1
+  place_fault is_linked t None = OUT_OF_RANGE
+  place_fault is_linked t (Some p) = cond (nat_lt (index_of p) t.extent.places) (cond (is_linked (t.entry p)) LINKED OK) OUT_OF_RANGE
 
   -- the place is one of the table, and not linked
   pub record IsFree (is_linked : W → Bool) (t : Table W) (p : Place) : Type 0 where

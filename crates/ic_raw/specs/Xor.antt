@@ -25,6 +25,11 @@ other = other_of next_of_one
 abbrev pub Shows : Table RawOne → Ends → List Place → Type 0
 Shows = xor.Shows is_linked_one Joins
 
+-- what stands on the other side of a place, by its word: nothing beyond none
+abbrev pub beyond : Table RawOne → (at neighbor : Option Place) → Option Place
+beyond t None neighbor = None
+beyond t (Some p) neighbor = other (t.entry p) neighbor
+
 -- THE LIST GOES ON beyond a place: a linked place stands there, or nothing does, and the place is the list's end on that side
 abbrev pub GoesOn : (Place → RawOne) → (end : Option Place) → Place → (beyond : Option Place) → Type 0
 GoesOn entry end p None = end ≡ Some p

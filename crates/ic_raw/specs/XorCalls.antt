@@ -4,6 +4,7 @@ use Rattle.std.specs.Prelude.{◌≡◌, ◌≢◌, ◌↔◌, ◌∷◌, ℕ, L
 use Rattle.ic_unsafe_ref.specs.declared.place.Place.{Place}
 use Rattle.ic_link_ops.specs.Sequences.{Cut, at_back, last, IsAfter, IsBefore}
 use Rattle.ic_link_ops.specs.Chains.{no_members}
+use Rattle.ic_raw.specs.declared.gap.Gap.{Gap}
 use Rattle.ic_raw.specs.declared.gap.Side.{Side}
 use Rattle.ic_raw.specs.declared.gap.Side.TheVariants.{After, Before}
 use Rattle.ic_raw.specs.declared.status.TheConstants.{OK, NULL, BROKEN}
@@ -12,9 +13,10 @@ use Rattle.ic_raw.specs.declared.words.RawOne.{RawOne}
 use Rattle.ic_raw.specs.Answers.{IsStatus, refusal}
 use Rattle.ic_raw.specs.Doubly.{IsEnd, IsWritten, end_on, ends_of, words_of}
 use Rattle.ic_raw.specs.Fills.{run_faults}
+use Rattle.ic_raw.specs.Gaps.{PutIn, TakenOut, gap_between}
 use Rattle.ic_raw.specs.Singly.{IsFreeRunIn, table_of}
 use Rattle.ic_raw.specs.Words.{HasNumber}
-use Rattle.ic_raw.specs.Xor.{FreeIn, StandsIn, TellsGap, TellsMemberBehind, TellsMemberBefore, TellsEnds, LeadsThrough, fault_at, fault_of}
+use Rattle.ic_raw.specs.Xor.{FreeIn, StandsIn, beyond, TellsGap, TellsMemberBehind, TellsMemberBefore, TellsEnds, LeadsThrough, fault_at, fault_of}
 use Rattle.ic_raw.specs.Xor.{Inserted, Removed, Popped, Replaced, Spliced, Split, Cleared, Filled}
 
 -- `old`, `new`: the words of the table before the call and after it. `list`, `list'`: those of the list. `status`: what the call returns
@@ -27,6 +29,7 @@ module _ (old new : List RawOne) (list list' : RawEnds) (status : ℕ) where
     pub stands_before : status ≡ OK → StandsIn old before
     pub stands_behind : status ≡ OK → StandsIn old behind
     pub told : status ≡ OK → TellsGap (table_of old) (ends_of list) before behind
+    pub own : status ≡ OK → PutIn (gap_between before behind) place (ends_of list) (ends_of list')
     pub words : status ≡ OK → IsWritten list'
     pub refused : status ≢ OK → (new ≡ old) × (list' ≡ list)
     pub why : status ≢ OK → status ≡ refusal (fault_at old before ∷ fault_at old behind ∷ fault_of old place ∷ [])
@@ -38,6 +41,7 @@ module _ (old new : List RawOne) (list list' : RawEnds) (status : ℕ) where
     pub free : (p : Place) → place ≡ Some p → status ≡ OK → FreeIn old p
     pub no_place : place ≡ None → status ≢ OK
     pub told : status ≡ OK → TellsGap (table_of old) (ends_of list) before behind
+    pub own : status ≡ OK → PutIn (gap_between before behind) place (ends_of list) (ends_of list')
     pub words : status ≡ OK → IsWritten list'
     pub refused : status ≢ OK → (new ≡ old) × (list' ≡ list)
     pub why : status ≢ OK → status ≡ refusal (fault_of old place ∷ [])
@@ -48,6 +52,11 @@ module _ (old new : List RawOne) (list list' : RawEnds) (status : ℕ) where
   TellsEndOn After = TellsMemberBehind (table_of old) (ends_of list) None (ends_of list).head
   TellsEndOn Before = TellsMemberBefore (table_of old) (ends_of list) None (ends_of list).tail
 
+  -- between which places that member stands: none, and what its word tells
+  abbrev pub around_end : Side → Gap
+  around_end After = gap_between None (beyond (table_of old) (ends_of list).head None)
+  around_end Before = gap_between (beyond (table_of old) (ends_of list).tail None) None
+
   -- THE FIRST MEMBER LEAVES, on the side Before the last one, and its number is handed out, in words that said `was`
   pub record PopCall (side : Side) (was popped : ℕ) : Type 0 where
     pub taken : (front back : List Place) (p : Place) → IsEnd side front back → Popped old new list list' status popped p front back
@@ -55,6 +64,7 @@ module _ (old new : List RawOne) (list list' : RawEnds) (status : ℕ) where
     pub null : (status ≡ NULL) ↔ (end_on side (ends_of list) ≡ None)
     pub stands : status ≡ OK → StandsIn old (end_on side (ends_of list))
     pub told : status ≡ OK → TellsEndOn side
+    pub own : status ≡ OK → TakenOut (around_end side) (ends_of list) (ends_of list')
     pub words : IsWritten list → IsWritten list'
     pub refused : status ≢ OK → (new ≡ old) × (list' ≡ list) × (popped ≡ was)
     pub why : status ≢ OK → status ≢ NULL → status ≡ BROKEN
@@ -67,6 +77,7 @@ module _ (old new : List RawOne) (list list' : RawEnds) (status : ℕ) where
     pub stands : status ≡ OK → StandsIn old at
     pub stands_before : status ≡ OK → StandsIn old before
     pub told : status ≡ OK → TellsMemberBehind (table_of old) (ends_of list) before at
+    pub own : status ≡ OK → TakenOut (gap_between before (beyond (table_of old) at before)) (ends_of list) (ends_of list')
     pub words : status ≡ OK → IsWritten list'
     pub refused : status ≢ OK → (new ≡ old) × (list' ≡ list)
     pub why : status ≢ OK → status ≢ NULL → status ≡ refusal (fault_at old at ∷ fault_at old before ∷ [])
@@ -82,6 +93,7 @@ module _ (old new : List RawOne) (list list' : RawEnds) (status : ℕ) where
     pub stands : status ≡ OK → StandsIn old at
     pub stands_before : status ≡ OK → StandsIn old before
     pub told : status ≡ OK → TellsMemberBehind (table_of old) (ends_of list) before at
+    pub own : status ≡ OK → PutIn (gap_between before (beyond (table_of old) at before)) place (ends_of list) (ends_of list')
     pub words : status ≡ OK → IsWritten list'
     pub refused : status ≢ OK → (new ≡ old) × (list' ≡ list)
     pub why : status ≢ OK → status ≢ NULL → status ≡ refusal (fault_at old at ∷ fault_at old before ∷ fault_of old place ∷ [])

@@ -4,12 +4,13 @@
 //! let before = place_before(&links, list.first(), member); // the place in front of the member, if the chain has it
 //! ```
 
-ghost use Rattle.std.specs.Prelude.{◌≡◌, ◌≢◌, ◌≤◌, ◌++◌, ◌∷◌, List, Option, Some, length, true};
+ghost use Rattle.std.specs.Prelude.{◌≡◌, ◌≢◌, ◌≤◌, ◌↔◌, ◌++◌, ◌∷◌, List, Option, Some, None, length, true};
 ghost use Rattle.ic_unsafe_ref.specs.declared.place.Place.{Place};
 ghost use Rattle.ic_link_ops.specs.Sequences.{last, IsMember};
 ghost use Rattle.ic_link_ops.specs.SinglyLinkedList.{list_from};
 ghost use Rattle.ic_link_ops.specs.Tables.{IsLinked};
 ghost use Rattle.ic_hash_table.specs.Searches.{Finds};
+ghost use Rattle.ic_raw.specs.declared.status.TheConstants.{OK, NULL, BROKEN};
 ghost use Rattle.ic_raw.specs.Answers.{HandsOut};
 ghost use Rattle.ic_raw.specs.Gaps.{Stands};
 ghost use Rattle.ic_raw.specs.Hash.{has_key};
@@ -31,6 +32,7 @@ pub(crate) fn place_before(
 ) -> Option<Option<Place>>
     ensures linked { (b : Option Place) → result ≡ Some b → IsLinked is_linked_one (lent_table links.now) member }
     ensures stands { (b : Option Place) → result ≡ Some b → Stands is_linked_one (lent_table links.now) b }
+    ensures first { (b : Option Place) → result ≡ Some b → (b ≡ None) ↔ (front ≡ Some member) }
     ensures found { (ahead back : List Place) → Shows (lent_table links.now) (list_from front) (ahead ++ member ∷ back)
         → result ≡ Some (last ahead) }
     ensures member { (s : List Place) (b : Option Place) → Shows (lent_table links.now) (list_from front) s → result ≡ Some b
@@ -67,10 +69,11 @@ pub(crate) fn look_from(
     requires keys { (lent_table links.now).extent.places ≤ length keys.now }
     ensures found { (s : List Place) → Shows (lent_table links.now) (list_from from) s
         → HandsOut (Finds (has_key keys.now key) s) result found.new }
-    ensures linked { result ≡ 0 → (q : Place) × IsLinked is_linked_one (lent_table links.now) q × (has_key keys.now key q ≡ true)
+    ensures linked { result ≡ OK → (q : Place) × IsLinked is_linked_one (lent_table links.now) q × (has_key keys.now key q ≡ true)
         × HasNumber q found.new }
-    ensures refused { result ≢ 0 → found.new ≡ found.old }
-    ensures why { result ≢ 0 → result ≢ 4 → result ≡ 5 }
+    ensures ended { result ≡ NULL → (s : List Place) × Shows (lent_table links.now) (list_from from) s }
+    ensures refused { result ≢ OK → found.new ≡ found.old }
+    ensures why { result ≢ OK → result ≢ NULL → result ≡ BROKEN }
 {
     let mut current = from;
     let mut left = links.places();

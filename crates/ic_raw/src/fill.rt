@@ -10,6 +10,7 @@ ghost use Rattle.ic_link_ops.specs.Sequences.{Cut, join, at_back};
 ghost use Rattle.ic_link_ops.specs.Chains.{ShowsChain};
 ghost use Rattle.ic_link_ops.specs.Edits.{Splices};
 ghost use Rattle.ic_raw.specs.declared.gap.Gap.{Gap};
+ghost use Rattle.ic_raw.specs.declared.status.TheConstants.{OK};
 ghost use Rattle.ic_raw.specs.Answers.{IsStatus, refusal};
 ghost use Rattle.ic_raw.specs.Fills.{IsFreeRun, run_faults, first_fault};
 ghost use Rattle.ic_raw.specs.Gaps.{StandBeside, gap_of};
@@ -89,11 +90,11 @@ pub(crate) fn fill<'a, W: Words, K: ForwardLinks<RawTable<'a, W>>>(
     ensures filled { ((e : W) (b a : Option Place) → K.Between e b a → W.is_linked e ≡ true)
         → (cut : Cut) (free : IsFreeRun W.is_linked (raw_table W.unlinked links.old) first count)
         → ShowsChain K.Between K.kept (raw_table W.unlinked links.old) list.old (join cut) → gap ≡ Some (gap_of cut)
-        → (result ≡ 0) × Splices (ShowsChain K.Between K.kept) (raw_table W.unlinked links.old) (raw_table W.unlinked links.new) list.new cut free.run }
-    ensures free { result ≡ 0 → IsFreeRun W.is_linked (raw_table W.unlinked links.old) first count }
-    ensures gap { result ≡ 0 → (g : Gap) × (gap ≡ Some g) }
-    ensures refused { result ≢ 0 → (links.new ≡ links.old) × (list.new ≡ list.old) }
-    ensures why { result ≢ 0
+        → (result ≡ OK) × Splices (ShowsChain K.Between K.kept) (raw_table W.unlinked links.old) (raw_table W.unlinked links.new) list.new cut free.run }
+    ensures free { result ≡ OK → IsFreeRun W.is_linked (raw_table W.unlinked links.old) first count }
+    ensures gap { result ≡ OK → (g : Gap) × (gap ≡ Some g) }
+    ensures refused { result ≢ OK → (links.new ≡ links.old) × (list.new ≡ list.old) }
+    ensures why { result ≢ OK
         → result ≡ refusal (run_faults (place_fault W.is_linked (raw_table W.unlinked links.old)) first count) }
     ensures status { IsStatus result }
 {

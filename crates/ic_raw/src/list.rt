@@ -12,11 +12,11 @@ ghost use Rattle.ic_link_ops.specs.Chains.{Ends};
 ghost use Rattle.ic_link_ops.specs.Edits.{Inserts, Removes, Replaces, Splices};
 ghost use Rattle.ic_raw.specs.declared.gap.Gap.{Gap};
 ghost use Rattle.ic_raw.specs.declared.gap.Side.TheVariants.{After, Before};
-ghost use Rattle.ic_raw.specs.Gaps.{IsBeside, Stands, StandBeside, before, gap_of, outermost};
+ghost use Rattle.ic_raw.specs.Gaps.{IsBeside, PutIn, Stands, StandBeside, TakenOut, before, gap_of, outermost};
 ghost use Rattle.ic_raw.specs.Tables.{IsFree};
 ghost use Rattle.ic_raw.specs.Words.{is_linked_two};
 ghost use Rattle.ic_link_ops.specs.LinkedList.{neighbors_at};
-ghost use Rattle.ic_raw.specs.Doubly.{Shows, SplitsBeside, TellsGap, gap_from, IsEnd, end_on, lent_table, neighbors, next_from, prev_from};
+ghost use Rattle.ic_raw.specs.Doubly.{Shows, SplitsBeside, TellsGap, around, gap_from, IsEnd, end_on, lent_table, neighbors, next_from, prev_from};
 
 use crate::gap::{Gap, Side, begin_alike};
 use crate::table::RawTable;
@@ -139,6 +139,7 @@ pub(crate) fn beside(links: &RawTable<'_, RawTwo>, list: &List, at: Option<Place
     ensures stands { (gap : Gap) → result ≡ Some gap → StandBeside is_linked_two (lent_table links.now) gap }
     ensures before { (gap : Gap) → result ≡ Some gap → TellsGap Before (lent_table links.now) list.now at }
     ensures behind { (gap : Gap) → result ≡ Some gap → TellsGap After (lent_table links.now) list.now at }
+    ensures sides { (gap : Gap) → result ≡ Some gap → gap ≡ around (lent_table links.now) list.now at }
     ensures member { (front back : List Place) (p : Place) → Shows (lent_table links.now) list.now (front ++ p ∷ back) → at ≡ Some p
         → result ≡ Some (gap_of (record { front = front; back = back })) }
     ensures ends { (s : List Place) → Shows (lent_table links.now) list.now s → at ≡ None
@@ -183,6 +184,7 @@ pub(crate) fn between(links: &RawTable<'_, RawTwo>, member: Place) -> Option<Gap
     ensures stands { (gap : Gap) → result ≡ Some gap → StandBeside is_linked_two (lent_table links.now) gap }
     ensures before { (gap : Gap) (list : Ends) → result ≡ Some gap → TellsGap Before (lent_table links.now) list (Some member) }
     ensures behind { (gap : Gap) (list : Ends) → result ≡ Some gap → TellsGap After (lent_table links.now) list (Some member) }
+    ensures sides { (gap : Gap) (list : Ends) → result ≡ Some gap → gap ≡ around (lent_table links.now) list (Some member) }
     ensures prev { (gap : Gap) → result ≡ Some gap → (q : Place) × (gap.before ≡ Some q) }
     ensures next { (gap : Gap) → result ≡ Some gap → (q : Place) × (gap.behind ≡ Some q) }
     ensures shown { (gap : Gap) (list : Ends) (front back : List Place) → result ≡ Some gap → Shows (lent_table links.now) list (front ++ member ∷ back)
@@ -212,6 +214,7 @@ pub(crate) fn gap_at_end(links: &RawTable<'_, RawTwo>, list: &List, side: Side) 
     ensures told { (gap : Gap) → result ≡ Some gap → TellsGap side (lent_table links.now) list.now None }
     ensures stands { (gap : Gap) → result ≡ Some gap → StandBeside is_linked_two (lent_table links.now) gap }
     ensures end { (gap : Gap) → result ≡ Some gap → (q : Place) × (end_on side list.now ≡ Some q) }
+    ensures sides { (gap : Gap) → result ≡ Some gap → gap ≡ gap_from side (lent_table links.now) list.now None }
     ensures shown { (gap : Gap) (s : List Place) → result ≡ Some gap → Shows (lent_table links.now) list.now s → gap ≡ gap_of (outermost side s) }
 {
     match side {
@@ -251,9 +254,10 @@ pub(crate) fn push_behind_last(
 ) -> bool
     ensures inserted { (s : List Place) (p : Place) → result ≡ true → Shows (lent_table links.old) list.old (join (at_back s)) → place ≡ Some p
         → Inserts Shows (lent_table links.old) (lent_table links.new) list.new (at_back s) p }
-    ensures head { (s : List Place) → result ≡ true → Shows (lent_table links.old) list.old (join (at_back s)) → list.new.head ≡ list.old.head }
+    ensures head { result ≡ true → list.new.head ≡ list.old.head }
     ensures free { result ≡ true → (p : Place) × (place ≡ Some p) × IsFree is_linked_two (lent_table links.old) p }
     ensures told { result ≡ true → TellsGap Before (lent_table links.old) list.old None }
+    ensures own { result ≡ true → PutIn (gap_from Before (lent_table links.old) list.old None) place list.old list.new }
     ensures refused { result ≡ false → (links.new ≡ links.old) × (list.new ≡ list.old) }
     ensures extent { (lent_table links.new).extent ≡ (lent_table links.old).extent }
 {
@@ -273,11 +277,12 @@ pub(crate) fn pop_before_second(links: &mut RawTable<'_, RawTwo>, list: &mut Lis
     ensures removed { (p q : Place) (s : List Place) → result ≡ Some q → Shows (lent_table links.old) list.old (p ∷ s)
         → (q ≡ p) × Removes Shows (lent_table links.old) (lent_table links.new) list.new (before p [] s)
         × IsUnlinked is_linked_two (lent_table links.new) p }
-    ensures tail { (p q : Place) (s : List Place) → result ≡ Some q → Shows (lent_table links.old) list.old (p ∷ s) → list.new.tail ≡ list.old.tail }
+    ensures tail { (q : Place) → result ≡ Some q → list.new.tail ≡ list.old.tail }
     ensures first { (q : Place) → result ≡ Some q → list.old.head ≡ Some q }
     ensures stands { (q : Place) → result ≡ Some q → Stands is_linked_two (lent_table links.old) (Some q) }
     ensures outer { (q : Place) → result ≡ Some q → TellsGap After (lent_table links.old) list.old None }
     ensures inner { (q : Place) → result ≡ Some q → TellsGap After (lent_table links.old) list.old (Some q) }
+    ensures own { (q : Place) → result ≡ Some q → TakenOut (around (lent_table links.old) list.old (Some q)) list.old list.new }
     ensures refused { result ≡ None → (links.new ≡ links.old) × (list.new ≡ list.old) }
     ensures extent { (lent_table links.new).extent ≡ (lent_table links.old).extent }
 {
@@ -311,6 +316,7 @@ pub(crate) fn remove_between(
     ensures stands { result ≡ true → Stands is_linked_two (lent_table links.old) (Some member) }
     ensures before { result ≡ true → TellsGap Before (lent_table links.old) list.old (Some member) }
     ensures behind { result ≡ true → TellsGap After (lent_table links.old) list.old (Some member) }
+    ensures own { result ≡ true → TakenOut (around (lent_table links.old) list.old (Some member)) list.old list.old }
     ensures refused { result ≡ false → links.new ≡ links.old }
     ensures extent { (lent_table links.new).extent ≡ (lent_table links.old).extent }
 {
@@ -337,6 +343,7 @@ pub(crate) fn insert(
     ensures free { result ≡ true → (p : Place) × (place ≡ Some p) × IsFree is_linked_two (lent_table links.old) p }
     ensures stands { result ≡ true → Stands is_linked_two (lent_table links.old) at }
     ensures told { result ≡ true → TellsGap side (lent_table links.old) list.old at }
+    ensures own { result ≡ true → PutIn (gap_from side (lent_table links.old) list.old at) place list.old list.new }
     ensures refused { result ≡ false → (links.new ≡ links.old) × (list.new ≡ list.old) }
     ensures extent { (lent_table links.new).extent ≡ (lent_table links.old).extent }
 {
@@ -359,6 +366,7 @@ pub(crate) fn remove(links: &mut RawTable<'_, RawTwo>, list: &mut List, member: 
     ensures stands { result ≡ true → Stands is_linked_two (lent_table links.old) (Some member) }
     ensures before { result ≡ true → TellsGap Before (lent_table links.old) list.old (Some member) }
     ensures behind { result ≡ true → TellsGap After (lent_table links.old) list.old (Some member) }
+    ensures own { result ≡ true → TakenOut (around (lent_table links.old) list.old (Some member)) list.old list.new }
     ensures refused { result ≡ false → (links.new ≡ links.old) × (list.new ≡ list.old) }
     ensures extent { (lent_table links.new).extent ≡ (lent_table links.old).extent }
 {
@@ -424,6 +432,7 @@ fn end_at(links: &RawTable<'_, RawTwo>, list: &List, side: Side) -> Option<(Plac
     ensures beside { (p : Place) (gap : Gap) → result ≡ Some (p, gap) → StandBeside is_linked_two (lent_table links.now) gap }
     ensures outer { (p : Place) (gap : Gap) → result ≡ Some (p, gap) → TellsGap side (lent_table links.now) list.now None }
     ensures inner { (p : Place) (gap : Gap) → result ≡ Some (p, gap) → TellsGap side (lent_table links.now) list.now (Some p) }
+    ensures sides { (p : Place) (gap : Gap) → result ≡ Some (p, gap) → gap ≡ around (lent_table links.now) list.now (Some p) }
 {
     match side {
         Side::After => {
@@ -476,6 +485,7 @@ pub(crate) fn pop(links: &mut RawTable<'_, RawTwo>, list: &mut List, side: Side)
     ensures stands { (p : Place) → result ≡ Some p → Stands is_linked_two (lent_table links.old) (Some p) }
     ensures outer { (p : Place) → result ≡ Some p → TellsGap side (lent_table links.old) list.old None }
     ensures inner { (p : Place) → result ≡ Some p → TellsGap side (lent_table links.old) list.old (Some p) }
+    ensures own { (p : Place) → result ≡ Some p → TakenOut (around (lent_table links.old) list.old (Some p)) list.old list.new }
     ensures refused { result ≡ None → (links.new ≡ links.old) × (list.new ≡ list.old) }
     ensures extent { (lent_table links.new).extent ≡ (lent_table links.old).extent }
 {
@@ -503,6 +513,7 @@ pub(crate) fn replace(
     ensures stands { result ≡ true → Stands is_linked_two (lent_table links.old) (Some member) }
     ensures before { result ≡ true → TellsGap Before (lent_table links.old) list.old (Some member) }
     ensures behind { result ≡ true → TellsGap After (lent_table links.old) list.old (Some member) }
+    ensures own { result ≡ true → PutIn (around (lent_table links.old) list.old (Some member)) place list.old list.new }
     ensures refused { result ≡ false → (links.new ≡ links.old) × (list.new ≡ list.old) }
     ensures extent { (lent_table links.new).extent ≡ (lent_table links.old).extent }
 {

@@ -4,20 +4,24 @@
 //! let member = find(&links, &tree, keys, key, Target::AtLeast);
 //! ```
 
-ghost use Rattle.std.specs.Prelude.{◌≡◌, ◌≢◌, ◌⊎◌, ◌≤◌, ◌∷◌, [], List, Option, Some, length, None, true, false};
+ghost use Rattle.std.specs.Prelude.{◌≡◌, ◌≢◌, ◌⊎◌, ◌≤◌, ◌∷◌, [], List, Option, Some, length, None, IfSome, true, false};
 ghost use Rattle.ic_unsafe_ref.specs.declared.place.Place.{Place};
 ghost use Rattle.ic_unsafe_ref.specs.Objects.{is_placed, at_indexes};
 ghost use Rattle.ic_link_ops.specs.Sequences.{Cut, join};
 ghost use Rattle.ic_link_ops.specs.Tables.{IsLinked};
 ghost use Rattle.ic_link_ops.specs.RedBlackTree as trees;
+ghost use Rattle.ic_rbtree.specs.Borders.{equal_at};
 ghost use Rattle.ic_rbtree.specs.Closed.{IsIn, AreIn};
 ghost use Rattle.ic_rbtree.specs.Comparing.{goes_left};
 ghost use Rattle.ic_rbtree.specs.Descents.{gap_in};
 ghost use Rattle.ic_rbtree.specs.Ordered.{InsertsInOrder};
 ghost use Rattle.ic_rbtree.specs.Tree.{root_of};
+ghost use Rattle.ic_raw.specs.declared.status.TheConstants.{OK, NULL};
 ghost use Rattle.ic_raw.specs.Answers.{HandsOut, refusal};
 ghost use Rattle.ic_raw.specs.Gaps.{Stands};
-ghost use Rattle.ic_raw.specs.Keys.{against, key_of, keys_fault, at_root, past, EndsIn, IsTarget};
+ghost use Rattle.ic_raw.specs.declared.search.Target.TheVariants.{Equal};
+ghost use Rattle.ic_raw.specs.declared.search.Way.{Way};
+ghost use Rattle.ic_raw.specs.Keys.{against, key_of, keys_fault, at_root, past, EndsIn, EndsBelow, IsTarget, NamesKey, equals_of, SearchEnds};
 ghost use Rattle.ic_raw.specs.Seen.{seen, seen_node, has_place};
 ghost use Rattle.ic_raw.specs.Tables.{IsFree, place_fault};
 ghost use Rattle.ic_raw.specs.Tree.{Shows, IsHole, lent_table};
@@ -76,7 +80,7 @@ pub(crate) fn is_searchable(links: &RawTable<'_, RawThree>, tree: &Tree, keys: &
 #[inline(never)]
 fn refusal(links: &RawTable<'_, RawThree>, keys: &[u64]) -> u32
     ensures refusal { result ≡ refusal (keys_fault keys.now (lent_table links.now).extent.places ∷ []) }
-    ensures refused { (result ≢ 0) × (result ≢ 4) }
+    ensures refused { (result ≢ OK) × (result ≢ NULL) }
 {
     if keys.len() < links.places() {
         return OUT_OF_RANGE;
@@ -90,7 +94,7 @@ fn refusal(links: &RawTable<'_, RawThree>, keys: &[u64]) -> u32
 pub(crate) fn refusal_of(links: &RawTable<'_, RawThree>, keys: &[u64], place: u32) -> u32
     ensures refusal { result ≡ refusal (keys_fault keys.now (lent_table links.now).extent.places
         ∷ place_fault is_linked_three (lent_table links.now) (place_of place) ∷ []) }
-    ensures refused { (result ≢ 0) × (result ≢ 4) }
+    ensures refused { (result ≢ OK) × (result ≢ NULL) }
 {
     if keys.len() < links.places() {
         return OUT_OF_RANGE;
@@ -162,18 +166,27 @@ impl Way {
 }
 
 // Goes down from the root to the gap to which the key sends, past equal ones to this side. [`RBTree::search`](ic_rbtree::RBTree::search) does
-// so for any probe, and keeps the last equal member as well, which takes more instructions a look.
+// so for any probe, and keeps the last equal member as well, which takes more instructions a look. It is `None` if the way is longer than that of
+// any tree.
 #[inline]
-fn descend(links: &RawTable<'_, RawThree>, tree: &Tree, keys: &[u64], key: u64, equals: Side) -> Way
+fn descend(
+    links: &RawTable<'_, RawThree>,
+    tree: &Tree,
+    keys: &[u64],
+    key: u64,
+    equals: Side,
+) -> Option<Way>
     requires keys { (lent_table links.now).extent.places ≤ length keys.now }
     requires root { Stands is_linked_three (lent_table links.now) (root_of tree.now) }
     ensures ends { (s : List Place) (h : trees.Shows seen_node (seen (lent_table links.now)) (root_of tree.now) s)
-        → EndsIn (lent_table links.now) (gap_in (λ p. goes_left equals (against key keys.now p)) h.tree) result }
-    ensures within { AreIn (has_place (lent_table links.now)) (result.parent ∷ result.front ∷ result.back ∷ []) }
+        → (way : Way) × (result ≡ Some way) × EndsIn (lent_table links.now) (gap_in (λ p. goes_left equals (against key keys.now p)) h.tree) way }
+    ensures down { result ≢ None
+        → EndsBelow (seen (lent_table links.now)) (λ p. goes_left equals (against key keys.now p)) (root_of tree.now) }
+    ensures within { IfSome result (λ way. AreIn (has_place (lent_table links.now)) (way.parent ∷ way.front ∷ way.back ∷ [])) }
 {
     let mut way = Way::new();
     let Some(root) = tree.root() else {
-        return way;
+        return Some(way);
     };
     let mut place = root;
     for _ in 0..LOOKS {
@@ -182,21 +195,31 @@ fn descend(links: &RawTable<'_, RawThree>, tree: &Tree, keys: &[u64], key: u64, 
         // Each side has code of its own, in which one test tells that the table has no place there.
         if left {
             let Some(next) = links.left(place) else {
-                return way;
+                return Some(way);
             };
             place = next;
         } else {
             let Some(next) = links.right(place) else {
-                return way;
+                return Some(way);
             };
             place = next;
         }
     }
-    // No tree shows so long a way. What is handed out is not `way`, so that the compiler keeps both ends of the loop apart.
-    Way::new()
+    None
 }
 
-// The member that is searched.
+// Where a search goes past equal keys.
+#[inline]
+fn equals_of(target: Target) -> Side
+    ensures { result ≡ equals_of target }
+{
+    match target {
+        Target::Equal | Target::AtLeast => Side::Left,
+        Target::AtMost => Side::Right,
+    }
+}
+
+// The member that is searched, `Some(None)` where there is none. It is `None` if the words lead to no end.
 #[inline]
 pub(crate) fn find(
     links: &RawTable<'_, RawThree>,
@@ -204,25 +227,31 @@ pub(crate) fn find(
     keys: &[u64],
     key: u64,
     target: Target,
-) -> Option<Place>
+) -> Option<Option<Place>>
     requires keys { (lent_table links.now).extent.places ≤ length keys.now }
     requires root { Stands is_linked_three (lent_table links.now) (root_of tree.now) }
-    ensures found { (s : List Place) → Shows (lent_table links.now) (root_of tree.now) s → IsTarget target (against key keys.now) s result }
-    ensures within { IsIn (has_place (lent_table links.now)) result }
+    ensures found { (s : List Place) → Shows (lent_table links.now) (root_of tree.now) s
+        → (member : Option Place) × (result ≡ Some member) × IsTarget target (against key keys.now) s member }
+    ensures ended { result ≢ None → SearchEnds target keys.now key (lent_table links.now) (root_of tree.now) }
+    ensures equal { target ≡ Equal → (q : Place) → result ≡ Some (Some q) → equal_at (against key keys.now) q ≡ true }
+    ensures within { IfSome result (λ member. IsIn (has_place (lent_table links.now)) member) }
 {
+    let Some(way) = descend(links, tree, keys, key, equals_of(target)) else {
+        return None;
+    };
     match target {
         Target::Equal => {
-            let Some(member) = descend(links, tree, keys, key, Side::Left).back.get() else {
-                return None;
+            let Some(member) = way.back.get() else {
+                return Some(None);
             };
             if compare_at(keys, key, member).is_eq() {
-                Some(member)
+                Some(Some(member))
             } else {
-                None
+                Some(None)
             }
         }
-        Target::AtLeast => descend(links, tree, keys, key, Side::Left).back.get(),
-        Target::AtMost => descend(links, tree, keys, key, Side::Right).front.get(),
+        Target::AtLeast => Some(way.back.get()),
+        Target::AtMost => Some(way.front.get()),
     }
 }
 
@@ -238,16 +267,20 @@ pub(crate) fn look(
 ) -> u32
     ensures found { (s : List Place) → Shows (lent_table links.now) (root_of tree.now) s
         → (lent_table links.now).extent.places ≤ length keys.now → HandsOut (IsTarget target (against key keys.now) s) result found.new }
-    ensures linked { result ≡ 0 → (q : Place) × IsLinked is_linked_three (lent_table links.now) q × HasNumber q found.new }
-    ensures refused { result ≢ 0 → found.new ≡ found.old }
-    ensures looked { (result ≡ 0) ⊎ (result ≡ 4) → ((lent_table links.now).extent.places ≤ length keys.now)
+    ensures linked { result ≡ OK → (q : Place) × IsLinked is_linked_three (lent_table links.now) q × HasNumber q found.new }
+    ensures key { target ≡ Equal → result ≡ OK → NamesKey keys.now key found.new }
+    ensures ended { result ≡ NULL → SearchEnds target keys.now key (lent_table links.now) (root_of tree.now) }
+    ensures refused { result ≢ OK → found.new ≡ found.old }
+    ensures looked { (result ≡ OK) ⊎ (result ≡ NULL) → ((lent_table links.now).extent.places ≤ length keys.now)
         × Stands is_linked_three (lent_table links.now) (root_of tree.now) }
-    ensures why { result ≢ 0 → result ≢ 4 → result ≡ refusal (keys_fault keys.now (lent_table links.now).extent.places ∷ []) }
+    ensures why { result ≢ OK → result ≢ NULL → result ≡ refusal (keys_fault keys.now (lent_table links.now).extent.places ∷ []) }
 {
     if !is_searchable(links, tree, keys) {
         return refusal(links, keys);
     }
-    let member = find(links, tree, keys, key, target);
+    let Some(member) = find(links, tree, keys, key, target) else {
+        return BROKEN;
+    };
     tree::hand_out(links, member, found)
 }
 
@@ -278,7 +311,9 @@ pub(crate) fn insert(
     if !links.covers(own) {
         return false;
     }
-    let way = descend(&*links, &*tree, keys, keys[own.index()], Side::Right);
+    let Some(way) = descend(&*links, &*tree, keys, keys[own.index()], Side::Right) else {
+        return false;
+    };
     if !way.is_open(&*links, &*tree) {
         return false;
     }

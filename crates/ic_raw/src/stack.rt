@@ -8,6 +8,7 @@ ghost use Rattle.std.specs.Prelude.{◌≡◌, ◌≢◌, ◌++◌, ◌∷◌, L
 ghost use Rattle.ic_unsafe_ref.specs.declared.place.Place.{Place};
 ghost use Rattle.ic_link_ops.specs.Sequences.{Cut, join, last, IsDisjoint, IsAfter};
 ghost use Rattle.ic_link_ops.specs.Tables.{IsLinked, IsUnlinked};
+ghost use Rattle.ic_link_ops.specs.Chains.{end_of};
 ghost use Rattle.ic_link_ops.specs.Edits.{Inserts, Removes, Replaces, Splices, Splits};
 ghost use Rattle.ic_link_ops.specs.SinglyLinkedList.{list_from};
 ghost use Rattle.ic_raw.specs.declared.gap.Gap.{Gap};
@@ -80,6 +81,7 @@ pub(crate) fn insert(
     ensures free { result ≡ true → (p : Place) × (place ≡ Some p) × IsFree is_linked_one (lent_table links.old) p }
     ensures stands { result ≡ true → Stands is_linked_one (lent_table links.old) at }
     ensures told { result ≡ true → Stands is_linked_one (lent_table links.old) (next_from (lent_table links.old) list.old at) }
+    ensures own { result ≡ true → list.new.head ≡ end_of at place list.old.head }
     ensures refused { result ≡ false → (links.new ≡ links.old) × (list.new ≡ list.old) }
     ensures extent { (lent_table links.new).extent ≡ (lent_table links.old).extent }
 {
@@ -106,6 +108,7 @@ pub(crate) fn remove(
     ensures removed { (front back : List Place) → Shows (lent_table links.old) list.old (front ++ member ∷ back) → at ≡ last front
         → Removes Shows (lent_table links.old) (lent_table links.new) list.new (before member front back)
         × IsUnlinked is_linked_one (lent_table links.new) member }
+    ensures own { list.new.head ≡ end_of at (next_from (lent_table links.old) list.old (Some member)) list.old.head }
     ensures extent { (lent_table links.new).extent ≡ (lent_table links.old).extent }
 {
     let behind = links.next(member);
@@ -130,6 +133,7 @@ pub(crate) fn replace(
         → (result ≡ true) × Replaces Shows (lent_table links.old) (lent_table links.new) list.new (before member front back) p
         × IsUnlinked is_linked_one (lent_table links.new) member }
     ensures free { result ≡ true → (p : Place) × (place ≡ Some p) × IsFree is_linked_one (lent_table links.old) p }
+    ensures own { result ≡ true → list.new.head ≡ end_of at place list.old.head }
     ensures refused { result ≡ false → (links.new ≡ links.old) × (list.new ≡ list.old) }
     ensures extent { (lent_table links.new).extent ≡ (lent_table links.old).extent }
 {

@@ -9,6 +9,7 @@ ghost use Rattle.std.specs.Prelude.{◌≡◌, ◌≢◌, ◌↔◌, ◌∷◌, 
 ghost use Rattle.ic_unsafe_ref.specs.declared.place.Place.{Place};
 ghost use Rattle.ic_link_ops.specs.PlainTables.{table_of};
 ghost use Rattle.ic_link_ops.specs.Tables.{IsCovered, IsLinked, ChangesOnly};
+ghost use Rattle.ic_raw.specs.declared.status.TheConstants.{OK, NULL};
 ghost use Rattle.ic_raw.specs.Tables.{IsView, IsFree, raw_table, member_fault, place_fault};
 ghost use Rattle.ic_raw.specs.Gaps.{Stands};
 ghost use Rattle.ic_raw.specs.Answers.{refusal};
@@ -123,7 +124,7 @@ impl<W: Words> RawTable<'_, W> {
     #[inline]
     pub fn member_fault(&self, member: Option<Place>) -> u32
         ensures fault { result ≡ member_fault W.is_linked (raw_table W.unlinked self.now) member }
-        ensures named { result ≢ 4 }
+        ensures named { result ≢ NULL }
     {
         let Some(member) = member else {
             return OK;
@@ -142,7 +143,7 @@ impl<W: Words> RawTable<'_, W> {
     #[inline]
     pub fn place_fault(&self, place: Option<Place>) -> u32
         ensures fault { result ≡ place_fault W.is_linked (raw_table W.unlinked self.now) place }
-        ensures named { result ≢ 4 }
+        ensures named { result ≢ NULL }
     {
         let Some(place) = place else {
             return OUT_OF_RANGE;
@@ -160,7 +161,7 @@ impl<W: Words> RawTable<'_, W> {
     #[inline(never)]
     pub fn refusal_of(&self, member: Place) -> u32
         ensures refusal { result ≡ refusal (member_fault W.is_linked (raw_table W.unlinked self.now) (Some member) ∷ []) }
-        ensures refused { (result ≢ 0) × (result ≢ 4) }
+        ensures refused { (result ≢ OK) × (result ≢ NULL) }
     {
         let fault = self.member_fault(Some(member));
         if fault != OK {
@@ -174,7 +175,7 @@ impl<W: Words> RawTable<'_, W> {
     #[inline(never)]
     pub fn refusal_at(&self, at: u32) -> u32
         ensures refusal { result ≡ refusal (member_fault W.is_linked (raw_table W.unlinked self.now) (place_of at) ∷ []) }
-        ensures refused { (result ≢ 0) × (result ≢ 4) }
+        ensures refused { (result ≢ OK) × (result ≢ NULL) }
     {
         let fault = self.member_fault(place_of(at));
         if fault != OK {
@@ -189,7 +190,7 @@ impl<W: Words> RawTable<'_, W> {
     pub fn refusal_at_both(&self, one: u32, other: u32) -> u32
         ensures refusal { result ≡ refusal (member_fault W.is_linked (raw_table W.unlinked self.now) (place_of one)
             ∷ member_fault W.is_linked (raw_table W.unlinked self.now) (place_of other) ∷ []) }
-        ensures refused { (result ≢ 0) × (result ≢ 4) }
+        ensures refused { (result ≢ OK) × (result ≢ NULL) }
     {
         let fault = self.member_fault(place_of(one));
         if fault != OK {
@@ -208,7 +209,7 @@ impl<W: Words> RawTable<'_, W> {
     pub fn refusal(&self, at: u32, place: u32) -> u32
         ensures refusal { result ≡ refusal (member_fault W.is_linked (raw_table W.unlinked self.now) (place_of at)
             ∷ place_fault W.is_linked (raw_table W.unlinked self.now) (place_of place) ∷ []) }
-        ensures refused { (result ≢ 0) × (result ≢ 4) }
+        ensures refused { (result ≢ OK) × (result ≢ NULL) }
     {
         let fault = self.member_fault(place_of(at));
         if fault != OK {
@@ -229,7 +230,7 @@ impl<W: Words> RawTable<'_, W> {
 #[inline(never)]
 pub(crate) fn refusal_at_end<W: Words>(words: &mut [W], place: u32) -> u32
     ensures refusal { result ≡ refusal (place_fault W.is_linked (table_of W.unlinked words.old) (place_of place) ∷ []) }
-    ensures refused { (result ≢ 0) × (result ≢ 4) }
+    ensures refused { (result ≢ OK) × (result ≢ NULL) }
     ensures kept { words.new ≡ words.old }
 {
     RawTable::new(words).refusal(NONE, place)

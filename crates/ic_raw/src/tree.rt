@@ -14,6 +14,7 @@ ghost use Rattle.ic_link_ops.specs.Frames.{across, child_on};
 ghost use Rattle.ic_rbtree.specs.Closed.{IsIn, AreIn};
 ghost use Rattle.ic_rbtree.specs.Sides.{IsBeside};
 ghost use Rattle.ic_rbtree.specs.Tree.{root_of};
+ghost use Rattle.ic_raw.specs.declared.status.TheConstants.{OK, NULL, BROKEN};
 ghost use Rattle.ic_raw.specs.Answers.{IsFound, refusal};
 ghost use Rattle.ic_raw.specs.Gaps.{Stands, before};
 ghost use Rattle.ic_raw.specs.Seen.{IsWithin, has_place};
@@ -259,9 +260,9 @@ fn tell(links: &RawTable<'_, RawThree>, member: Option<Place>, found: &mut u32) 
 // Why no number is told: there is no member, or its place is not linked.
 #[inline]
 fn nothing_told(member: Option<Place>) -> u32
-    ensures null { (result ≡ 4) ↔ (member ≡ None) }
-    ensures why { result ≢ 4 → result ≡ 5 }
-    ensures refused { result ≢ 0 }
+    ensures null { (result ≡ NULL) ↔ (member ≡ None) }
+    ensures why { result ≢ NULL → result ≡ BROKEN }
+    ensures refused { result ≢ OK }
 {
     match member {
         None => NULL,
@@ -273,9 +274,9 @@ fn nothing_told(member: Option<Place>) -> u32
 #[cold]
 #[inline(never)]
 fn nothing_found(member: Option<Place>) -> u32
-    ensures null { (result ≡ 4) ↔ (member ≡ None) }
-    ensures why { result ≢ 4 → result ≡ 5 }
-    ensures refused { result ≢ 0 }
+    ensures null { (result ≡ NULL) ↔ (member ≡ None) }
+    ensures why { result ≢ NULL → result ≡ BROKEN }
+    ensures refused { result ≢ OK }
 {
     nothing_told(member)
 }
@@ -289,10 +290,11 @@ pub(crate) fn hand_out(
 ) -> u32
     requires { IsIn (has_place (lent_table links.now)) member }
     ensures found { Stands is_linked_three (lent_table links.now) member → IsFound member result found.new }
-    ensures linked { result ≡ 0 → (q : Place) × IsLinked is_linked_three (lent_table links.now) q × HasNumber q found.new }
-    ensures refused { result ≢ 0 → found.new ≡ found.old }
-    ensures null { (result ≡ 4) ↔ (member ≡ None) }
-    ensures why { result ≢ 0 → result ≢ 4 → result ≡ 5 }
+    ensures linked { result ≡ OK → (q : Place) × IsLinked is_linked_three (lent_table links.now) q × HasNumber q found.new }
+    ensures refused { result ≢ OK → found.new ≡ found.old }
+    ensures told { result ≡ OK → (q : Place) × (member ≡ Some q) × HasNumber q found.new }
+    ensures null { (result ≡ NULL) ↔ (member ≡ None) }
+    ensures why { result ≢ OK → result ≢ NULL → result ≡ BROKEN }
 {
     if tell(links, member, found) {
         return OK;
@@ -307,10 +309,10 @@ pub(crate) fn hand_out(
 fn step_from_none(links: &RawTable<'_, RawThree>, tree: &Tree, side: Side, found: &mut u32) -> u32
     ensures found { (cut : Cut) (member : Option Place) → Shows (lent_table links.now) (root_of tree.now) (join cut)
         → IsBeside side cut None → IsBeside (across side) cut member → IsFound member result found.new }
-    ensures linked { result ≡ 0 → (q : Place) × IsLinked is_linked_three (lent_table links.now) q × HasNumber q found.new }
-    ensures refused { result ≢ 0 → found.new ≡ found.old }
-    ensures looked { (result ≡ 0) ⊎ (result ≡ 4) → Stands is_linked_three (lent_table links.now) (root_of tree.now) }
-    ensures why { result ≢ 0 → result ≢ 4 → result ≡ 5 }
+    ensures linked { result ≡ OK → (q : Place) × IsLinked is_linked_three (lent_table links.now) q × HasNumber q found.new }
+    ensures refused { result ≢ OK → found.new ≡ found.old }
+    ensures looked { (result ≡ OK) ⊎ (result ≡ NULL) → Stands is_linked_three (lent_table links.now) (root_of tree.now) }
+    ensures why { result ≢ OK → result ≢ NULL → result ≡ BROKEN }
 {
     if !links.stands(tree.root()) {
         return BROKEN;
@@ -329,11 +331,11 @@ pub(crate) fn step(
 ) -> u32
     ensures found { (cut : Cut) (member : Option Place) → Shows (lent_table links.now) (root_of tree.now) (join cut)
         → IsBeside side cut (place_of at) → IsBeside (across side) cut member → IsFound member result found.new }
-    ensures linked { result ≡ 0 → (q : Place) × IsLinked is_linked_three (lent_table links.now) q × HasNumber q found.new }
-    ensures refused { result ≢ 0 → found.new ≡ found.old }
-    ensures looked { (result ≡ 0) ⊎ (result ≡ 4) → Stands is_linked_three (lent_table links.now) (place_of at)
+    ensures linked { result ≡ OK → (q : Place) × IsLinked is_linked_three (lent_table links.now) q × HasNumber q found.new }
+    ensures refused { result ≢ OK → found.new ≡ found.old }
+    ensures looked { (result ≡ OK) ⊎ (result ≡ NULL) → Stands is_linked_three (lent_table links.now) (place_of at)
         × Stands is_linked_three (lent_table links.now) (root_of tree.now) }
-    ensures why { result ≢ 0 → result ≢ 4 → result ≡ refusal (member_fault is_linked_three (lent_table links.now) (place_of at) ∷ []) }
+    ensures why { result ≢ OK → result ≢ NULL → result ≡ refusal (member_fault is_linked_three (lent_table links.now) (place_of at) ∷ []) }
 {
     let Some(member) = place_of(at) else {
         return step_from_none(links, tree, side, found);

@@ -14,11 +14,12 @@ ghost use Rattle.ic_link_ops.specs.Chains.{no_members};
 ghost use Rattle.ic_raw.specs.declared.gap.Side.TheVariants.{After, Before};
 ghost use Rattle.ic_raw.specs.declared.status.TheConstants.{OK, NULL};
 ghost use Rattle.ic_raw.specs.declared.words.RawOne.{RawOne};
+ghost use Rattle.ic_raw.specs.Gaps.{PutIn, TakenOut, gap_between};
 ghost use Rattle.ic_raw.specs.Words.{place_in, place_of, is_linked_one};
 ghost use Rattle.ic_raw.specs.Tables.{member_fault, place_fault};
 ghost use Rattle.ic_raw.specs.Doubly.{ends_of, words_of};
 ghost use Rattle.ic_raw.specs.Singly.{table_of, lent_table};
-ghost use Rattle.ic_raw.specs.Xor.{Shows, ShowsList, FreeIn, StandsIn, TellsGap, TellsMemberBehind, TellsMemberBefore, TellsEnds, Inserted, Removed, Spliced};
+ghost use Rattle.ic_raw.specs.Xor.{Shows, ShowsList, FreeIn, StandsIn, beyond, TellsGap, TellsMemberBehind, TellsMemberBefore, TellsEnds, Inserted, Removed, Spliced};
 ghost use Rattle.ic_raw.specs.Answers.{IsStatus, refusal};
 ghost use Rattle.ic_raw.specs.XorCalls.{AppendCall, ClearCall, InsertCall, PopCall, PushCall, RemoveCall, ReplaceCall, SpliceCall, SplitCall};
 
@@ -77,11 +78,12 @@ fn put(
 ) -> bool
     ensures inserted { (cut : Cut) (p : Place) → IsAfter cut before → IsBefore cut behind → place ≡ Some p
         → ShowsList table.old list.old (join cut) → FreeIn table.old p
-        → (result ≡ true) × Inserted table.old table.new list.old list.new 0 cut p }
+        → (result ≡ true) × Inserted table.old table.new list.old list.new OK cut p }
     ensures free { result ≡ true → (p : Place) × (place ≡ Some p) × FreeIn table.old p }
     ensures told { result ≡ true → TellsGap (table_of table.old) (ends_of list.old) before behind }
     ensures before { result ≡ true → StandsIn table.old before }
     ensures behind { result ≡ true → StandsIn table.old behind }
+    ensures own { result ≡ true → PutIn (gap_between before behind) place (ends_of list.old) (ends_of list.new) }
     ensures words { result ≡ true → list.new ≡ words_of (ends_of list.new) }
     ensures refused { result ≡ false → (table.new ≡ table.old) × (list.new ≡ list.old) }
 {
@@ -165,10 +167,12 @@ pub fn push_back(table: &mut [RawOne], list: &mut RawEnds, place: u32) -> u32
 #[inline]
 fn take(table: &mut [RawOne], list: &mut RawEnds, before: Option<Place>, member: Place) -> bool
     ensures removed { (front back : List Place) → before ≡ last front → ShowsList table.old list.old (front ++ member ∷ back)
-        → (result ≡ true) × Removed table.old table.new list.old list.new 0 member front back }
+        → (result ≡ true) × Removed table.old table.new list.old list.new OK member front back }
     ensures stands { result ≡ true → StandsIn table.old (Some member) }
     ensures before { result ≡ true → StandsIn table.old before }
     ensures told { result ≡ true → TellsMemberBehind (table_of table.old) (ends_of list.old) before (Some member) }
+    ensures own { result ≡ true
+        → TakenOut (gap_between before (beyond (table_of table.old) (Some member) before)) (ends_of list.old) (ends_of list.new) }
     ensures words { result ≡ true → list.new ≡ words_of (ends_of list.new) }
     ensures refused { result ≡ false → (table.new ≡ table.old) × (list.new ≡ list.old) }
 {
@@ -185,9 +189,11 @@ fn take(table: &mut [RawOne], list: &mut RawEnds, before: Option<Place>, member:
 #[inline]
 fn take_last(table: &mut [RawOne], list: &mut RawEnds, member: Place) -> bool
     ensures removed { (front : List Place) → ShowsList table.old list.old (front ++ member ∷ [])
-        → (result ≡ true) × Removed table.old table.new list.old list.new 0 member front [] }
+        → (result ≡ true) × Removed table.old table.new list.old list.new OK member front [] }
     ensures stands { result ≡ true → StandsIn table.old (Some member) }
     ensures told { result ≡ true → TellsMemberBefore (table_of table.old) (ends_of list.old) None (Some member) }
+    ensures own { result ≡ true
+        → TakenOut (gap_between (beyond (table_of table.old) (Some member) None) None) (ends_of list.old) (ends_of list.new) }
     ensures words { result ≡ true → list.new ≡ words_of (ends_of list.new) }
     ensures refused { result ≡ false → (table.new ≡ table.old) × (list.new ≡ list.old) }
 {
@@ -318,7 +324,7 @@ fn splice(
 ) -> bool
     ensures spliced { (cut : Cut) (t : List Place) → IsAfter cut before → IsBefore cut behind → ShowsList table.old list.old (join cut)
         → ShowsList table.old given.old t → IsDisjoint t (join cut)
-        → (result ≡ true) × Spliced table.old table.new list.old list.new 0 given.old cut t }
+        → (result ≡ true) × Spliced table.old table.new list.old list.new OK given.old cut t }
     ensures emptied { result ≡ true → given.new ≡ words_of no_members }
     ensures before { result ≡ true → StandsIn table.old before }
     ensures behind { result ≡ true → StandsIn table.old behind }

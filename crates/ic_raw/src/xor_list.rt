@@ -10,12 +10,12 @@ ghost use Rattle.ic_link_ops.specs.Sequences.{Cut, join, first, last, IsDisjoint
 ghost use Rattle.ic_link_ops.specs.Tables.{IsLinked, IsUnlinked};
 ghost use Rattle.ic_link_ops.specs.Edits.{Inserts, Removes, Replaces, Splices, Splits};
 ghost use Rattle.ic_raw.specs.Calls.{Clears};
-ghost use Rattle.ic_raw.specs.Gaps.{Stands};
+ghost use Rattle.ic_raw.specs.Gaps.{PutIn, Stands, TakenOut, gap_between};
 ghost use Rattle.ic_raw.specs.Gaps as gaps;
 ghost use Rattle.ic_raw.specs.Tables.{IsFree};
 ghost use Rattle.ic_raw.specs.Words.{is_linked_one};
 ghost use Rattle.ic_raw.specs.Singly.{lent_table};
-ghost use Rattle.ic_raw.specs.Xor.{Shows, GoesOn, Faces, TellsGap, TellsMember, TellsMemberBehind, TellsMemberBefore, TellsEnds, LeadsThrough};
+ghost use Rattle.ic_raw.specs.Xor.{Shows, beyond, GoesOn, Faces, TellsGap, TellsMember, TellsMemberBehind, TellsMemberBefore, TellsEnds, LeadsThrough};
 
 use crate::gap::begin_alike;
 use crate::table::RawTable;
@@ -116,6 +116,7 @@ pub(crate) fn insert(
         → (result ≡ true) × Inserts Shows (lent_table links.old) (lent_table links.new) list.new cut p }
     ensures free { result ≡ true → (p : Place) × (place ≡ Some p) × IsFree is_linked_one (lent_table links.old) p }
     ensures told { result ≡ true → TellsGap (lent_table links.old) list.old before behind }
+    ensures own { result ≡ true → PutIn (gap_between before behind) place list.old list.new }
     ensures before { result ≡ true → Stands is_linked_one (lent_table links.old) before }
     ensures behind { result ≡ true → Stands is_linked_one (lent_table links.old) behind }
     ensures refused { result ≡ false → (links.new ≡ links.old) × (list.new ≡ list.old) }
@@ -146,6 +147,7 @@ fn take_out(
         → (result ≡ true) × Removes Shows (lent_table links.old) (lent_table links.new) list.new (gaps.before member front back)
         × IsUnlinked is_linked_one (lent_table links.new) member }
     ensures told { result ≡ true → TellsMember (lent_table links.old) list.old before member behind }
+    ensures own { result ≡ true → TakenOut (gap_between before behind) list.old list.new }
     ensures before { result ≡ true → Stands is_linked_one (lent_table links.old) before }
     ensures refused { result ≡ false → (links.new ≡ links.old) × (list.new ≡ list.old) }
     ensures extent { (lent_table links.new).extent ≡ (lent_table links.old).extent }
@@ -172,6 +174,7 @@ pub(crate) fn remove(
     ensures stands { result ≡ true → Stands is_linked_one (lent_table links.old) (Some member) }
     ensures before { result ≡ true → Stands is_linked_one (lent_table links.old) before }
     ensures told { result ≡ true → TellsMemberBehind (lent_table links.old) list.old before (Some member) }
+    ensures own { result ≡ true → TakenOut (gap_between before (beyond (lent_table links.old) (Some member) before)) list.old list.new }
     ensures refused { result ≡ false → (links.new ≡ links.old) × (list.new ≡ list.old) }
     ensures extent { (lent_table links.new).extent ≡ (lent_table links.old).extent }
 {
@@ -188,10 +191,11 @@ pub(crate) fn pop_before_others(links: &mut RawTable<'_, RawOne>, list: &mut Lis
     ensures removed { (p q : Place) (s : List Place) → result ≡ Some q → Shows (lent_table links.old) list.old (p ∷ s)
         → (q ≡ p) × Removes Shows (lent_table links.old) (lent_table links.new) list.new (gaps.before p [] s)
         × IsUnlinked is_linked_one (lent_table links.new) p }
-    ensures tail { (p q : Place) (s : List Place) → result ≡ Some q → Shows (lent_table links.old) list.old (p ∷ s) → list.new.tail ≡ list.old.tail }
+    ensures tail { (q : Place) → result ≡ Some q → list.new.tail ≡ list.old.tail }
     ensures first { (q : Place) → result ≡ Some q → list.old.head ≡ Some q }
     ensures stands { (q : Place) → result ≡ Some q → Stands is_linked_one (lent_table links.old) (Some q) }
     ensures told { (q : Place) → result ≡ Some q → TellsMemberBehind (lent_table links.old) list.old None (Some q) }
+    ensures own { (q : Place) → result ≡ Some q → TakenOut (gap_between None (beyond (lent_table links.old) (Some q) None)) list.old list.new }
     ensures refused { result ≡ None → (links.new ≡ links.old) × (list.new ≡ list.old) }
     ensures extent { (lent_table links.new).extent ≡ (lent_table links.old).extent }
 {
@@ -226,6 +230,7 @@ pub(crate) fn remove_last(links: &mut RawTable<'_, RawOne>, list: &mut List, mem
         × IsUnlinked is_linked_one (lent_table links.new) member }
     ensures stands { result ≡ true → Stands is_linked_one (lent_table links.old) (Some member) }
     ensures told { result ≡ true → TellsMemberBefore (lent_table links.old) list.old None (Some member) }
+    ensures own { result ≡ true → TakenOut (gap_between (beyond (lent_table links.old) (Some member) None) None) list.old list.new }
     ensures refused { result ≡ false → (links.new ≡ links.old) × (list.new ≡ list.old) }
     ensures extent { (lent_table links.new).extent ≡ (lent_table links.old).extent }
 {
@@ -253,6 +258,7 @@ pub(crate) fn replace(
     ensures stands { result ≡ true → Stands is_linked_one (lent_table links.old) (Some member) }
     ensures before { result ≡ true → Stands is_linked_one (lent_table links.old) before }
     ensures told { result ≡ true → TellsMemberBehind (lent_table links.old) list.old before (Some member) }
+    ensures own { result ≡ true → PutIn (gap_between before (beyond (lent_table links.old) (Some member) before)) place list.old list.new }
     ensures refused { result ≡ false → (links.new ≡ links.old) × (list.new ≡ list.old) }
     ensures extent { (lent_table links.new).extent ≡ (lent_table links.old).extent }
 {

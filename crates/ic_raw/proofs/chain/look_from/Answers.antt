@@ -1,13 +1,15 @@
 use Rattle.std.proofs.Common.{◌≡◌, Some, None, true, false, eq-eqb, refl, sym, ◌∙◌}
 use Rattle.ic_raw.specs.Hash.{has_key}
+use Rattle.ic_raw.specs.Singly.{lent_table}
 use Rattle.ic_raw.proofs.Gaps.{never}
 use Rattle.ic_raw.proofs.Singly.{covered}
-use Rattle.ic_raw.proofs.HashWalks.{comes_first, comes_linked, comes_found, comes_on, other_key}
+use Rattle.ic_raw.proofs.HashWalks.{comes_first, comes_linked, comes_found, comes_on, other_key, walks_first, walks_on}
 use Rattle.ic_raw.proofs.chain.look_from.Goals as goal
 
 pub loop-left-init : goal.loop-left-init
 loop-left-init c = record {
   comes = λ s shown. (None, rw c.places-left.ensures (comes_first (covered c.args.links.now) shown));
+  leads = walks_first (lent_table c.args.links.now) c.args.from;
   same = refl;
 }
 
@@ -34,5 +36,6 @@ loop-left-preserved c =
       comes = λ s shown.
           let k = rw c.in-Some.is at (c.loop-left.invariant.comes s shown) in
           (Some c.in-Some.place, comes_on k.1 shown.distinct fails c.next-current.ensures);
+      leads = walks_on _ (rw c.in-Some.is at c.loop-left.invariant.leads) (sym c.is_linked.ensures ∙ c.if-not-is_linked.false) (sym c.next-current.ensures);
       same = c.loop-left.invariant.same;
     }

@@ -1,14 +1,17 @@
-use Rattle.std.proofs.Common.{◌≡◌, ◌++◌, ◌∷◌, Some, sym, ap, ◌∙◌, eqb-true, arith}
+use Rattle.std.proofs.Common.{◌≡◌, ◌++◌, ◌∷◌, Some, sym, ap, ◌∙◌, eqb-true, arith, eq-eqb}
 use Rattle.ic_unsafe_ref.specs.Places.{same_word}
 use Rattle.ic_link_ops.proofs.SequenceLemmas.{none_not, some_same}
 use Rattle.ic_raw.proofs.Gaps.{never}
 use Rattle.ic_raw.proofs.Singly.{covered}
 use Rattle.ic_raw.proofs.HashWalks.{comes_first, comes_linked, comes_on, comes_over, met, met_behind, not_missed}
+use Rattle.ic_unsafe_ref.specs.declared.place.Place.{Place}
+use Rattle.ic_raw.proofs.Own.{past_none, goes_past, is_first}
 use Rattle.ic_raw.proofs.chain.place_before.Goals as goal
 
 pub loop-left-init : goal.loop-left-init
 loop-left-init c = record {
   stands = λ q none. absurd (none_not q none);
+  past = past_none c.args.front c.args.member;
   comes = λ s shown. rw c.places-left.ensures (comes_first (covered c.args.links.now) shown);
 }
 
@@ -32,8 +35,15 @@ returns-then-eq-clause-member c s b shown is =
     let k = rw c.in-Some.is at (c.loop-left.invariant.comes s shown) in
     met c.args.member k (same_word c.in-Some.place c.args.member (eqb-true _ _ (sym c.eq.ensures ∙ c.if-eq.true)))
 
+pub returns-then-eq-clause-first : goal.returns-then-eq-clause-first
+returns-then-eq-clause-first c b is =
+    let same : c.in-Some.place ≡ c.args.member = same_word c.in-Some.place c.args.member (eqb-true _ _ (sym c.eq.ensures ∙ c.if-eq.true)) in
+    rw (← some_same is) (is_first c.in-Some.is c.loop-left.before c.loop-left.invariant.past same)
+
 pub loop-left-preserved : goal.loop-left-preserved
 loop-left-preserved c = record {
+  past = goes_past c.in-Some.is c.loop-left.before c.loop-left.invariant.past
+      (λ same. never (sym c.eq.ensures ∙ c.if-eq.false) (eq-eqb _ _ (ap (λ (p : Place). p.word) same))) c.next-current.result;
   stands = λ q is. rw (some_same is) at (sym c.is_linked.ensures ∙ c.if-not-is_linked.false);
   comes = λ s shown.
       let k = rw c.in-Some.is at (c.loop-left.invariant.comes s shown) in

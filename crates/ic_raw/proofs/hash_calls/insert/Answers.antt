@@ -25,6 +25,7 @@ returns c = record {
   no_place = search rules;
   any = search rules;
   told = search rules;
+  own = search rules;
   words = search rules;
   refused = λ off. let same = c.push_front.ensures.refused off in (same.0, grind (arith, common_steps, same));
   why = search rules;

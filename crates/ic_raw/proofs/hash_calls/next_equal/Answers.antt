@@ -1,12 +1,15 @@
-use Rattle.std.proofs.Common.{◌≡◌, ◌++◌, ◌∷◌, sym, ◌∙◌, rules}
+use Rattle.std.proofs.Common.{◌≡◌, ◌++◌, ◌∷◌, Option, Some, sym, subst, ◌∙◌, rules}
+use Rattle.ic_unsafe_ref.specs.declared.place.Place.{Place}
 use Rattle.ic_link_ops.proofs.SequenceLemmas.{some_same}
 use Rattle.ic_link_ops.proofs.ShownLists.{shows_middle}
-use Rattle.ic_raw.specs.Singly.{Shows, lent_table, list_of}
+use Rattle.ic_link_ops.specs.SinglyLinkedList.{list_from}
+use Rattle.ic_raw.specs.Singly.{Shows, lent_table, list_of, word_of_front}
 use Rattle.ic_raw.specs.Words.{no_word}
+use Rattle.ic_raw.proofs.Entries.{place_kept}
 use Rattle.ic_raw.proofs.Gaps.{never}
-use Rattle.ic_raw.proofs.HashWalks.{names_back, shown_behind}
+use Rattle.ic_raw.proofs.HashWalks.{names_back, shown_behind, shown_from}
 use Rattle.ic_raw.proofs.Lists.{kept}
-use Rattle.ic_raw.proofs.Views.{viewed}
+use Rattle.ic_raw.proofs.Views.{viewed, shown_back}
 use Rattle.ic_raw.proofs.hash_calls.next_equal.Goals as goal
 
 pub returns-then-not-is_linked : goal.returns-then-not-is_linked
@@ -16,6 +19,7 @@ returns-then-not-is_linked c = record {
       let seen : Shows (lent_table c.new-links.result) (list_of list) (front ++ p ∷ back) = viewed no_word kept c.new-links.result c.new-links.ensures.1 shown in
       absurd (never c.if-not-is_linked.true (c.is_linked.ensures ∙ rw one (shows_middle front back seen).linked));
   linked = search rules;
+  ended = search rules;
   none = search rules;
   refused = search rules;
   same = search rules;
@@ -34,6 +38,14 @@ returns c = record {
   linked = λ p is made.
       let one : c.in-Some.member ≡ p = some_same (sym c.in-Some.is ∙ c.place_of.ensures ∙ is) in
       rw (← one) (names_back c.new-links.result _ _ _ c.new-links.ensures.1 (rw c.index.ensures.value at (c.look_from.ensures.linked made)));
+  ended = λ p is null.
+      let one : c.in-Some.member ≡ p = some_same (sym c.in-Some.is ∙ c.place_of.ensures ∙ is) in
+      let behind = c.look_from.ensures.ended null in
+      let whole = shown_from c.in-Some.member behind.0 (sym c.is_linked.ensures ∙ c.if-not-is_linked.false) (rw c.next.ensures at behind.1) in
+      let t = lent_table c.new-links.result in
+      let first : Shows t (list_of (word_of_front (Some c.in-Some.member))) (c.in-Some.member ∷ behind.0) =
+      subst (λ (o : Option Place). Shows t (list_from o) (c.in-Some.member ∷ behind.0)) (sym (place_kept (Some c.in-Some.member))) whole in
+      (behind.0, shown_back no_word kept c.new-links.result c.new-links.ensures.1 (subst (λ (q : Place). Shows t (list_of (word_of_front (Some q))) (q ∷ behind.0)) one first));
   none = search rules;
   refused = search rules;
   same = search rules;

@@ -33,6 +33,7 @@ returns c = record {
   null = search rules;
   any = search rules;
   stands = search rules;
+  own = search rules;
   words = search rules;
   refused = λ off. let same = c.remove_from.ensures.refused off in (same.0, grind (arith, common_steps, same));
   why = search rules;

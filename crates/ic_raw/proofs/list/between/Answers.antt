@@ -4,6 +4,7 @@ use Rattle.ic_link_ops.proofs.ShownLists.{shows_middle}
 use Rattle.ic_raw.specs.Doubly.{lent_table}
 use Rattle.ic_raw.proofs.Doubly.{told_after, told_before}
 use Rattle.ic_raw.proofs.Gaps.{gap_is}
+use Rattle.ic_raw.proofs.Own.{sides_are}
 use Rattle.ic_raw.proofs.list.between.Goals as goal
 
 pub returns-clause-shown : goal.returns-clause-shown
@@ -26,3 +27,6 @@ pub returns-clause-behind : goal.returns-clause-behind
 returns-clause-behind c gap list is =
     told_after (lent_table c.args.links.now) list (Some c.args.member) (Some c.in-Some-next.behind) (sym c.next.ensures ∙ c.in-Some-next.is)
     (c.is_behind.ensures.stands c.if-not-is_behind.false) (c.is_behind.ensures.prev c.if-not-is_behind.false)
+
+pub returns-clause-sides : goal.returns-clause-sides
+returns-clause-sides c gap list is = sym (some_same is) ∙ sides_are (sym c.in-Some.is ∙ c.prev.ensures) (sym c.in-Some-next.is ∙ c.next.ensures)

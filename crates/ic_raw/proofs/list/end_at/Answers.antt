@@ -1,8 +1,10 @@
-use Rattle.std.proofs.Common.{◌≡◌, Some, [], sym, ap, ◌∙◌}
+use Rattle.std.proofs.Common.{◌≡◌, Some, [], sym, ap, ◌∙◌, None, subst}
 use Rattle.ic_link_ops.specs.Sequences.{first, last}
 use Rattle.ic_link_ops.proofs.SequenceLemmas.{none_not, some_same, last_of_push}
 use Rattle.ic_raw.specs.Gaps.{before}
 use Rattle.ic_raw.proofs.Doubly.{behind, shown_behind}
+use Rattle.ic_raw.specs.Doubly.{around, lent_table, next_from, prev_from}
+use Rattle.ic_raw.proofs.Own.{sides_are}
 use Rattle.ic_raw.proofs.list.end_at.Goals as goal
 
 pub returns-in_default-clause-shown : goal.returns-in_default-clause-shown
@@ -80,3 +82,22 @@ returns-in-Some-gap_at-3-clause-end c p gap is =
     let one = ap (λ m. m.0) (some_same is) in
     let outer = ap (λ g. g.before) (c.gap_at-in-Before.ensures.sides _ c.in-Some-gap_at-2.is) in
     rw c.in-Before.is (sym outer ∙ c.in-Some-before.is ∙ ap (λ q. Some q) one)
+
+-- nothing stands in front of the first member, and nothing behind the last one
+pub returns-in-Some-gap_at-clause-sides : goal.returns-in-Some-gap_at-clause-sides
+returns-in-Some-gap_at-clause-sides c p gap is =
+    let t = lent_table c.args.links.now in
+    let list = c.args.list.now in
+    let first = sym (ap (λ g. g.behind) (c.gap_at.ensures.sides _ c.in-Some.is)) ∙ c.in-Some-behind.is in
+    let prev = subst (λ at. prev_from t list at ≡ None) first (c.gap_at.ensures.told _ c.in-Some.is).1 in
+    let next = ap (λ g. g.behind) (c.gap_at-in-After.ensures.sides _ c.in-Some-gap_at.is) in
+    subst (λ q. gap ≡ around t list (Some q)) (ap (λ m. m.0) (some_same is)) (sym (ap (λ m. m.1) (some_same is)) ∙ sides_are (sym prev) next)
+
+pub returns-in-Some-gap_at-3-clause-sides : goal.returns-in-Some-gap_at-3-clause-sides
+returns-in-Some-gap_at-3-clause-sides c p gap is =
+    let t = lent_table c.args.links.now in
+    let list = c.args.list.now in
+    let last = sym (ap (λ g. g.before) (c.gap_at-in-Before.ensures.sides _ c.in-Some-gap_at-2.is)) ∙ c.in-Some-before.is in
+    let next = subst (λ at. next_from t list at ≡ None) last (c.gap_at-in-Before.ensures.told _ c.in-Some-gap_at-2.is).1 in
+    let prev = ap (λ g. g.before) (c.gap_at-in-Before-2.ensures.sides _ c.in-Some-gap_at-3.is) in
+    subst (λ q. gap ≡ around t list (Some q)) (ap (λ m. m.0) (some_same is)) (sym (ap (λ m. m.1) (some_same is)) ∙ sides_are prev (sym next))

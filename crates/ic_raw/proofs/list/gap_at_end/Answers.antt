@@ -4,6 +4,7 @@ use Rattle.ic_link_ops.proofs.SequenceLemmas.{some_same}
 use Rattle.ic_raw.specs.Doubly.{lent_table}
 use Rattle.ic_raw.proofs.Doubly.{told_after, told_before}
 use Rattle.ic_raw.proofs.Gaps.{gap_is}
+use Rattle.ic_raw.proofs.Own.{sides_are}
 use Rattle.ic_raw.proofs.list.gap_at_end.Goals as goal
 
 pub returns-else-not-is_behind-clause-end : goal.returns-else-not-is_behind-clause-end
@@ -31,3 +32,11 @@ returns-else-not-is_before-clause-told c gap is =
     let told = told_before (lent_table c.args.links.now) c.args.list.now None (Some c.in-Some-last.last) (sym c.last.ensures ∙ c.in-Some-last.is)
     (c.is_before.ensures.stands c.if-not-is_before.false) (c.is_before.ensures.next c.if-not-is_before.false) in
     rw c.in-Before.is told
+
+pub returns-else-not-is_behind-clause-sides : goal.returns-else-not-is_behind-clause-sides
+returns-else-not-is_behind-clause-sides c gap is =
+    rw c.in-After.is (sym (some_same is) ∙ sides_are refl (sym c.in-Some.is ∙ c.first.ensures))
+
+pub returns-else-not-is_before-clause-sides : goal.returns-else-not-is_before-clause-sides
+returns-else-not-is_before-clause-sides c gap is =
+    rw c.in-Before.is (sym (some_same is) ∙ sides_are (sym c.in-Some-last.is ∙ c.last.ensures) refl)

@@ -2,6 +2,7 @@ use Rattle.std.proofs.Common.{◌≡◌, refl, sym, ap, ◌∙◌}
 use Rattle.ic_link_ops.proofs.SequenceLemmas.{some_same}
 use Rattle.ic_raw.proofs.Doubly.{law}
 use Rattle.ic_raw.proofs.Lists.{inserted}
+use Rattle.ic_raw.proofs.Own.{put_in}
 use Rattle.ic_raw.proofs.list.insert.Goals as goal
 
 pub returns-clause-inserted : goal.returns-clause-inserted
@@ -18,3 +19,6 @@ returns-clause-inserted c cut p shown beside is free' =
 pub returns-clause-free : goal.returns-clause-free
 returns-clause-free c made =
     let taken = c.in-Some-acquire.is in (c.in-Some-acquire.place, c.acquire.ensures.same _ taken, c.acquire.ensures.free _ taken)
+
+pub returns-clause-own : goal.returns-clause-own
+returns-clause-own c made = put_in (c.gap_at.ensures.sides _ c.in-Some.is) (c.acquire.ensures.same _ c.in-Some-acquire.is) c.insert_linked.ensures.ends

@@ -1,6 +1,9 @@
-use Rattle.std.proofs.Common.{◌≡◌, Some, sym, ap, ◌∙◌}
+use Rattle.std.proofs.Common.{◌≡◌, Some, sym, ap, ◌∙◌, subst}
 use Rattle.ic_link_ops.proofs.SequenceLemmas.{some_same}
 use Rattle.ic_raw.proofs.Lists.{removed}
+use Rattle.ic_raw.specs.Doubly.{around, lent_table}
+use Rattle.ic_raw.specs.Gaps.{TakenOut}
+use Rattle.ic_raw.proofs.Own.{taken_out}
 use Rattle.ic_raw.proofs.list.pop.Goals as goal
 
 pub returns-clause-popped : goal.returns-clause-popped
@@ -15,3 +18,8 @@ returns-clause-popped c front back p shown' there =
       rw one (removed front c.in-Some.member back (ap (λ g. g.before) gap) (ap (λ g. g.behind) gap) shown off.shows off.extent off.others released.frame),
       rw one released.released.is,
     )
+
+pub returns-clause-own : goal.returns-clause-own
+returns-clause-own c p is =
+    subst (λ q. TakenOut (around (lent_table c.args.links.now) c.args.list.now (Some q)) c.args.list.now c.bypass.new.self) (some_same is)
+    (taken_out (c.end_at.ensures.sides _ _ c.in-Some.is) c.bypass.ensures.ends)

@@ -2,9 +2,11 @@ use Rattle.std.proofs.Common.{◌≡◌, Some, None, [], refl, sym, subst, ◌�
 use Rattle.ic_link_ops.proofs.SequenceLemmas.{some_same}
 use Rattle.ic_link_ops.proofs.ShownLists.{shows_middle}
 use Rattle.ic_raw.specs.declared.gap.Side.TheVariants.{After}
-use Rattle.ic_raw.specs.Doubly.{TellsGap, lent_table}
-use Rattle.ic_raw.proofs.Doubly.{last_kept, told_after}
+use Rattle.ic_raw.specs.Doubly.{TellsGap, around, lent_table}
+use Rattle.ic_raw.proofs.Doubly.{told_after}
 use Rattle.ic_raw.proofs.Lists.{removed}
+use Rattle.ic_raw.specs.Gaps.{TakenOut}
+use Rattle.ic_raw.proofs.Own.{sides_are, taken_out}
 use Rattle.ic_raw.proofs.list.pop_before_second.Goals as goal
 
 pub returns-clause-removed : goal.returns-clause-removed
@@ -20,11 +22,14 @@ returns-clause-removed c p q s some shown' =
     )
 
 pub returns-clause-tail : goal.returns-clause-tail
-returns-clause-tail c p q s some shown' =
-    let one : p ≡ c.in-Some.first = sym (some_same (sym c.in-Some.is ∙ c.first.ensures ∙ shown'.head)) in
-    let shown = rw one at shown' in
-    let behind = sym c.in-Some-next.is ∙ c.next.ensures ∙ (shows_middle [] s shown).next in
-    (c.bypass.ensures.shows [] s shown refl behind).tail ∙ sym (shown.tail ∙ last_kept [] c.in-Some.first s behind)
+returns-clause-tail c q is = c.bypass.ensures.ends.tail _ refl
+
+pub returns-clause-own : goal.returns-clause-own
+returns-clause-own c q is =
+    let prev = sym (c.is_behind.ensures.prev c.if-not-is_behind.false) in
+    let next = sym c.in-Some-next.is ∙ c.next.ensures in
+    subst (λ p. TakenOut (around (lent_table c.args.links.now) c.args.list.now (Some p)) c.args.list.now c.bypass.new.self) (some_same is)
+    (taken_out (sides_are prev next) c.bypass.ensures.ends)
 
 pub returns-clause-outer : goal.returns-clause-outer
 returns-clause-outer c q is =

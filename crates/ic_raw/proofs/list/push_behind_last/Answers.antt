@@ -1,8 +1,9 @@
-use Rattle.std.proofs.Common.{◌≡◌, ◌∷◌, [], refl, sym, ap, ◌∙◌}
+use Rattle.std.proofs.Common.{◌≡◌, [], refl, sym, ap, ◌∙◌}
 use Rattle.ic_link_ops.specs.Sequences.{at_back, join}
 use Rattle.ic_link_ops.proofs.SequenceLemmas.{some_same, last_of_front}
-use Rattle.ic_raw.proofs.Doubly.{law, first_kept}
+use Rattle.ic_raw.proofs.Doubly.{law}
 use Rattle.ic_raw.proofs.Lists.{inserted}
+use Rattle.ic_raw.proofs.Own.{put_in, end_stays}
 use Rattle.ic_raw.proofs.list.push_behind_last.Goals as goal
 
 pub returns-clause-inserted : goal.returns-clause-inserted
@@ -14,15 +15,13 @@ returns-clause-inserted c s p made shown is =
     let put = c.insert_linked.ensures in
     rw one (inserted law (at_back s) before (ap (λ g. g.behind) gap) shown (c.acquire.ensures.free _ taken) (c.acquire.ensures.frame _ taken) put.shows put.extent put.others)
 
+pub returns-clause-own : goal.returns-clause-own
+returns-clause-own c made = put_in (c.gap_at_end.ensures.sides _ c.in-Some.is) (c.acquire.ensures.same _ c.in-Some-acquire.is) c.insert_linked.ensures.ends
+
 pub returns-clause-head : goal.returns-clause-head
-returns-clause-head c s made shown =
-    let taken = c.in-Some-acquire.is in
-    let gap = c.gap_at_end.ensures.shown _ (join (at_back s)) c.in-Some.is shown in
-    let before = ap (λ g. g.before) gap ∙ last_of_front s [] refl in
-    let end = sym (c.gap_at_end.ensures.end _ c.in-Some.is).1 ∙ shown.tail ∙ last_of_front s [] refl in
-    let put = c.insert_linked.ensures in
-    let done = inserted law (at_back s) before (ap (λ g. g.behind) gap) shown (c.acquire.ensures.free _ taken) (c.acquire.ensures.frame _ taken) put.shows put.extent put.others in
-    done.shows.head ∙ first_kept s (c.in-Some-acquire.place ∷ []) end ∙ sym (shown.head ∙ first_kept s [] end)
+returns-clause-head c made =
+    let own = put_in (c.gap_at_end.ensures.sides _ c.in-Some.is) (c.acquire.ensures.same _ c.in-Some-acquire.is) c.insert_linked.ensures.ends in
+    own.head ∙ end_stays _ (c.gap_at_end.ensures.end _ c.in-Some.is).1
 
 pub returns-clause-free : goal.returns-clause-free
 returns-clause-free c made =

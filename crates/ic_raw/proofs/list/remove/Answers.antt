@@ -1,6 +1,7 @@
 use Rattle.std.proofs.Common.{refl, sym, ap, ◌∙◌}
 use Rattle.ic_link_ops.proofs.SequenceLemmas.{some_same}
 use Rattle.ic_raw.proofs.Lists.{removed}
+use Rattle.ic_raw.proofs.Own.{taken_out}
 use Rattle.ic_raw.proofs.list.remove.Goals as goal
 
 pub returns-clause-removed : goal.returns-clause-removed
@@ -12,3 +13,6 @@ returns-clause-removed c front back shown =
       removed front c.args.member back (ap (λ g. g.before) gap) (ap (λ g. g.behind) gap) shown off.shows off.extent off.others released.frame,
       released.released.is,
     )
+
+pub returns-clause-own : goal.returns-clause-own
+returns-clause-own c made = taken_out (c.beside.ensures.sides _ c.in-Some.is) c.bypass.ensures.ends

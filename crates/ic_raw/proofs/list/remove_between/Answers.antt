@@ -1,6 +1,7 @@
 use Rattle.std.proofs.Common.{◌∷◌, sym, ap, ◌∙◌}
 use Rattle.ic_raw.proofs.Doubly.{first_kept, last_kept}
 use Rattle.ic_raw.proofs.Lists.{removed}
+use Rattle.ic_raw.proofs.Own.{end_stays}
 use Rattle.ic_raw.proofs.list.remove_between.Goals as goal
 
 pub returns-clause-removed : goal.returns-clause-removed
@@ -32,3 +33,12 @@ returns-clause-before c made = c.between.ensures.before _ c.args.list.now c.in-S
 
 pub returns-clause-behind : goal.returns-clause-behind
 returns-clause-behind c made = c.between.ensures.behind _ c.args.list.now c.in-Some.is
+
+pub returns-clause-own : goal.returns-clause-own
+returns-clause-own c made =
+    let found = c.in-Some.is in
+    let sides = c.between.ensures.sides _ c.args.list.now found in
+    record {
+      head = sym (end_stays _ (sym (ap (λ g. g.before) sides) ∙ (c.between.ensures.prev _ found).1));
+      tail = sym (end_stays _ (sym (ap (λ g. g.behind) sides) ∙ (c.between.ensures.next _ found).1));
+    }

@@ -2,6 +2,7 @@ use Rattle.std.proofs.Common.{◌≡◌, refl, sym, ap, ◌∙◌}
 use Rattle.ic_link_ops.proofs.SequenceLemmas.{some_same}
 use Rattle.ic_raw.proofs.Doubly.{law}
 use Rattle.ic_raw.proofs.Lists.{replaced}
+use Rattle.ic_raw.proofs.Own.{put_in}
 use Rattle.ic_raw.proofs.list.replace.Goals as goal
 
 pub returns-clause-replaced : goal.returns-clause-replaced
@@ -21,3 +22,6 @@ returns-clause-replaced c front back p shown is free' =
 pub returns-clause-free : goal.returns-clause-free
 returns-clause-free c made =
     let taken = c.in-Some-acquire.is in (c.in-Some-acquire.place, c.acquire.ensures.same _ taken, c.acquire.ensures.free _ taken)
+
+pub returns-clause-own : goal.returns-clause-own
+returns-clause-own c made = put_in (c.beside.ensures.sides _ c.in-Some.is) (c.acquire.ensures.same _ c.in-Some-acquire.is) c.replace_linked.ensures.ends

@@ -21,6 +21,7 @@ returns c = record {
       let told = c.pop.ensures.inner _ c.in-Some.is in
       subst (λ at. TellsGap side (table_of c.args.table.now) list at) (sym end)
       (told_back side c.new-links.result list _ c.new-links.ensures.1 (rw (← c.list_of-edited.ensures) told));
+  own = search rules;
   words = search rules;
   refused = search rules;
   why = search rules;

@@ -17,7 +17,7 @@ returns-in-Some c = record {
       let seen : Shows (lent_table c.new-links.result) c.list_of-edited.result (p ∷ back) = rw c.list_of-edited.ensures (viewed no_words kept c.new-links.result view shown) in
       let removed = c.pop_before_second.ensures.removed p _ back c.in-Some.is seen in
       let head = c.first.ensures in
-      let tail = sym (c.pop_before_second.ensures.tail p _ back c.in-Some.is seen ∙ ap (λ (e : Ends). e.tail) c.list_of-edited.ensures) in
+      let tail = sym (c.pop_before_second.ensures.tail _ c.in-Some.is ∙ ap (λ (e : Ends). e.tail) c.list_of-edited.ensures) in
       rw is (record {
         accepted = refl;
         done = (
@@ -34,6 +34,7 @@ returns-in-Some c = record {
   stands = search rules;
   outer = search rules;
   inner = search rules;
+  own = search rules;
   words = search rules;
   refused = search rules;
   why = search rules;

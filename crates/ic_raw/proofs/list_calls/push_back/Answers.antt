@@ -18,7 +18,7 @@ returns-then-push_behind_last c = record {
       let shown : ShowsList c.args.table.now c.args.list.now (join (at_back cut.front)) = rw end at shown' in
       let seen : Shows (lent_table c.new-links.result) c.list_of-edited.result (join (at_back cut.front)) = rw c.list_of-edited.ensures (viewed no_words kept c.new-links.result view shown) in
       let done = c.push_behind_last.ensures.inserted cut.front p c.if-push_behind_last.true seen (c.place_of.ensures ∙ is) in
-      let head = sym (c.push_behind_last.ensures.head cut.front c.if-push_behind_last.true seen ∙ ap (λ (e : Ends). e.head) c.list_of-edited.ensures) in
+      let head = sym (c.push_behind_last.ensures.head c.if-push_behind_last.true ∙ ap (λ (e : Ends). e.head) c.list_of-edited.ensures) in
       let tail = c.last.ensures in
       record {
         accepted = refl;
@@ -29,6 +29,7 @@ returns-then-push_behind_last c = record {
   no_place = search rules;
   stands = search rules;
   told = search rules;
+  own = search rules;
   words = search rules;
   refused = search rules;
   why = search rules;

@@ -1,12 +1,13 @@
-use Rattle.std.proofs.Common.{◌≡◌, Some, None, refl, sym, ◌∙◌, arith}
+use Rattle.std.proofs.Common.{◌≡◌, Some, None, [], refl, sym, ◌∙◌, arith}
 use Rattle.ic_link_ops.specs.Frames.{child_on}
 use Rattle.ic_link_ops.proofs.SequenceLemmas.{none_not}
 use Rattle.ic_rbtree.specs.Descents.{side_of}
 use Rattle.ic_rbtree.proofs.Closed.{in_there}
 use Rattle.ic_rbtree.proofs.Sending.{sent_over}
+use Rattle.ic_raw.specs.Keys.{against}
 use Rattle.ic_raw.specs.Seen.{seen, seen_node, has_place}
 use Rattle.ic_raw.specs.Tree.{lent_table}
-use Rattle.ic_raw.proofs.Keys.{keyed, comes_first, comes_on, comes_to_end, past_within}
+use Rattle.ic_raw.proofs.Keys.{keyed, comes_first, comes_on, comes_to_end, past_within, down_past}
 use Rattle.ic_raw.proofs.Trees.{in_range, has, child_in}
 use Rattle.ic_raw.proofs.search.descend.Goals as goal
 use Rattle.ic_raw.proofs.search.descend.Goals.{then-left+in-Some-left, else-left+in-Some-right}
@@ -17,6 +18,7 @@ loop-init c =
     let top = sym c.in-Some.is ∙ c.root.ensures in
     record {
       each = λ s h. comes_first t c.new-way.ensures top h;
+      down = ([], sym top);
       here = has t (in_range c.args.links.now) c.in-Some.root (c.requires.root c.in-Some.root (sym top));
       ends = rw c.new-way.ensures (tt, (tt, (tt, tt)));
     }
@@ -28,13 +30,23 @@ pub returns-in_default-left-clause-ends : goal.returns-in_default-left-clause-en
 returns-in_default-left-clause-ends c s h =
     let t = lent_table c.args.links.now in
     let next : None ≡ child_on (side_of c.goes_left-left.result) (seen_node ((seen t).entry c.loop.place)) = rw c.if-left.true (sym c.in_default-left.is ∙ c.left.ensures) in
-    comes_to_end t (comes_on t (c.loop.invariant.each s h) {next = None} c.goes_left-left.result c.pass.ensures c.compare_at.ensures c.goes_left-left.ensures next refl) refl
+    (_, refl, comes_to_end t (comes_on t (c.loop.invariant.each s h) {next = None} c.goes_left-left.result c.pass.ensures c.compare_at.ensures c.goes_left-left.ensures next refl) refl)
 
 pub returns-in_default-right-clause-ends : goal.returns-in_default-right-clause-ends
 returns-in_default-right-clause-ends c s h =
     let t = lent_table c.args.links.now in
     let next : None ≡ child_on (side_of c.goes_left-left.result) (seen_node ((seen t).entry c.loop.place)) = rw c.if-left.false (sym c.in_default-right.is ∙ c.right.ensures) in
-    comes_to_end t (comes_on t (c.loop.invariant.each s h) {next = None} c.goes_left-left.result c.pass.ensures c.compare_at.ensures c.goes_left-left.ensures next refl) refl
+    (_, refl, comes_to_end t (comes_on t (c.loop.invariant.each s h) {next = None} c.goes_left-left.result c.pass.ensures c.compare_at.ensures c.goes_left-left.ensures next refl) refl)
+
+pub returns-in_default-left-clause-down : goal.returns-in_default-left-clause-down
+returns-in_default-left-clause-down c some =
+    let t = lent_table c.args.links.now in
+    down_past (seen t) (against c.args.key c.args.keys.now) c.args.equals c.loop.invariant.down c.goes_left-left.ensures c.compare_at.ensures (rw c.if-left.true (sym c.in_default-left.is ∙ c.left.ensures))
+
+pub returns-in_default-right-clause-down : goal.returns-in_default-right-clause-down
+returns-in_default-right-clause-down c some =
+    let t = lent_table c.args.links.now in
+    down_past (seen t) (against c.args.key c.args.keys.now) c.args.equals c.loop.invariant.down c.goes_left-left.ensures c.compare_at.ensures (rw c.if-left.false (sym c.in_default-right.is ∙ c.right.ensures))
 
 pub loop-preserved : goal.loop-preserved
 loop-preserved c =
@@ -45,6 +57,7 @@ loop-preserved c =
     ] in
     record {
       each = λ s h. comes_on t (c.loop.invariant.each s h) c.goes_left-left.result c.pass.ensures c.compare_at.ensures c.goes_left-left.ensures next refl;
+      down = down_past (seen t) (against c.args.key c.args.keys.now) c.args.equals c.loop.invariant.down c.goes_left-left.ensures c.compare_at.ensures next;
       here = in_there (has_place t) (child_in t (side_of c.goes_left-left.result) c.loop.place) (sym next);
       ends = rw c.pass.ensures (past_within (has_place t) c.loop.way c.loop.place c.goes_left-left.result c.loop.invariant.here c.loop.invariant.ends);
     }
@@ -53,6 +66,3 @@ pub returns-clause-ends : goal.returns-clause-ends
 returns-clause-ends c s h =
     let x = c.loop.invariant.each s h in
     absurd (none_not c.loop.place (sym (sent_over seen_node x.sent h refl (omega (arith, c.loop-test.false, x.sent.counted)))))
-
-pub returns-clause-within : goal.returns-clause-within
-returns-clause-within c = rw c.new.ensures (tt, (tt, (tt, tt)))

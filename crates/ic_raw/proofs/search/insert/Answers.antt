@@ -1,38 +1,50 @@
 use Rattle.std.proofs.Common.{◌≡◌, slice_index, refl, sym, ap, ◌∙◌}
 use Rattle.ic_unsafe_ref.specs.Places.{index_of}
+use Rattle.ic_link_ops.specs.declared.side.Side.TheVariants.{Right}
 use Rattle.ic_link_ops.proofs.SequenceLemmas.{some_same}
 use Rattle.ic_rbtree.proofs.Closed.{read_in}
-use Rattle.ic_raw.specs.Keys.{key_of}
+use Rattle.ic_raw.specs.Keys.{against, key_of}
 use Rattle.ic_raw.specs.Seen.{has_place}
 use Rattle.ic_raw.specs.Tree.{lent_table}
 use Rattle.ic_raw.proofs.Gaps.{never}
-use Rattle.ic_raw.proofs.Keys.{fits}
-use Rattle.ic_raw.proofs.Trees.{in_range, end_in}
+use Rattle.ic_raw.proofs.Keys.{fits, ends_at}
+use Rattle.ic_raw.proofs.Trees.{in_range, end_in, seen_shows}
 use Rattle.ic_raw.proofs.search.insert.Goals as goal
 
 pub returns-then-not-is_searchable-clause-inserted : goal.returns-then-not-is_searchable-clause-inserted
 returns-then-not-is_searchable-clause-inserted c s p shown is enough free = absurd (never c.if-not-is_searchable.true (c.is_searchable.ensures.shown s shown enough))
 
+pub returns-in_default-descend-clause-inserted : goal.returns-in_default-descend-clause-inserted
+returns-in_default-descend-clause-inserted c s p shown is enough free =
+    let ends = c.descend.ensures.ends s (seen_shows (lent_table c.args.links.now) (in_range c.args.links.now) shown) in
+    absurd (c.in_default-descend.not-Some ends.0 ends.1)
+
 pub is_open-requires : goal.is_open-requires
-is_open-requires c = c.descend-way.ensures.within.0
+is_open-requires c =
+    let within = rw c.in-Some-descend.is at c.descend.ensures.within in within.0
 
 pub returns-then-not-is_open-clause-inserted : goal.returns-then-not-is_open-clause-inserted
 returns-then-not-is_open-clause-inserted c s p shown is enough free =
-    let f = fits (lent_table c.args.links.now) (in_range c.args.links.now) c.descend-way.result shown refl c.descend-way.ensures.ends in
+    let at = against (slice_index c.args.keys.now c.index.result) c.args.keys.now in
+    let f = fits (lent_table c.args.links.now) (in_range c.args.links.now) {at = at} c.in-Some-descend.way shown refl
+    (λ s h. ends_at h.tree at {equals = Right} (c.descend.ensures.ends s h) c.in-Some-descend.is refl) in
     absurd (never c.if-not-is_open.true (c.is_open.ensures f.gap f.shown f.hole))
 
 pub put-requires : goal.put-requires
 put-requires c =
     let t = lent_table c.args.links.now in
     let root = end_in t (in_range c.args.links.now) _ (c.is_searchable.ensures.root c.if-not-is_searchable.false) in
-    (read_in (has_place t) c.descend-way.ensures.within.0 c.get.ensures, (root, tt))
+    let within = rw c.in-Some-descend.is at c.descend.ensures.within in
+    (read_in (has_place t) within.0 c.get.ensures, (root, tt))
 
 pub returns-clause-inserted : goal.returns-clause-inserted
 returns-clause-inserted c s p shown is enough free =
     let keys = c.args.keys.now in
     let one : p ≡ c.in-Some.own = some_same (sym is ∙ c.in-Some.is) in
     let key : slice_index keys c.index.result ≡ key_of keys p = ap (λ i. slice_index keys i) (c.index.ensures.value ∙ sym (ap index_of one)) in
-    let f = fits (lent_table c.args.links.now) (in_range c.args.links.now) c.descend-way.result shown c.get.ensures c.descend-way.ensures.ends in
+    let at = against (slice_index c.args.keys.now c.index.result) c.args.keys.now in
+    let f = fits (lent_table c.args.links.now) (in_range c.args.links.now) {at = at} c.in-Some-descend.way shown c.get.ensures
+    (λ s h. ends_at h.tree at {equals = Right} (c.descend.ensures.ends s h) c.in-Some-descend.is refl) in
     let put = c.put.ensures.inserted f.gap p f.shown f.hole (sym c.in-Some.is ∙ is) free in
     rw (← key) (put.0, record { gap = f.gap; same = f.same; border = f.border; inserted = put.1 })
 

@@ -1,5 +1,6 @@
-use Rattle.std.proofs.Common.{[], refl, ◌∙◌}
-use Rattle.ic_raw.specs.Keys.{against}
+use Rattle.std.proofs.Common.{[], Some, refl, sym, ap, subst, ◌∙◌}
+use Rattle.ic_link_ops.proofs.SequenceLemmas.{some_same}
+use Rattle.ic_raw.specs.Keys.{against, IsTarget}
 use Rattle.ic_raw.proofs.Gaps.{never}
 use Rattle.ic_raw.proofs.Faults.{by_others}
 use Rattle.ic_raw.proofs.Keys.{target_stands, enough}
@@ -8,14 +9,25 @@ use Rattle.ic_raw.proofs.search.look.Goals as goal
 pub returns-then-not-is_searchable-clause-found : goal.returns-then-not-is_searchable-clause-found
 returns-then-not-is_searchable-clause-found c s shown enough = absurd (never c.if-not-is_searchable.true (c.is_searchable.ensures.shown s shown enough))
 
+pub returns-in_default-clause-found : goal.returns-in_default-clause-found
+returns-in_default-clause-found c s shown enough =
+    let found = c.find.ensures.found s shown in absurd (c.in_default.not-Some found.0 found.1)
+
+pub hand_out-requires : goal.hand_out-requires
+hand_out-requires c = rw c.in-Some.is at c.find.ensures.within
+
 pub returns-clause-found : goal.returns-clause-found
 returns-clause-found c s shown enough =
-    let is = c.find-member.ensures.found s shown in
-    (c.find-member.result, is, c.hand_out.ensures.found (target_stands c.args.target (against c.args.key c.args.keys.now) shown is))
+    let at = against c.args.key c.args.keys.now in
+    let found = c.find.ensures.found s shown in
+    let is = subst (IsTarget c.args.target at s) (some_same (sym found.1 ∙ c.in-Some.is)) found.2 in
+    (c.in-Some.member, is, c.hand_out.ensures.found (target_stands c.args.target at shown is))
+
+pub returns-clause-key : goal.returns-clause-key
+returns-clause-key c equal ok =
+    let told = c.hand_out.ensures.told ok in
+    (told.0, c.find.ensures.equal equal told.0 (c.in-Some.is ∙ ap Some told.1), told.2)
 
 pub returns-clause-why : goal.returns-clause-why
 returns-clause-why c made found =
     c.hand_out.ensures.why made found ∙ by_others [] (enough c.args.keys.now _ (c.is_searchable.ensures.keys c.if-not-is_searchable.false)) refl
-
-pub hand_out-requires : goal.hand_out-requires
-hand_out-requires c = c.find-member.ensures.within

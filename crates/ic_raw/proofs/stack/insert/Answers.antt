@@ -20,3 +20,7 @@ returns-clause-free c made =
     let place = c.in-Some-acquire.place in
     let is = c.in-Some-acquire.is in
     (place, c.acquire.ensures.same place is, c.acquire.ensures.free place is)
+
+pub returns-clause-own : goal.returns-clause-own
+returns-clause-own c made =
+    rw (← ap (λ g. g.before) (c.gap_after.ensures.is _ c.in-Some.is), c.acquire.ensures.same _ c.in-Some-acquire.is) c.insert_linked.ensures.ends.head

@@ -9,3 +9,6 @@ returns-clause-removed c front back shown after =
     let off = c.bypass.ensures in
     let released = c.release_link.ensures in
     (removed front c.args.member back after behind shown off.shows off.extent off.others released.frame, released.released.is)
+
+pub returns-clause-own : goal.returns-clause-own
+returns-clause-own c = rw (← c.next-behind.ensures) c.bypass.ensures.ends.head

@@ -21,3 +21,6 @@ returns-clause-replaced c front back p shown after is free =
 pub returns-clause-free : goal.returns-clause-free
 returns-clause-free c made =
     (c.in-Some.place, c.acquire.ensures.same c.in-Some.place c.in-Some.is, c.acquire.ensures.free c.in-Some.place c.in-Some.is)
+
+pub returns-clause-own : goal.returns-clause-own
+returns-clause-own c made = rw (c.acquire.ensures.same _ c.in-Some.is) c.replace_linked.ensures.ends.head

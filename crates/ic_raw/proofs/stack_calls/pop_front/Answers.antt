@@ -1,10 +1,12 @@
-use Rattle.std.proofs.Common.{◌≡◌, [], ◌∷◌, refl, sym, ap, subst, ◌∙◌, rules}
+use Rattle.std.proofs.Common.{◌≡◌, Option, None, [], ◌∷◌, refl, sym, ap, subst, ◌∙◌, rules}
+use Rattle.ic_unsafe_ref.specs.declared.place.Place.{Place}
 use Rattle.ic_link_ops.proofs.SequenceLemmas.{some_same}
 use Rattle.ic_link_ops.specs.SinglyLinkedList.{Front}
 use Rattle.ic_raw.specs.Words.{no_word, is_linked_one, HasNumber}
 use Rattle.ic_raw.specs.Singly.{Shows, lent_table}
 use Rattle.ic_raw.proofs.Views.{viewed, removed_back, unlinked_back}
 use Rattle.ic_raw.proofs.Lists.{kept}
+use Rattle.ic_raw.proofs.Own.{front_left}
 use Rattle.ic_raw.proofs.stack_calls.pop_front.Goals as goal
 
 pub returns-then-is_linked : goal.returns-then-is_linked
@@ -28,6 +30,10 @@ returns-then-is_linked c = record {
       subst (λ q. HasNumber q c.number_of.result) (some_same (first ∙ is)) c.number_of.ensures;
   null = search rules;
   stands = search rules;
+  own = λ made.
+      let first = sym c.in-Some.is ∙ c.first.ensures ∙ ap (λ (l : Front). l.head) c.stack_of-edited.ensures in
+      let front : ◌≡◌ {A = Option Place} None None = refl in
+      front_left c.new-links.result c.args.list.now c.write_back.new.words c.new-links.ensures.1 c.stack_of-edited.ensures c.write_back.ensures.set front (sym first) c.remove.ensures.own;
   words = search rules;
   refused = search rules;
   why = search rules;

@@ -8,6 +8,7 @@ returns c = record {
   handed = λ p is made. (rw none_named at c.remove_after.ensures.handed) p is made;
   null = let null = rw none_named at c.remove_after.ensures.null in ((λ e. (null.0 e).1), (λ e. null.1 (refl, e)));
   stands = λ made. rw none_named at (c.remove_after.ensures.told made);
+  own = λ made. rw none_named at (c.remove_after.ensures.own made);
   words = search rules;
   refused = search rules;
   why = λ refused other. rw none_named at (c.remove_after.ensures.why refused other);

@@ -7,6 +7,7 @@ use Rattle.ic_raw.specs.Singly.{Shows, lent_table}
 use Rattle.ic_raw.proofs.Views.{viewed, removed_back, unlinked_back}
 use Rattle.ic_raw.proofs.Lists.{kept}
 use Rattle.ic_raw.proofs.Singly.{behind_told, gap_viewed}
+use Rattle.ic_raw.proofs.Own.{front_left}
 use Rattle.ic_raw.proofs.stack_calls.remove_after.Goals as goal
 
 pub returns-in_default : goal.returns-in_default
@@ -23,6 +24,7 @@ returns-in_default c = record {
   null = search rules;
   stands = search rules;
   told = search rules;
+  own = search rules;
   words = search rules;
   refused = search rules;
   why = search rules;
@@ -40,6 +42,7 @@ returns-in_default-behind c = record {
   null = search rules;
   stands = search rules;
   told = search rules;
+  own = search rules;
   words = search rules;
   refused = search rules;
   why = search rules;
@@ -73,6 +76,11 @@ returns c = record {
   null = search rules;
   stands = search rules;
   told = search rules;
+  own = λ made.
+      let view = c.new-links.ensures.1 in
+      let there = behind_told c.new-links.result c.args.list.now view c.stack_of-edited.ensures c.place_of.ensures (c.gap_after.ensures.is _ c.in-Some.is) c.in-Some-behind.is in
+      let at = ap (λ g. g.before) (c.gap_after.ensures.is _ c.in-Some.is) ∙ c.place_of.ensures in
+      front_left c.new-links.result c.args.list.now c.write_back.new.words view c.stack_of-edited.ensures c.write_back.ensures.set at there c.remove.ensures.own;
   words = search rules;
   refused = search rules;
   why = search rules;

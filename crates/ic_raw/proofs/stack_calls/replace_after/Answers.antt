@@ -8,6 +8,7 @@ use Rattle.ic_raw.proofs.Gaps.{never}
 use Rattle.ic_raw.proofs.Views.{free_viewed, viewed, replaced_back, unlinked_back}
 use Rattle.ic_raw.proofs.Lists.{kept}
 use Rattle.ic_raw.proofs.Singly.{behind_told, gap_viewed}
+use Rattle.ic_raw.proofs.Own.{front_put}
 use Rattle.ic_raw.proofs.stack_calls.replace_after.Goals as goal
 
 pub returns-in_default : goal.returns-in_default
@@ -26,6 +27,7 @@ returns-in_default c = record {
   null = search rules;
   stands = search rules;
   told = search rules;
+  own = search rules;
   words = search rules;
   refused = search rules;
   why = search rules;
@@ -45,6 +47,7 @@ returns-in_default-behind c = record {
   null = search rules;
   stands = search rules;
   told = search rules;
+  own = search rules;
   words = search rules;
   refused = search rules;
   why = search rules;
@@ -72,6 +75,7 @@ returns-then-not-replace c = record {
   null = search rules;
   stands = search rules;
   told = search rules;
+  own = search rules;
   words = search rules;
   refused = search rules;
   why = search rules;
@@ -108,6 +112,9 @@ returns c = record {
   null = search rules;
   stands = search rules;
   told = search rules;
+  own = λ made.
+      let at = ap (λ g. g.before) (c.gap_after.ensures.is _ c.in-Some.is) ∙ c.place_of.ensures in
+      front_put c.new-links.result c.args.list.now c.write_back.new.words c.new-links.ensures.1 c.stack_of-edited.ensures c.write_back.ensures.set at c.place_of-2.ensures (c.replace.ensures.own c.if-not-replace.false);
   words = search rules;
   refused = search rules;
   why = search rules;

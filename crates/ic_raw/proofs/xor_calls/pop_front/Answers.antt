@@ -16,7 +16,7 @@ returns-in-Some c = record {
       let seen : Shows (lent_table c.new-links.result) c.list_of-edited.result (p ∷ s) = rw c.list_of-edited.ensures (viewed no_word kept c.new-links.result view shown) in
       let removed = c.pop_before_others.ensures.removed p _ s c.in-Some.is seen in
       let head = c.first.ensures in
-      let tail = sym (c.pop_before_others.ensures.tail p _ s c.in-Some.is seen ∙ ap (λ (e : Ends). e.tail) c.list_of-edited.ensures) in
+      let tail = sym (c.pop_before_others.ensures.tail _ c.in-Some.is ∙ ap (λ (e : Ends). e.tail) c.list_of-edited.ensures) in
       rw is (record {
         accepted = refl;
         done = (
@@ -34,6 +34,7 @@ returns-in-Some c = record {
   told = λ made p is.
       let first = sym (c.pop_before_others.ensures.first _ c.in-Some.is) ∙ ap (λ (e : Ends). e.head) c.list_of-edited.ensures ∙ is in
       rw (← c.new-links.ensures.1) (rw c.list_of-edited.ensures at (c.pop_before_others.ensures.told _ c.in-Some.is p first));
+  own = search rules;
   words = search rules;
   refused = search rules;
   why = search rules;

@@ -2,6 +2,7 @@ use Rattle.std.proofs.Common.{◌≡◌, refl, sym, ◌∙◌}
 use Rattle.ic_link_ops.proofs.SequenceLemmas.{some_same}
 use Rattle.ic_link_ops.proofs.XorLists.{joined_linked}
 use Rattle.ic_raw.proofs.Lists.{inserted}
+use Rattle.ic_raw.proofs.Own.{put_in}
 use Rattle.ic_raw.proofs.xor_list.insert.Goals as goal
 
 pub returns-clause-inserted : goal.returns-clause-inserted
@@ -16,3 +17,6 @@ returns-clause-inserted c cut p shown after behind is free' =
 
 pub returns-clause-free : goal.returns-clause-free
 returns-clause-free c made = let taken = c.in-Some.is in (c.in-Some.place, c.acquire.ensures.same _ taken, c.acquire.ensures.free _ taken)
+
+pub returns-clause-own : goal.returns-clause-own
+returns-clause-own c made = put_in refl (c.acquire.ensures.same _ c.in-Some.is) c.insert_linked.ensures.ends

@@ -1,8 +1,11 @@
-use Rattle.std.proofs.Common.{◌≡◌, [], refl, sym, ◌∙◌}
+use Rattle.std.proofs.Common.{◌≡◌, [], refl, sym, ◌∙◌, Some, None, subst}
 use Rattle.ic_link_ops.proofs.SequenceLemmas.{some_same}
-use Rattle.ic_raw.proofs.Doubly.{last_kept}
 use Rattle.ic_raw.proofs.Lists.{removed}
 use Rattle.ic_raw.proofs.Xor.{next_shown}
+use Rattle.ic_raw.specs.Gaps.{TakenOut, gap_between}
+use Rattle.ic_raw.specs.Singly.{lent_table}
+use Rattle.ic_raw.specs.Xor.{beyond}
+use Rattle.ic_raw.proofs.Own.{sides_are, taken_out}
 use Rattle.ic_raw.proofs.xor_list.pop_before_others.Goals as goal
 
 pub returns-clause-removed : goal.returns-clause-removed
@@ -18,8 +21,9 @@ returns-clause-removed c p q s some shown' =
     )
 
 pub returns-clause-tail : goal.returns-clause-tail
-returns-clause-tail c p q s some shown' =
-    let one : p ≡ c.in-Some.first = sym (some_same (sym c.in-Some.is ∙ c.first.ensures ∙ shown'.head)) in
-    let shown = rw one at shown' in
-    let behind = sym c.in-Some-next.is ∙ c.next.ensures ∙ next_shown [] c.in-Some.first s shown refl in
-    (c.bypass.ensures.shows [] s shown refl behind).tail ∙ sym (shown.tail ∙ last_kept [] c.in-Some.first s behind)
+returns-clause-tail c q is = c.bypass.ensures.ends.tail _ refl
+
+pub returns-clause-own : goal.returns-clause-own
+returns-clause-own c q is =
+    subst (λ p. TakenOut (gap_between None (beyond (lent_table c.args.links.now) (Some p) None)) c.args.list.now c.bypass.new.self) (some_same is)
+    (taken_out (sides_are refl (sym c.in-Some-next.is ∙ c.next.ensures)) c.bypass.ensures.ends)

@@ -4,6 +4,7 @@ use Rattle.ic_link_ops.proofs.XorLists.{joined_linked}
 use Rattle.ic_raw.proofs.Gaps.{never}
 use Rattle.ic_raw.proofs.Lists.{replaced}
 use Rattle.ic_raw.proofs.Xor.{member_linked, next_shown}
+use Rattle.ic_raw.proofs.Own.{put_in, sides_are}
 use Rattle.ic_raw.proofs.xor_list.replace.Goals as goal
 
 pub returns-then-not-is_linked-clause-replaced : goal.returns-then-not-is_linked-clause-replaced
@@ -31,3 +32,6 @@ returns-clause-replaced c front back p shown before is free' =
 
 pub returns-clause-free : goal.returns-clause-free
 returns-clause-free c made = let taken = c.in-Some.is in (c.in-Some.place, c.acquire.ensures.same _ taken, c.acquire.ensures.free _ taken)
+
+pub returns-clause-own : goal.returns-clause-own
+returns-clause-own c made = put_in (sides_are refl c.next-behind.ensures) (c.acquire.ensures.same _ c.in-Some.is) c.replace_linked.ensures.ends

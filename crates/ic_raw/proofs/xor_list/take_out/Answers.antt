@@ -1,5 +1,6 @@
 use Rattle.std.proofs.Common.{refl}
 use Rattle.ic_raw.proofs.Lists.{removed}
+use Rattle.ic_raw.proofs.Own.{taken_out}
 use Rattle.ic_raw.proofs.xor_list.take_out.Goals as goal
 
 pub returns-clause-removed : goal.returns-clause-removed
@@ -7,3 +8,6 @@ returns-clause-removed c front back shown before behind =
     let off = c.bypass.ensures in
     let released = c.release_link.ensures in
     (refl, removed front c.args.member back before behind shown off.shows off.extent off.others released.frame, released.released.is)
+
+pub returns-clause-own : goal.returns-clause-own
+returns-clause-own c made = taken_out refl c.bypass.ensures.ends

@@ -1,0 +1,83 @@
+-- What an edit says of a list's own ends.
+use Rattle.std.proofs.Common.{◌≡◌, ◌≢◌, ◌↔◌, Option, Some, None, List, refl, sym, ap, subst, ◌∙◌}
+use Rattle.ic_unsafe_ref.specs.declared.place.Place.{Place}
+use Rattle.ic_link_ops.specs.Chains.{Ends, TurnsEnds, end_of}
+use Rattle.ic_link_ops.specs.SinglyLinkedList.{Front}
+use Rattle.ic_link_ops.specs.Tables.{Table}
+use Rattle.ic_link_ops.proofs.SequenceLemmas.{none_not, some_same}
+use Rattle.ic_raw.specs.declared.gap.Gap.{Gap}
+use Rattle.ic_raw.specs.declared.table.RawTable.{RawTable}
+use Rattle.ic_raw.specs.declared.words.RawFront.{RawFront}
+use Rattle.ic_raw.specs.declared.words.RawOne.{RawOne}
+use Rattle.ic_raw.specs.Gaps.{PutIn, TakenOut, gap_between}
+use Rattle.ic_raw.specs.Singly.{LosesFront, front_of, lent_table, list_of, next_from, table_of}
+use Rattle.ic_raw.specs.Tables.{raw_entries}
+
+-- a gap by its two sides
+pub sides_are : {a b c d : Option Place} → a ≡ c → b ≡ d → gap_between a b ≡ gap_between c d
+sides_are e f = λ k. record { before = e k; behind = f k }
+
+-- an end on the side of a member stays
+pub end_stays : {at end : Option Place} (fresh : Option Place) {q : Place} → at ≡ Some q → end_of at fresh end ≡ end
+end_stays {end} fresh is = ap (λ a. end_of a fresh end) is
+
+-- of a list that keeps both ends, at a gap that was found
+module _ {old new : Ends} {found gap : Gap} (same : found ≡ gap) where
+  pub put_in : {place : Option Place} {p : Place} → place ≡ Some p → TurnsEnds (λ last. last) old new found.before found.behind (Some p) (Some p) → PutIn gap place old new
+  put_in is turns = rw (← same, is) (record { head = turns.head; tail = turns.tail _ refl })
+
+  pub taken_out : TurnsEnds (λ last. last) old new found.before found.behind found.behind found.before → TakenOut gap old new
+  taken_out turns = rw (← same) (record { head = turns.head; tail = turns.tail _ refl })
+
+-- nothing stands in front of the first member of a chain alone: so a walk along it knows whether it has left the front
+pub record IsPast (front current before : Option Place) (member : Place) : Type 0 where
+  pub first : before ≡ None → current ≡ front
+  pub apart : (q : Place) → before ≡ Some q → front ≢ Some member
+
+pub past_none : (front : Option Place) (member : Place) → IsPast front front None member
+past_none front member = record { first = λ none. refl; apart = λ q none. absurd (none_not q none) }
+
+module _ {front current : Option Place} {place member : Place} (is : current ≡ Some place) where
+  pub goes_past : (before : Option Place) → IsPast front current before member → place ≢ member → (next : Option Place) → IsPast front next (Some place) member
+  goes_past before past other next = record { first = λ some. absurd (none_not place (sym some)); apart = λ q some. away before past } where
+    away : (b : Option Place) → IsPast front current b member → front ≢ Some member
+    away None k e = other (some_same (sym is ∙ k.first refl ∙ e))
+    away (Some r) k e = k.apart r refl e
+
+  pub is_first : (before : Option Place) → IsPast front current before member → place ≡ member → (before ≡ None) ↔ (front ≡ Some member)
+  is_first None past same = ((λ none. sym (past.first refl) ∙ is ∙ ap (λ p. Some p) same), (λ e. refl))
+  is_first (Some r) past same = ((λ some. absurd (none_not r (sym some))), (λ e. absurd (past.apart r refl e)))
+
+-- the front of a list that a member left, by what stood in front of it
+pub loses_front : {t : Table RawOne} {member : Place} {old new : Front} (b : Option Place) → (b ≡ None) ↔ (old.head ≡ Some member)
+    → new.head ≡ end_of b (next_from t old (Some member)) old.head → LosesFront t (Some member) old new
+loses_front None first is = record { first = λ e. is; other = λ away. absurd (away (first.0 refl)) }
+loses_front (Some q) first is = record { first = λ e. absurd (none_not q (sym (first.1 e))); other = λ away. is }
+
+-- what the words say of a singly linked list's own front, by what a view of them says
+module _ (t : RawTable RawOne) (list list' : RawFront) {es : List RawOne} {edited new : Front} (view : raw_entries t ≡ es) (read : edited ≡ list_of list)
+    (written : front_of list' ≡ new.head) where
+  -- that stays, or is what stood behind the member that left
+  pub front_left : {before at : Option Place} {member : Place} → before ≡ at → next_from (table_of es) (list_of list) at ≡ Some member
+      → new.head ≡ end_of before (next_from (lent_table t) edited (Some member)) edited.head
+      → front_of list' ≡ end_of at (next_from (table_of es) (list_of list) (next_from (table_of es) (list_of list) at)) (front_of list)
+  front_left {member} named there own =
+      let seen : next_from (lent_table t) edited (Some member) ≡ next_from (table_of es) (list_of list) (Some member) =
+      ap (λ es. next_from (table_of es) (list_of list) (Some member)) view in
+      let behind = seen ∙ ap (λ at. next_from (table_of es) (list_of list) at) (sym there) in
+      written ∙ own ∙ (λ k. end_of (named k) (behind k) (read k).head)
+
+  -- or is the place that was put in
+  pub front_put : {before at place named : Option Place} → before ≡ at → named ≡ place → new.head ≡ end_of before named edited.head
+      → front_of list' ≡ end_of at place (front_of list)
+  front_put behind is own = written ∙ own ∙ (λ k. end_of (behind k) (is k) (read k).head)
+
+  -- or what stood behind the member that left, if that was the first
+  pub front_lost : {member : Place} {first : Option Place} (before : Option Place) → first ≡ edited.head → (before ≡ None) ↔ (first ≡ Some member)
+      → new.head ≡ end_of before (next_from (lent_table t) edited (Some member)) edited.head → LosesFront (table_of es) (Some member) (list_of list) (list_of list')
+  front_lost {member} before is tells own =
+      let seen : next_from (lent_table t) edited (Some member) ≡ next_from (table_of es) (list_of list) (Some member) =
+      ap (λ es. next_from (table_of es) (list_of list) (Some member)) view in
+      let front = is ∙ ap (λ (l : Front). l.head) read in
+      loses_front {old = list_of list} {new = list_of list'} before (subst (λ f. (before ≡ None) ↔ (f ≡ Some member)) front tells)
+      (written ∙ own ∙ (λ k. end_of before (seen k) (read k).head))
