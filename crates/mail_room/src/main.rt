@@ -49,18 +49,23 @@ fn asked(rt: &impl Env) -> Option<Request>
 
 // Lets them send, and prints what came.
 fn run<R: Print + AllocGlobal + Threads + Sync>(rt: &R, asked: Request) -> io::Result<()>
-    requires { asked.senders ≤ 64 }
+    requires senders { asked.senders ≤ 64 }
+    requires places { asked.places ≤ 100000 }
 {
     let Request { senders, places } = asked;
     let Ok(came) = deliver(rt, rt.alloc(), senders, places) else {
         return Err(io::Error::from(io::ErrorKind::OutOfMemory));
     };
     let in_order = tally::in_order(rt.alloc(), senders, places, &came)?;
-    let sent = senders.wrapping_mul(places);
+    let sent = senders * places;
+    let all_came = came.len() == sent;
+    let all_in_order = in_order == sent;
+    prove!(all_came); // as `deliver` says
+    prove!(all_in_order);
     println!(rt; "sent {sent}")?;
     println!(rt; "came {}", came.len())?;
-    println!(rt; "out of order {}", came.len().wrapping_sub(in_order))?;
-    println!(rt; "lost {}", sent.wrapping_sub(in_order))
+    println!(rt; "out of order {}", came.len() - in_order)?;
+    println!(rt; "lost {}", sent - in_order)
 }
 
 fn main(rt: HostRuntime) -> ExitCode {

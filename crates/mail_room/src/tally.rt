@@ -1,6 +1,8 @@
 //! How many places came in their sender's turn.
 
-ghost use Rattle.std.specs.Prelude.{◌≤◌, IfOk, length};
+ghost use Rattle.std.specs.Prelude.{◌≡◌, ◌≤◌, ◌+◌, ◌/◌, ◌%◌, IfOk, length, set};
+ghost use Rattle.std.specs.Bool.{OnTrue, OnFalse};
+ghost use Rattle.mail_room.specs.Tally.{in_order_of, IsNext};
 
 use ic_unsafe_ref::Place;
 use std::alloc::{AllocError, Allocator};
@@ -15,28 +17,33 @@ pub fn in_order<A: Allocator>(
     places: usize,
     came: &[Place],
 ) -> Result<usize, AllocError>
-    ensures { IfOk result (λ count. count ≤ length came.now) }
+    ensures counted { IfOk result (λ count. count ≡ in_order_of senders places came.now) }
+    ensures few { IfOk result (λ count. count ≤ length came.now) }
 {
-    let mut next = Vec::new(alloc);
-    for number in 0..senders {
-        next.push(number.wrapping_mul(places))?;
-    }
+    let mut numbers = vec![in alloc; 0; senders]?;
     let mut count = 0;
     for place in came {
-        if places > 0 && is_next(&mut next, place.index() / places, place.index()) {
+        if is_next(&mut numbers, places, place.index()) {
             count += 1;
         }
     }
     Ok(count)
 }
 
-// Whether this index is the next one of the sender of that number, whose next one is then one more.
-fn is_next(next: &mut [usize], sender: usize, index: usize) -> bool {
-    match next.get_mut(sender) {
-        Some(wanted) if *wanted == index => {
-            *wanted = index.wrapping_add(1);
-            true
-        }
-        _ => false,
+// Whether the place with this index is the next of its sender, of which one more has come in order then.
+fn is_next<A: Allocator>(numbers: &mut Vec<usize, A>, places: usize, index: usize) -> bool
+    ensures next { OnTrue result (IsNext numbers.old.items places index) }
+    ensures counted { OnTrue result (numbers.new.items ≡ set numbers.old.items (index / places) (index % places + 1)) }
+    ensures other { OnFalse result (IsNext numbers.old.items places index → ⊥) }
+    ensures same { OnFalse result (numbers.new.items ≡ numbers.old.items) }
+{
+    if places == 0 {
+        return false;
     }
+    let sender = index / places;
+    if sender >= numbers.len() || numbers[sender] != index % places {
+        return false;
+    }
+    numbers[sender] += 1;
+    true
 }

@@ -3,7 +3,6 @@ use Rattle.std.proofs.Common.{◌≡◌, ℕ, ◌+◌, ◌<◌, Bool, true, fals
 use Rattle.std.specs.Prelude.{IfSome, IfNone}
 use Rattle.std.specs.Bool.{OnTrue, OnFalse}
 use Rattle.std.proofs.lemmas.List.{reverse-append}
-use Rattle.std.proofs.lemmas.Option.{same_Some}
 use Rattle.ic_unsafe_ref.specs.declared.place.Place.{Place}
 use Rattle.ic_unsafe_ref.specs.Places.{index_of}
 use Rattle.ic_lock_free_stack.specs.declared.step.Step.{Step}
@@ -112,10 +111,6 @@ on_true false x = tt
 pub on_false : {X : Type 0} (b : Bool) → X → OnFalse b X
 on_false true x = tt
 on_false false x = x
-
-pub if_own : {X : Type 0} (r : Option Place) (p : Place) → r ≡ Some p → X → IfSome r (λ q. (q ≡ p) × X)
-if_own (Some q) p e x = (same_Some q p e, x)
-if_own None p e x = tt
 
 pub map_some : {P Q : Place → Type 0} (r : Option Place) → ((p : Place) → P p → Q p) → IfSome r P → IfSome r Q
 map_some (Some p) f x = f p x

@@ -11,11 +11,11 @@
 //!
 //! The owner takes from a chain of its own, by one load a place. Only where that is empty it takes, by one swap, all that was freed.
 
-ghost use Rattle.std.specs.Prelude.{◌≡◌, ◌<◌, ◌≤◌, ◌+◌, ℕ, true, false, [], ◌∷◌, reverse, List, IfSome, IfNone};
+ghost use Rattle.std.specs.Prelude.{◌≡◌, ◌<◌, ◌≤◌, ◌+◌, ℕ, true, false, [], ◌∷◌, reverse, List, Some, IfSome, IfNone};
 ghost use Rattle.std.specs.Bool.{OnTrue, OnFalse};
 ghost use Rattle.ic_unsafe_ref.specs.declared.place.Place.{Place};
 ghost use Rattle.ic_unsafe_ref.specs.Places.{index_of};
-ghost use Rattle.ic_lock_free_stack.specs.declared.step.Step.TheVariants.{Push};
+ghost use Rattle.ic_lock_free_stack.specs.declared.step.Step.TheVariants.{Push, TakeAll};
 ghost use Rattle.ic_lock_free_stack.specs.Moments.{is_in};
 ghost use Rattle.ic_lock_free_stack.specs.Records.{holds, most_steps, GivesUp};
 ghost use Rattle.ic_lock_free_stack.specs.Holders.{places_of, stacks_of, record_of, spent_by, Steps, IsOf, HasChain};
@@ -108,8 +108,9 @@ impl Owner {
         ensures kept { (s : List Place) × HasFree stacks.now self.new s }
         ensures some { IfSome result (λ p. (t : List Place) × HasFree stacks.now self.new t × (is_in p t ≡ false)
             × (index_of p < places_of stacks.now) × (holds p (record_of (user_of self.new)) ≡ true)) }
-        ensures own { (p : Place) (t : List Place) → HasFree stacks.now self.old (p ∷ t) → IfSome result (λ q. (q ≡ p) × HasFree stacks.now self.new t) }
+        ensures own { (p : Place) (t : List Place) → HasFree stacks.now self.old (p ∷ t) → (result ≡ Some p) × HasFree stacks.now self.new t }
         ensures none { IfNone result (HasFree stacks.now self.new []) }
+        ensures empty { IfNone result (Steps (user_of self.old) (user_of self.new) (TakeAll (stack_of self.old) [])) }
         ensures stack { stack_of self.new ≡ stack_of self.old }
         ensures spent { spent_by (user_of self.new) ≤ spent_by (user_of self.old) + 1 }
     {
@@ -123,6 +124,8 @@ impl Owner {
         requires room { spent_by (user_of self.old) < most_steps }
         ensures kept { (s : List Place) × HasFree stacks.now self.new s }
         ensures own { (p : Place) (t : List Place) → HasFree stacks.now self.old (p ∷ t) → HasFree stacks.now self.new (p ∷ t) }
+        ensures took { HasFree stacks.now self.old [] → (s : List Place) × HasFree stacks.now self.new s
+            × Steps (user_of self.old) (user_of self.new) (TakeAll (stack_of self.old) s) }
         ensures stack { stack_of self.new ≡ stack_of self.old }
         ensures spent { spent_by (user_of self.new) ≤ spent_by (user_of self.old) + 1 }
     {

@@ -2,14 +2,15 @@ use Rattle.std.proofs.Common.{◌∷◌, drop, sym, subst, ap, ◌∙◌}
 use Rattle.ic_lock_free_stack.specs.declared.stacks.Holder.{Holder}
 use Rattle.ic_lock_free_stack.specs.Records.{holds}
 use Rattle.ic_lock_free_stack.specs.Holders.{IsOf, record_of}
-use Rattle.stack_uses.proofs.ReceiverLemmas.{if_own, map_some}
+use Rattle.stack_uses.proofs.ReceiverLemmas.{map_some}
 use Rattle.stack_uses.proofs.remote_frees.Owner.take.Goals as goal
 
 pub returns-clause-own : goal.returns-clause-own
 returns-clause-own g c p t was =
-    let mid = c.refill.ensures.own p t was in
-    if_own c.next.result p (c.next.ensures.answer (p ∷ t) mid.chain)
-    record { made = subst (λ (h : Holder). IsOf c.args.stacks.now h) (sym c.next.ensures.same) mid.made; stack = mid.stack; chain = c.next.ensures.rest (p ∷ t) mid.chain }
+    let mid = c.refill.ensures.own p t was in (
+      c.next.ensures.answer (p ∷ t) mid.chain,
+      record { made = subst (λ (h : Holder). IsOf c.args.stacks.now h) (sym c.next.ensures.same) mid.made; stack = mid.stack; chain = c.next.ensures.rest (p ∷ t) mid.chain },
+    )
 
 pub returns-clause-kept : goal.returns-clause-kept
 returns-clause-kept g c =
