@@ -5,7 +5,7 @@
 enum { SLOTS = 4, PAGES = 32 };
 
 static struct ic_link2 links[SLOTS]; /* of both lists: a slot is in one of them */
-static struct ic_list order, vacant; /* the page used last is in front of `order` */
+static struct ic_list order, vacant; /* the page used last is the first of `order` */
 static int page_of[SLOTS];
 static uint32_t slot_of[PAGES];
 

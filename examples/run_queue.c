@@ -4,7 +4,7 @@
 
 enum { TASKS = 8, PRIORITIES = 3 };
 
-/* The tasks of a priority, the one that waits longest in front, and the one behind which the next goes. */
+/* The tasks of a priority, first the one that waits longest, and the one after which the next goes. */
 struct level {
     struct ic_stack tasks;
     uint32_t last;
@@ -13,7 +13,7 @@ struct level {
 static struct ic_link1 links[TASKS]; /* of all levels: a task is in one of them */
 static struct level levels[PRIORITIES] = {{{0}, IC_NONE}, {{0}, IC_NONE}, {{0}, IC_NONE}};
 
-/* Puts a task at the end of its level. What it returns tells a task that waits already, and one that is none. */
+/* Inserts a task at the end of its level. What it returns tells a task that waits already, and one that is none. */
 static uint32_t wake(uint32_t task, int priority) {
     struct level *level = &levels[priority];
     uint32_t status = ic_stack_insert_after(links, TASKS, &level->tasks, level->last, task);
@@ -22,7 +22,7 @@ static uint32_t wake(uint32_t task, int priority) {
     return status;
 }
 
-/* Takes off the task to run, or returns IC_NONE if none waits. */
+/* Removes the task to run, or returns IC_NONE if none waits. */
 static uint32_t next(void) {
     for (struct level *level = levels; level < levels + PRIORITIES; level++) {
         uint32_t task;

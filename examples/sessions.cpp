@@ -70,7 +70,7 @@ public:
     }
 
 private:
-    ic::list_view open_ones() { return {uses_, open_}; } // the one that has been idle longest is in front
+    ic::list_view open_ones() { return {uses_, open_}; } // the one that has been idle longest comes first
     ic::list_view vacant() { return {uses_, vacant_}; }
     ic::tree_view by_deadline() { return {deadlines_, by_deadline_}; }
 

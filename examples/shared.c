@@ -18,7 +18,7 @@
 enum { SLOTS = 8, JOBS = 20000, WORKERS = 4 };
 enum state { VACANT, WAITING, TAKEN };
 
-/* What the processes share. They read and write it under the lock, except what comes behind `relinked`. */
+/* What the processes share. They read and write it under the lock, except what comes after `relinked`. */
 struct shared {
     pthread_mutex_t lock;
     struct ic_link2 links[SLOTS]; /* of both lists */

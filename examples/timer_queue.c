@@ -5,7 +5,7 @@
 enum { TIMERS = 8 };
 
 static struct ic_link3 links[TIMERS];
-static struct ic_tree queue; /* the timer that is due first is in front, and of those due at once the one started first */
+static struct ic_tree queue; /* the timer that is due first is the first member, and of those due at once the one started first */
 static uint64_t deadlines[TIMERS];
 
 /* Starts a timer. What it returns tells a timer that runs already, and one that is none. */
@@ -22,7 +22,7 @@ static uint32_t cancel(uint32_t timer) {
     return ic_tree_remove(links, TIMERS, &queue, timer);
 }
 
-/* Takes off the first timer if it is due, or returns IC_NONE. */
+/* Removes the first timer if it is due, or returns IC_NONE. */
 static uint32_t pop_due(uint64_t now) {
     uint32_t timer;
     if (ic_tree_first(links, TIMERS, &queue, &timer) != IC_OK || deadlines[timer] > now)

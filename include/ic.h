@@ -1,5 +1,5 @@
-/* Lists, a red-black tree and hash tables over tables of links in the caller's memory. The lists are doubly linked, singly linked and XOR
- * lists.
+/* This library has lists, rings, hash tables and a red-black tree over tables of links in your memory. The lists are doubly linked, singly
+ * linked and XOR lists.
  *
  * An object is a place, which is an index of your own arrays. A table has a link for each place, and a list or a tree leads from place
  * to place through one table. A place is in at most one list or tree of a table. An object that has to be in several at once has a link
@@ -17,25 +17,26 @@
  * Every bit pattern is a value, and zeroed memory is a table of unlinked places, an empty list and an empty tree. A copy of a table with
  * its lists and trees is as good as the original.
  *
- * What a call requires: `table` points to `places` links, `keys` to `key_count` keys, `buckets` to `bucket_count` lists, each other pointer
- * to one value of its type, no two of these overlap, and no other thread writes or reads them during the call. Other threads may read what
- * a call takes as const. A call requires nothing else: words, keys, hashes and places may be any. A length that is greater than its array is
- * the one dangerous number: by it a call may leave your memory. One that is less is safe.
+ * A call requires that `table` points to `places` links, `keys` to `key_count` keys, `buckets` to `bucket_count` lists, and each other pointer
+ * to one value of its type. No two of these overlap, and no other thread writes or reads them during the call, except that threads may read
+ * what all of them take as const. A call requires nothing else, so words, keys, hashes and places may be any. The one dangerous number is a
+ * length that is greater than its array, because a call may leave your memory by it. A length that is less is safe.
  *
- * What every call does, whatever it is handed:
+ * This is what every call does, whatever you hand to it:
  *   - It returns one of the statuses below.
- *   - It writes to nothing but table[0 .. places - 1], the lists, the tree, the bucket of the hash and the out parameter that it is handed.
+ *   - It writes to nothing but the first `places` links of the table, the lists, the tree, the bucket of the hash and the out parameter that
+ *     you hand to it.
  *   - If the status is not IC_OK, it has changed nothing, out parameters included. The status says what is wrong with the first member
  *     that is named, else with the next one, else with the place to insert, else that the words do not fit together (IC_BROKEN). If the
  *     comment says what a call does if a place is IC_NONE, nothing is wrong with IC_NONE there.
- *   - It takes at most as many steps as its cost says. In a cost, n is the number of members. Of links that form no list or tree, the calls
- *     whose costs depend on members take at most a fixed number of steps for each place of the table.
+ *   - It takes at most as many steps as its cost says, in which n is the number of members. If the links form no list or tree, a call whose
+ *     cost depends on members takes at most a fixed number of steps for each place of the table.
  *
  * If the table holds the list or tree, and the member that you name is one of its members, the call makes the edit that its comment says.
  * Every other list and tree of the table stays as it was. A call refuses a member of another list of the same table with IC_BROKEN if the
  * words of its neighbors tell, as they do at an end of a doubly linked list. In the middle of a list, in singly linked lists and in trees
- * they do not tell: then the call mixes both lists up, within the table. Nor does the word of an XOR list's member always tell its
- * neighbors: see there.
+ * they do not tell, and the call mixes both lists up, within the table. The word of an XOR list's member does not always tell its neighbors
+ * either, as the part on XOR lists says.
  */
 #ifndef IC_H
 #define IC_H
@@ -43,7 +44,7 @@
 #include <stddef.h>
 #include <stdint.h>
 
-/* The version of this header. */
+/* These numbers are the version of this header. */
 #define IC_VERSION_MAJOR 0
 #define IC_VERSION_MINOR 1
 #define IC_VERSION_PATCH 0
@@ -61,8 +62,8 @@ __asm__(".globl ic_version_0_1");
 extern "C" {
 #endif
 
-/* Marks a call that may be refused: the compiler warns if its status is overlooked. -DIC_NODISCARD= switches the warning off. GCC's older
- * attribute warns of (void)call, too, and the standard one does not. GCC has that from version 11 on, in each standard. */
+/* Marks a call that may be refused, so that the compiler warns if you overlook its status. -DIC_NODISCARD= switches the warning off. The older
+ * attribute of GCC warns of (void)call, too, and the standard one, which GCC has from version 11 on, does not. */
 #ifndef IC_NODISCARD
 #if (defined(__cplusplus) && __cplusplus >= 201703L) || (defined(__STDC_VERSION__) && __STDC_VERSION__ >= 202311L)
 #define IC_NODISCARD [[nodiscard]]
@@ -75,7 +76,7 @@ extern "C" {
 #endif
 #endif
 
-/* The length of an array. The calls take 64 bits for it, so on a processor whose size_t has 32 it is a longer number. The compiler converts
+/* This is the type of the length of an array. The calls take 64 bits for it, so on a processor whose size_t has 32 it is a longer number. The compiler converts
  * each length of yours to it. */
 #if SIZE_MAX >= UINT64_MAX
 typedef size_t ic_length;
@@ -86,7 +87,7 @@ typedef uint64_t ic_length;
 /* Names no place. As a cursor of a list it is the position between the last member and the first. */
 #define IC_NONE UINT32_MAX
 
-/* What a call returns. */
+/* These are the statuses that a call returns. */
 enum ic_status {
     IC_OK = 0,           /* the call has made the edit, or has found what it looked for */
     IC_OUT_OF_RANGE = 1, /* a place is not below `places`, or there are fewer keys than places, or there is no bucket */
@@ -96,7 +97,7 @@ enum ic_status {
     IC_BROKEN = 5        /* the table, the list or tree, and the members do not belong together */
 };
 
-/* The name of a status, as "IC_OK", and "unknown" of any other number. */
+/* Returns the name of a status, such as "IC_OK", and "unknown" for any other number. */
 static inline const char *ic_status_name(uint32_t status) {
     switch (status) {
     case IC_OK: return "IC_OK";
@@ -109,60 +110,63 @@ static inline const char *ic_status_name(uint32_t status) {
     }
 }
 
-/* Drops a status on purpose, with no warning from any compiler: ic_ignore(ic_list_remove(links, 100, &list, 7)); */
+/* Drops the status of a call on purpose, without a warning from any compiler:
+ *
+ *     ic_ignore(ic_list_remove(links, 100, &list, 7));
+ */
 static inline void ic_ignore(uint32_t status) {
     (void)status;
 }
 
-/* A link of a singly linked list or an XOR list. */
+/* Each place of a singly linked list, a hash table or an XOR list has such a link. */
 struct ic_link1 {
     uint64_t next;
 };
 
-/* A link of a doubly linked list. */
+/* Each place of a doubly linked list or a ring has such a link. */
 struct ic_link2 {
     uint64_t next, prev;
 };
 
-/* A link of a tree: both children, and the parent. */
+/* Each place of a tree has such a link, which names both children and the parent. */
 struct ic_link3 {
     uint64_t left, right, parent;
 };
 
-/* A singly linked list. */
+/* This is a singly linked list, or a bucket of a hash table. */
 struct ic_stack {
     uint64_t head;
 };
 
-/* A doubly linked list. */
+/* This is a doubly linked list. */
 struct ic_list {
     uint64_t head, tail;
 };
 
-/* An XOR list, whose links have the exclusive or of both neighbors. */
+/* This is an XOR list, whose links have the exclusive or of both neighbors. */
 struct ic_xor_list {
     uint64_t head, tail;
 };
 
-/* A red-black tree. */
+/* This is a red-black tree. */
 struct ic_tree {
     uint64_t root;
 };
 
 /* ---- Words -------------------------------------------------------------------------------------------------------------------- */
 
-/* The word for a place: 8 * (place + 1), or 0 for IC_NONE. The first word of a link is 1 more if the place is linked, and `parent` is 1 more
- * if the place is black in its tree. */
+/* Returns the word for a place, which is 8 * (place + 1), or 0 for IC_NONE. The first word of a link is 1 more if the place is linked, and
+ * `parent` is 1 more if the place is black in its tree. */
 static inline uint64_t ic_word(uint32_t place) {
     return (uint64_t)(uint32_t)(place + 1u) * 8;
 }
 
-/* The number that a word keeps, which is 0 for no place. Bits 0 to 2 and those from 36 on count for nothing. */
+/* Returns the number that a word keeps, which is 0 for no place. Bits 0 to 2 and those from 36 on count for nothing. */
 static inline uint64_t ic_number(uint64_t word) {
     return word / 8 % (UINT64_C(1) << 33);
 }
 
-/* The place that a word names, or IC_NONE. A number of 2^32 or more is IC_NONE too, for no place has it. */
+/* Returns the place that a word names, or IC_NONE. A number of 2^32 or more is IC_NONE too, because no place has it. */
 static inline uint32_t ic_place(uint64_t word) {
     uint64_t number = ic_number(word);
     return number <= UINT32_MAX ? (uint32_t)number - 1u : IC_NONE;
@@ -185,21 +189,31 @@ static inline uint32_t ic_place(uint64_t word) {
  * leads to no such place. It evaluates `table`, `places` and `list` in each round.
  *
  * A plain loop ends early if its body removes the member. The body of a ..._SAFE loop may remove it, and may then insert the place into
- * another list or tree. It has to leave the members beside it where they are.
+ * another list or tree. It has to leave the members beside it where they are. A ..._FROM loop begins at the member `at`.
+ *
+ * If your objects are in an array, a ..._ENTRY loop gives you the object. You declare the pointer to it, by a name alone. The array has to have
+ * an object for each place of the table. After the last round the pointer is null, and after a `break` it still is the object:
+ *
+ *     struct job jobs[100], *job;
+ *     IC_LIST_FOREACH_ENTRY(job, jobs, links, 100, &list)
+ *         if (job->is_due)
+ *             break;
+ *     if (job)
+ *         status = ic_list_remove(links, 100, &list, IC_PLACE_OF(job, jobs));
  */
 
-/* How many places of a table can be named. */
+/* Returns how many places of a table can be named. */
 static inline uint32_t ic_bound(ic_length places) {
     return places < IC_NONE ? (uint32_t)places : IC_NONE;
 }
 
-/* The place of the table that a word names, or IC_NONE. */
+/* Returns the place of the table that a word names, or IC_NONE. */
 static inline uint32_t ic_place_within(ic_length places, uint64_t word) {
     uint32_t place = ic_place(word);
     return place < ic_bound(places) ? place : IC_NONE;
 }
 
-/* The loops below are made of these two: while `place` is a member, and to the member that `next` finds from it. */
+/* The loops below are made of these two. They run while `place` is a member, and go on to the member that `next` finds from it. */
 #define IC_LOOP(place, first, places, is_member, next)                                                       \
     for (uint32_t place = (first), ic_rounds_##place = ic_bound(places); (is_member) && ic_rounds_##place--; \
          place = (next))
@@ -207,43 +221,82 @@ static inline uint32_t ic_place_within(ic_length places, uint64_t word) {
     for (uint32_t place = (first), follower = (next), ic_rounds_##place = ic_bound(places); \
          (is_member) && ic_rounds_##place--; place = follower, follower = (next))
 
+/* IC_ENTRY is the object of a place in the array `objects`, or a null pointer if the place is IC_NONE. It evaluates `place` twice. IC_PLACE_OF
+ * is the place of an object. With a read of an end or of a neighbor you get that object, as by IC_ENTRY(jobs, ic_list_front(links, 100, &list)). */
+#define IC_ENTRY(objects, place) ((place) == IC_NONE ? NULL : &(objects)[place])
+#define IC_PLACE_OF(object, objects) ((uint32_t)((object) - (objects)))
+
+/* The loops that give objects are made of these: `object` is the one of `place` in each round, and null after the last one. */
+#define IC_ENTRY_IF(object, objects, place, is_member) ((is_member) ? ((object) = &(objects)[place], 1) : ((object) = NULL, 0))
+#define IC_LOOP_ENTRY(object, objects, place, first, places, is_member, next)              \
+    for (uint32_t place = (first), ic_rounds_##place = ic_bound(places);                   \
+         IC_ENTRY_IF(object, objects, place, (is_member) && ic_rounds_##place--); place = (next))
+#define IC_LOOP_ENTRY_SAFE(object, objects, place, follower, first, places, is_member, next)     \
+    for (uint32_t place = (first), follower = (next), ic_rounds_##place = ic_bound(places);      \
+         IC_ENTRY_IF(object, objects, place, (is_member) && ic_rounds_##place--); place = follower, follower = (next))
+
 /* ---- Doubly linked lists: 16 bytes a place, calls O(1) except to fill, clear, check, sort and merge --------------------------------------
  *
- * Good for queues, and for caches, from whose middle objects leave.
+ * Take them for queues, and for caches, from whose middle objects leave.
  */
 
-/* Whether a place is in a list of the table. */
+/* Returns whether a place is in a list of the table. */
 static inline int ic_list_is_linked(const struct ic_link2 *table, ic_length places, uint32_t place) {
     return place < ic_bound(places) && (table[place].next & 1);
 }
 
-/* Whether the list has no members. Then ic_list_pop_front returns IC_NULL. */
+/* Returns whether the list has no members, in which case ic_list_pop_front returns IC_NULL. */
 static inline int ic_list_is_empty(const struct ic_list *list) {
     return ic_number(list->head) == 0;
 }
 
-/* The first member, or IC_NONE. */
+/* Returns the first member, or IC_NONE if there is none. */
 static inline uint32_t ic_list_first(const struct ic_list *list) {
     return ic_place(list->head);
 }
 
-/* The last member, or IC_NONE. */
+/* Returns the last member, or IC_NONE if there is none. */
 static inline uint32_t ic_list_last(const struct ic_list *list) {
     return ic_place(list->tail);
 }
 
-/* The member after the member `at`, or IC_NONE. */
+/* Returns the member after the member `at`, or IC_NONE. */
 static inline uint32_t ic_list_next(const struct ic_link2 *table, ic_length places, uint32_t at) {
     return ic_list_is_linked(table, places, at) ? ic_place_within(places, table[at].next) : IC_NONE;
 }
 
-/* The member before the member `at`, or IC_NONE. */
+/* Returns the member before the member `at`, or IC_NONE. */
 static inline uint32_t ic_list_prev(const struct ic_link2 *table, ic_length places, uint32_t at) {
     return ic_list_is_linked(table, places, at) ? ic_place_within(places, table[at].prev) : IC_NONE;
 }
 
-/* Loops from the first member to the last, and back. `next` is the member after `place`, and `prev` is the member before it. They are
- * IC_NONE beyond an end.
+/* Returns the first member, or IC_NONE if there is none or if it is no linked place of the table. */
+static inline uint32_t ic_list_front(const struct ic_link2 *table, ic_length places, const struct ic_list *list) {
+    return ic_list_is_linked(table, places, ic_list_first(list)) ? ic_list_first(list) : IC_NONE;
+}
+
+/* Returns the last member, or IC_NONE if there is none or if it is no linked place of the table. */
+static inline uint32_t ic_list_back(const struct ic_link2 *table, ic_length places, const struct ic_list *list) {
+    return ic_list_is_linked(table, places, ic_list_last(list)) ? ic_list_last(list) : IC_NONE;
+}
+
+/* Returns whether the place `at` is the first member of the list. */
+static inline int ic_list_is_first(const struct ic_link2 *table, ic_length places, const struct ic_list *list, uint32_t at) {
+    return at != IC_NONE && ic_list_front(table, places, list) == at;
+}
+
+/* Returns whether the place `at` is the last member of the list. */
+static inline int ic_list_is_last(const struct ic_link2 *table, ic_length places, const struct ic_list *list, uint32_t at) {
+    return at != IC_NONE && ic_list_back(table, places, list) == at;
+}
+
+/* Returns whether the list has one member and no other. */
+static inline int ic_list_is_singular(const struct ic_link2 *table, ic_length places, const struct ic_list *list) {
+    return ic_list_is_first(table, places, list, ic_list_last(list));
+}
+
+/* These loops go from the first member to the last, and back. `next` is the member after `place`, and `prev` is the member before it. Beyond an
+ * end they are IC_NONE.
  *
  *     IC_LIST_FOREACH_SAFE(place, next, links, 100, &list)
  *         if (is_done(place))
@@ -257,125 +310,144 @@ static inline uint32_t ic_list_prev(const struct ic_link2 *table, ic_length plac
     IC_LOOP_SAFE(place, next, ic_list_first(list), places, ic_list_is_linked(table, places, place), ic_list_next(table, places, place))
 #define IC_LIST_FOREACH_REVERSE_SAFE(place, prev, table, places, list) \
     IC_LOOP_SAFE(place, prev, ic_list_last(list), places, ic_list_is_linked(table, places, place), ic_list_prev(table, places, place))
+#define IC_LIST_FOREACH_ENTRY(object, objects, table, places, list)             \
+    IC_LOOP_ENTRY(object, objects, ic_at_##object, ic_list_first(list), places, \
+        ic_list_is_linked(table, places, ic_at_##object), ic_list_next(table, places, ic_at_##object))
+#define IC_LIST_FOREACH_ENTRY_REVERSE(object, objects, table, places, list)    \
+    IC_LOOP_ENTRY(object, objects, ic_at_##object, ic_list_last(list), places, \
+        ic_list_is_linked(table, places, ic_at_##object), ic_list_prev(table, places, ic_at_##object))
+#define IC_LIST_FOREACH_ENTRY_SAFE(object, objects, table, places, list)                               \
+    IC_LOOP_ENTRY_SAFE(object, objects, ic_at_##object, ic_next_##object, ic_list_first(list), places, \
+        ic_list_is_linked(table, places, ic_at_##object), ic_list_next(table, places, ic_at_##object))
+#define IC_LIST_FOREACH_ENTRY_REVERSE_SAFE(object, objects, table, places, list)                      \
+    IC_LOOP_ENTRY_SAFE(object, objects, ic_at_##object, ic_next_##object, ic_list_last(list), places, \
+        ic_list_is_linked(table, places, ic_at_##object), ic_list_prev(table, places, ic_at_##object))
+#define IC_LIST_FOREACH_FROM(place, at, table, places) \
+    IC_LOOP(place, at, places, ic_list_is_linked(table, places, place), ic_list_next(table, places, place))
+#define IC_LIST_FOREACH_REVERSE_FROM(place, at, table, places) \
+    IC_LOOP(place, at, places, ic_list_is_linked(table, places, place), ic_list_prev(table, places, place))
 
 /* tools/c-calls --write writes from here: list */
 
-/* Inserts `place` at the front. O(1).
+/* Inserts `place` at the front, in O(1).
  * IC_OUT_OF_RANGE: `place` is not below `places`. IC_LINKED: `place` is linked already. IC_BROKEN: the first member does not belong to this
  * table. */
 IC_NODISCARD
 uint32_t ic_list_push_front(struct ic_link2 *table, ic_length places, struct ic_list *list, uint32_t place);
 
-/* Inserts `place` at the back. O(1).
+/* Inserts `place` at the back, in O(1).
  * IC_OUT_OF_RANGE: `place` is not below `places`. IC_LINKED: `place` is linked already. IC_BROKEN: the last member does not belong to this
  * table. */
 IC_NODISCARD
 uint32_t ic_list_push_back(struct ic_link2 *table, ic_length places, struct ic_list *list, uint32_t place);
 
-/* Removes the first member, and sets *popped to it. O(1).
+/* Removes the first member, and sets *popped to it, in O(1).
  * IC_NULL: the list is empty. IC_BROKEN: the first member does not belong to this table. */
 IC_NODISCARD
 uint32_t ic_list_pop_front(struct ic_link2 *table, ic_length places, struct ic_list *list, uint32_t *popped);
 
-/* Removes the last member, and sets *popped to it. O(1).
+/* Removes the last member, and sets *popped to it, in O(1).
  * IC_NULL: the list is empty. IC_BROKEN: the last member does not belong to this table. */
 IC_NODISCARD
 uint32_t ic_list_pop_back(struct ic_link2 *table, ic_length places, struct ic_list *list, uint32_t *popped);
 
-/* Inserts `place` after the member `at`, or at the front if `at` is IC_NONE. O(1).
- * IC_OUT_OF_RANGE: `at` or `place` is not below `places`. IC_LINKED: `place` is linked already. IC_NOT_LINKED: `at` is not linked.
- * IC_BROKEN: `at` is no member of the list. */
+/* Inserts `place` after the member `at`, or at the front if `at` is IC_NONE, in O(1).
+ * IC_OUT_OF_RANGE: `at` or `place` is not below `places`. IC_LINKED: `place` is linked already. IC_NOT_LINKED: the place `at` is not
+ * linked. IC_BROKEN: `at` is no member of the list. */
 IC_NODISCARD
 uint32_t ic_list_insert_after(struct ic_link2 *table, ic_length places, struct ic_list *list, uint32_t at, uint32_t place);
 
-/* Inserts `place` before the member `at`, or at the back if `at` is IC_NONE. O(1).
- * IC_OUT_OF_RANGE: `at` or `place` is not below `places`. IC_LINKED: `place` is linked already. IC_NOT_LINKED: `at` is not linked.
- * IC_BROKEN: `at` is no member of the list. */
+/* Inserts `place` before the member `at`, or at the back if `at` is IC_NONE, in O(1).
+ * IC_OUT_OF_RANGE: `at` or `place` is not below `places`. IC_LINKED: `place` is linked already. IC_NOT_LINKED: the place `at` is not
+ * linked. IC_BROKEN: `at` is no member of the list. */
 IC_NODISCARD
 uint32_t ic_list_insert_before(struct ic_link2 *table, ic_length places, struct ic_list *list, uint32_t at, uint32_t place);
 
-/* Removes the member `at`. O(1).
- * IC_NULL: `at` is IC_NONE. IC_OUT_OF_RANGE: `at` is not below `places`. IC_NOT_LINKED: `at` is not linked. IC_BROKEN: `at` is no member of
- * the list. */
+/* Removes the member `at`, in O(1).
+ * IC_NULL: the place `at` is IC_NONE. IC_OUT_OF_RANGE: the place `at` is not below `places`. IC_NOT_LINKED: the place `at` is not linked.
+ * IC_BROKEN: `at` is no member of the list. */
 IC_NODISCARD
 uint32_t ic_list_remove(struct ic_link2 *table, ic_length places, struct ic_list *list, uint32_t at);
 
-/* Removes the member `at`, and inserts `place` where it was. O(1).
- * IC_NULL: `at` is IC_NONE. IC_OUT_OF_RANGE: `at` or `place` is not below `places`. IC_LINKED: `place` is linked already, as it is if `at`
- * and `place` are the same. IC_NOT_LINKED: `at` is not linked. IC_BROKEN: `at` is no member of the list. */
+/* Removes the member `at`, and inserts `place` where it was, in O(1).
+ * IC_NULL: the place `at` is IC_NONE. IC_OUT_OF_RANGE: `at` or `place` is not below `places`. IC_LINKED: `place` is linked already, also
+ * where `at` and `place` are the same. IC_NOT_LINKED: the place `at` is not linked. IC_BROKEN: `at` is no member of the list. */
 IC_NODISCARD
 uint32_t ic_list_replace(struct ic_link2 *table, ic_length places, struct ic_list *list, uint32_t at, uint32_t place);
 
-/* Moves the member `place` after the member `at`, or to the front if `at` is IC_NONE. O(1). The place stays linked. If it is there already,
- * or if `at` and `place` are the same, nothing changes.
+/* Moves the member `place` after the member `at`, or to the front if `at` is IC_NONE, in O(1). The place stays linked, and nothing changes
+ * if it is there already, or if `at` and `place` are the same.
  * IC_NULL: `place` is IC_NONE. IC_OUT_OF_RANGE: `at` or `place` is not below `places`. IC_NOT_LINKED: `at` or `place` is not linked.
  * IC_BROKEN: `at` or `place` is no member of the list. */
 IC_NODISCARD
 uint32_t ic_list_move_after(struct ic_link2 *table, ic_length places, struct ic_list *list, uint32_t at, uint32_t place);
 
-/* Moves the member `place` before the member `at`, or to the back if `at` is IC_NONE. O(1). The place stays linked. If it is there already,
- * or if `at` and `place` are the same, nothing changes.
+/* Moves the member `place` before the member `at`, or to the back if `at` is IC_NONE, in O(1). The place stays linked, and nothing changes
+ * if it is there already, or if `at` and `place` are the same.
  * IC_NULL: `place` is IC_NONE. IC_OUT_OF_RANGE: `at` or `place` is not below `places`. IC_NOT_LINKED: `at` or `place` is not linked.
  * IC_BROKEN: `at` or `place` is no member of the list. */
 IC_NODISCARD
 uint32_t ic_list_move_before(struct ic_link2 *table, ic_length places, struct ic_list *list, uint32_t at, uint32_t place);
 
-/* Moves the member `place` to the front, as a cache does with the object that it used last. O(1). The place stays linked.
+/* Moves the member `place` to the front, as a cache does with the object that it used last, in O(1). The place stays linked during the
+ * call.
  * IC_NULL: `place` is IC_NONE. IC_OUT_OF_RANGE: `place` is not below `places`. IC_NOT_LINKED: `place` is not linked. IC_BROKEN: `place` is
  * no member of the list, or the first member does not belong to this table. */
 IC_NODISCARD
 uint32_t ic_list_move_to_front(struct ic_link2 *table, ic_length places, struct ic_list *list, uint32_t place);
 
-/* Moves the member `place` to the back. O(1). The place stays linked.
+/* Moves the member `place` to the back, in O(1). The place stays linked during the call.
  * IC_NULL: `place` is IC_NONE. IC_OUT_OF_RANGE: `place` is not below `places`. IC_NOT_LINKED: `place` is not linked. IC_BROKEN: `place` is
  * no member of the list, or the last member does not belong to this table. */
 IC_NODISCARD
 uint32_t ic_list_move_to_back(struct ic_link2 *table, ic_length places, struct ic_list *list, uint32_t place);
 
-/* Moves all members of `given`, in their order, after the member `at`, or to the front if `at` is IC_NONE. O(1). Then `given` is empty.
- * IC_OUT_OF_RANGE: `at` is not below `places`. IC_NOT_LINKED: `at` is not linked. IC_BROKEN: `at` is no member of the list, or `given` is
- * no list of this table, or both lists begin with the same member, as a list and its copy do. */
+/* Moves all members of `given`, in their order, after the member `at`, or to the front if `at` is IC_NONE, and leaves `given` empty, in
+ * O(1).
+ * IC_OUT_OF_RANGE: the place `at` is not below `places`. IC_NOT_LINKED: the place `at` is not linked. IC_BROKEN: `at` is no member of the
+ * list, or `given` is no list of this table, or both lists begin with the same member, as a list and its copy do. */
 IC_NODISCARD
 uint32_t ic_list_splice_after(struct ic_link2 *table, ic_length places, struct ic_list *list, uint32_t at, struct ic_list *given);
 
-/* Moves all members of `given`, in their order, before the member `at`, or to the back if `at` is IC_NONE. O(1). Then `given` is empty.
- * IC_OUT_OF_RANGE: `at` is not below `places`. IC_NOT_LINKED: `at` is not linked. IC_BROKEN: `at` is no member of the list, or `given` is
- * no list of this table, or both lists begin with the same member, as a list and its copy do. */
+/* Moves all members of `given`, in their order, before the member `at`, or to the back if `at` is IC_NONE, and leaves `given` empty, in
+ * O(1).
+ * IC_OUT_OF_RANGE: the place `at` is not below `places`. IC_NOT_LINKED: the place `at` is not linked. IC_BROKEN: `at` is no member of the
+ * list, or `given` is no list of this table, or both lists begin with the same member, as a list and its copy do. */
 IC_NODISCARD
 uint32_t ic_list_splice_before(struct ic_link2 *table, ic_length places, struct ic_list *list, uint32_t at, struct ic_list *given);
 
-/* Moves all members of `given`, in their order, to the back. O(1). Then `given` is empty.
+/* Moves all members of `given`, in their order, to the back, and leaves `given` empty, in O(1).
  * IC_BROKEN: the last member does not belong to this table, or `given` is no list of this table, or both lists begin with the same member,
  * as a list and its copy do. */
 IC_NODISCARD
 uint32_t ic_list_append(struct ic_link2 *table, ic_length places, struct ic_list *list, struct ic_list *given);
 
-/* Inserts `count` places, `first` and those after it, at the back in the order of their numbers. O(count). If `count` is 0, nothing
- * changes.
+/* Inserts `count` places, `first` and those after it, at the back in the order of their numbers, in O(count). The call changes nothing if
+ * `count` is 0.
  * IC_OUT_OF_RANGE: the first of these places that the call refuses is not below `places`. IC_LINKED: the first of these places that the
  * call refuses is linked already. IC_BROKEN: the last member does not belong to this table. */
 IC_NODISCARD
 uint32_t ic_list_fill(struct ic_link2 *table, ic_length places, struct ic_list *list, uint32_t first, uint32_t count);
 
-/* Removes all members. O(n).
+/* Removes all members, in O(n).
  * IC_BROKEN: the links do not lead from the first member to the last, each to the next one and back. */
 IC_NODISCARD
 uint32_t ic_list_clear(struct ic_link2 *table, ic_length places, struct ic_list *list);
 
-/* Moves the members after the member `at`, or all members if `at` is IC_NONE, to `rest`, which has to be empty. O(1).
- * IC_OUT_OF_RANGE: `at` is not below `places`. IC_NOT_LINKED: `at` is not linked. IC_BROKEN: `at` is no member of the list, or `rest` has
- * members. */
+/* Moves the members after the member `at`, or all members if `at` is IC_NONE, to `rest`, which has to be empty, in O(1).
+ * IC_OUT_OF_RANGE: the place `at` is not below `places`. IC_NOT_LINKED: the place `at` is not linked. IC_BROKEN: `at` is no member of the
+ * list, or `rest` has members. */
 IC_NODISCARD
 uint32_t ic_list_split_after(struct ic_link2 *table, ic_length places, struct ic_list *list, uint32_t at, struct ic_list *rest);
 
-/* Moves the members before the member `at`, or all members if `at` is IC_NONE, to `rest`, which has to be empty. O(1).
- * IC_OUT_OF_RANGE: `at` is not below `places`. IC_NOT_LINKED: `at` is not linked. IC_BROKEN: `at` is no member of the list, or `rest` has
- * members. */
+/* Moves the members before the member `at`, or all members if `at` is IC_NONE, to `rest`, which has to be empty, in O(1).
+ * IC_OUT_OF_RANGE: the place `at` is not below `places`. IC_NOT_LINKED: the place `at` is not linked. IC_BROKEN: `at` is no member of the
+ * list, or `rest` has members. */
 IC_NODISCARD
 uint32_t ic_list_split_before(struct ic_link2 *table, ic_length places, struct ic_list *list, uint32_t at, struct ic_list *rest);
 
-/* Counts the members, and sets *members to how many there are. O(n). Call it if the words come from a file, or from memory that others
- * write: if the status is IC_OK, each call does what it says of a list that the table holds.
+/* Counts the members, and sets *members to how many there are, in O(n). Call it if the words come from a file, or from memory that others
+ * write. If the status is IC_OK, each call does what it says of a list that the table holds.
  * IC_BROKEN: the links do not lead from the first member to the last, each to the next one and back. */
 IC_NODISCARD
 uint32_t ic_list_check(const struct ic_link2 *table, ic_length places, const struct ic_list *list, uint64_t *members);
@@ -390,14 +462,14 @@ uint32_t ic_list_check(const struct ic_link2 *table, ic_length places, const str
 
 /* tools/c-calls --write writes from here: list-keys */
 
-/* Sorts the members by their keys. O(n log n). Members with equal keys keep their order.
+/* Sorts the members by their keys, in O(n log n). Members with equal keys keep their order.
  * IC_OUT_OF_RANGE: there are fewer keys than places. IC_BROKEN: the links do not lead from the first member to the last, each to the next
  * one and back. */
 IC_NODISCARD
 uint32_t ic_list_sort(struct ic_link2 *table, ic_length places, const uint64_t *keys, ic_length key_count, struct ic_list *list);
 
-/* Moves all members of `given` to where their keys belong, if both lists are in the order of their keys. O(n). Of members with equal keys,
- * those of `list` come first. Then `given` is empty.
+/* Moves all members of `given` to where their keys belong, if both lists are in the order of their keys, in O(n). Of members with equal
+ * keys, those of `list` come first. The call leaves `given` empty.
  * IC_OUT_OF_RANGE: there are fewer keys than places. IC_BROKEN: the links of one of the lists do not lead from its first member to its
  * last, each to the next one and back, or both lists begin with the same member, as a list and its copy do. */
 IC_NODISCARD
@@ -421,27 +493,54 @@ uint32_t ic_list_merge(struct ic_link2 *table, ic_length places, const uint64_t 
  * and the call treats it as one of a ring, which does no harm. No call can tell whether two places are in one ring or in two.
  */
 
-/* Whether a place is in a ring or a list of the table. */
+/* Returns whether a place is in a ring or a list of the table. */
 static inline int ic_ring_is_linked(const struct ic_link2 *table, ic_length places, uint32_t place) {
     return ic_list_is_linked(table, places, place);
 }
 
-/* The place after the place `at` of a ring, or IC_NONE. After a head comes the first member, and after the last member the head. */
+/* Returns the place after the place `at` of a ring, or IC_NONE. After a head comes the first member, and after the last member the head. */
 static inline uint32_t ic_ring_next(const struct ic_link2 *table, ic_length places, uint32_t at) {
     return ic_list_next(table, places, at);
 }
 
-/* The place before the place `at` of a ring, or IC_NONE. */
+/* Returns the place before the place `at` of a ring, or IC_NONE. */
 static inline uint32_t ic_ring_prev(const struct ic_link2 *table, ic_length places, uint32_t at) {
     return ic_list_prev(table, places, at);
 }
 
-/* Whether a head has no members. */
+/* Returns whether a head is that of a ring with no members. */
 static inline int ic_ring_is_empty(const struct ic_link2 *table, ic_length places, uint32_t head) {
     return ic_list_is_linked(table, places, head) && ic_list_next(table, places, head) == head;
 }
 
-/* Loops from the first member of a head to the last, and back. */
+/* Returns the first member of a head, or IC_NONE if there is none or if it is no linked place of the table. */
+static inline uint32_t ic_ring_front(const struct ic_link2 *table, ic_length places, uint32_t head) {
+    uint32_t place = ic_ring_next(table, places, head);
+    return place != head && ic_ring_is_linked(table, places, place) ? place : IC_NONE;
+}
+
+/* Returns the last member of a head, or IC_NONE if there is none or if it is no linked place of the table. */
+static inline uint32_t ic_ring_back(const struct ic_link2 *table, ic_length places, uint32_t head) {
+    uint32_t place = ic_ring_prev(table, places, head);
+    return place != head && ic_ring_is_linked(table, places, place) ? place : IC_NONE;
+}
+
+/* Returns whether the place `at` is the first member of a head. */
+static inline int ic_ring_is_first(const struct ic_link2 *table, ic_length places, uint32_t head, uint32_t at) {
+    return at != IC_NONE && ic_ring_front(table, places, head) == at;
+}
+
+/* Returns whether the place `at` is the last member of a head. */
+static inline int ic_ring_is_last(const struct ic_link2 *table, ic_length places, uint32_t head, uint32_t at) {
+    return at != IC_NONE && ic_ring_back(table, places, head) == at;
+}
+
+/* Returns whether a head has one member and no other. */
+static inline int ic_ring_is_singular(const struct ic_link2 *table, ic_length places, uint32_t head) {
+    return ic_ring_is_first(table, places, head, ic_ring_back(table, places, head));
+}
+
+/* These loops go from the first member of a head to the last, and back. */
 #define IC_RING_FOREACH(place, table, places, head)                                                                                   \
     IC_LOOP(place, ic_ring_next(table, places, head), places, place != (head) && ic_ring_is_linked(table, places, place),             \
             ic_ring_next(table, places, place))
@@ -454,83 +553,99 @@ static inline int ic_ring_is_empty(const struct ic_link2 *table, ic_length place
 #define IC_RING_FOREACH_REVERSE_SAFE(place, prev, table, places, head)                                                                \
     IC_LOOP_SAFE(place, prev, ic_ring_prev(table, places, head), places, place != (head) && ic_ring_is_linked(table, places, place),  \
                  ic_ring_prev(table, places, place))
+#define IC_RING_FOREACH_ENTRY(object, objects, table, places, head)                           \
+    IC_LOOP_ENTRY(object, objects, ic_at_##object, ic_ring_next(table, places, head), places, \
+        ic_at_##object != (head) && ic_ring_is_linked(table, places, ic_at_##object), ic_ring_next(table, places, ic_at_##object))
+#define IC_RING_FOREACH_ENTRY_REVERSE(object, objects, table, places, head)                   \
+    IC_LOOP_ENTRY(object, objects, ic_at_##object, ic_ring_prev(table, places, head), places, \
+        ic_at_##object != (head) && ic_ring_is_linked(table, places, ic_at_##object), ic_ring_prev(table, places, ic_at_##object))
+#define IC_RING_FOREACH_ENTRY_SAFE(object, objects, table, places, head)                                             \
+    IC_LOOP_ENTRY_SAFE(object, objects, ic_at_##object, ic_next_##object, ic_ring_next(table, places, head), places, \
+        ic_at_##object != (head) && ic_ring_is_linked(table, places, ic_at_##object), ic_ring_next(table, places, ic_at_##object))
+#define IC_RING_FOREACH_ENTRY_REVERSE_SAFE(object, objects, table, places, head)                                     \
+    IC_LOOP_ENTRY_SAFE(object, objects, ic_at_##object, ic_next_##object, ic_ring_prev(table, places, head), places, \
+        ic_at_##object != (head) && ic_ring_is_linked(table, places, ic_at_##object), ic_ring_prev(table, places, ic_at_##object))
+#define IC_RING_FOREACH_FROM(place, at, table, places, head) \
+    IC_LOOP(place, at, places, place != (head) && ic_ring_is_linked(table, places, place), ic_ring_next(table, places, place))
+#define IC_RING_FOREACH_REVERSE_FROM(place, at, table, places, head) \
+    IC_LOOP(place, at, places, place != (head) && ic_ring_is_linked(table, places, place), ic_ring_prev(table, places, place))
 
 /* tools/c-calls --write writes from here: ring */
 
-/* Makes `head` the head of a ring with no members. O(1). Linux calls this INIT_LIST_HEAD.
+/* Makes `head` the head of a ring with no members, as INIT_LIST_HEAD of Linux does, in O(1).
  * IC_OUT_OF_RANGE: `head` is not below `places`. IC_LINKED: `head` is linked already. */
 IC_NODISCARD
 uint32_t ic_ring_init(struct ic_link2 *table, ic_length places, uint32_t head);
 
-/* Inserts `place` after the place `at` of a ring. O(1). If `at` is a head, `place` becomes the first member. Linux calls this list_add.
- * IC_NULL: `at` is IC_NONE. IC_OUT_OF_RANGE: `at` or `place` is not below `places`. IC_LINKED: `place` is linked already, as it is if `at`
- * and `place` are the same. IC_NOT_LINKED: `at` is not linked. IC_BROKEN: `at` is in no ring. */
+/* Inserts `place` after the place `at` of a ring, as list_add of Linux does, in O(1). If `at` is a head, `place` becomes the first member.
+ * IC_NULL: the place `at` is IC_NONE. IC_OUT_OF_RANGE: `at` or `place` is not below `places`. IC_LINKED: `place` is linked already, also
+ * where `at` and `place` are the same. IC_NOT_LINKED: the place `at` is not linked. IC_BROKEN: `at` is in no ring. */
 IC_NODISCARD
 uint32_t ic_ring_insert_after(struct ic_link2 *table, ic_length places, uint32_t at, uint32_t place);
 
-/* Inserts `place` before the place `at` of a ring. O(1). If `at` is a head, `place` becomes the last member. Linux calls this
- * list_add_tail.
- * IC_NULL: `at` is IC_NONE. IC_OUT_OF_RANGE: `at` or `place` is not below `places`. IC_LINKED: `place` is linked already, as it is if `at`
- * and `place` are the same. IC_NOT_LINKED: `at` is not linked. IC_BROKEN: `at` is in no ring. */
+/* Inserts `place` before the place `at` of a ring, as list_add_tail of Linux does, in O(1). If `at` is a head, `place` becomes the last
+ * member.
+ * IC_NULL: the place `at` is IC_NONE. IC_OUT_OF_RANGE: `at` or `place` is not below `places`. IC_LINKED: `place` is linked already, also
+ * where `at` and `place` are the same. IC_NOT_LINKED: the place `at` is not linked. IC_BROKEN: `at` is in no ring. */
 IC_NODISCARD
 uint32_t ic_ring_insert_before(struct ic_link2 *table, ic_length places, uint32_t at, uint32_t place);
 
-/* Removes `place` from its ring, whichever that is. O(1). If `place` is a head without members, its ring is gone then. Linux calls this
- * list_del.
+/* Removes `place` from its ring, whichever that is, as list_del of Linux does, in O(1). If `place` is a head without members, its ring is
+ * gone then.
  * IC_NULL: `place` is IC_NONE. IC_OUT_OF_RANGE: `place` is not below `places`. IC_NOT_LINKED: `place` is not linked. IC_BROKEN: `place` is
  * in no ring. */
 IC_NODISCARD
 uint32_t ic_ring_remove(struct ic_link2 *table, ic_length places, uint32_t place);
 
-/* Exchanges the places after `one` and after `other`, which are in rings. O(1). So two rings become one, and one becomes two, and the same
- * call again undoes it. If `one` is the last member of a ring and `other` the head of another one, all members of the second ring, and then
- * its head, come after `one`.
+/* Exchanges the places after `one` and after `other`, which are in rings, in O(1). So two rings become one, and one becomes two, and the
+ * same call again undoes it. If `one` is the last member of a ring and `other` the head of another one, all members of the second ring, and
+ * then its head, come after `one`.
  * IC_NULL: `one` or `other` is IC_NONE. IC_OUT_OF_RANGE: `one` or `other` is not below `places`. IC_NOT_LINKED: `one` or `other` is not
  * linked. IC_BROKEN: `one` or `other` is in no ring. */
 IC_NODISCARD
 uint32_t ic_ring_exchange(struct ic_link2 *table, ic_length places, uint32_t one, uint32_t other);
 
-/* Removes the first member of the head `head`, and sets *popped to it. O(1).
+/* Removes the first member of the head `head`, and sets *popped to it, in O(1).
  * IC_NULL: `head` is IC_NONE, or `head` has no members. IC_OUT_OF_RANGE: `head` is not below `places`. IC_NOT_LINKED: `head` is not linked.
  * IC_BROKEN: `head` or its first member is in no ring. */
 IC_NODISCARD
 uint32_t ic_ring_pop_front(struct ic_link2 *table, ic_length places, uint32_t head, uint32_t *popped);
 
-/* Removes the last member of the head `head`, and sets *popped to it. O(1).
+/* Removes the last member of the head `head`, and sets *popped to it, in O(1).
  * IC_NULL: `head` is IC_NONE, or `head` has no members. IC_OUT_OF_RANGE: `head` is not below `places`. IC_NOT_LINKED: `head` is not linked.
  * IC_BROKEN: `head` or its last member is in no ring. */
 IC_NODISCARD
 uint32_t ic_ring_pop_back(struct ic_link2 *table, ic_length places, uint32_t head, uint32_t *popped);
 
-/* Removes the place `at` from its ring, and inserts `place` where it was. O(1). Linux calls this list_replace.
- * IC_NULL: `at` is IC_NONE. IC_OUT_OF_RANGE: `at` or `place` is not below `places`. IC_LINKED: `place` is linked already, as it is if `at`
- * and `place` are the same. IC_NOT_LINKED: `at` is not linked. IC_BROKEN: `at` is in no ring. */
+/* Removes the place `at` from its ring, and inserts `place` where it was, as list_replace of Linux does, in O(1).
+ * IC_NULL: the place `at` is IC_NONE. IC_OUT_OF_RANGE: `at` or `place` is not below `places`. IC_LINKED: `place` is linked already, also
+ * where `at` and `place` are the same. IC_NOT_LINKED: the place `at` is not linked. IC_BROKEN: `at` is in no ring. */
 IC_NODISCARD
 uint32_t ic_ring_replace(struct ic_link2 *table, ic_length places, uint32_t at, uint32_t place);
 
-/* Moves `place`, from whichever ring it is in, after the place `at` of a ring. O(1). If `at` is a head, `place` becomes the first member.
- * The place stays linked. If `at` and `place` are the same, nothing changes. Linux calls this list_move.
+/* Moves `place`, from whichever ring it is in, after the place `at` of a ring, as list_move of Linux does, in O(1). If `at` is a head,
+ * `place` becomes the first member. The place stays linked, and nothing changes if `at` and `place` are the same.
  * IC_NULL: `at` or `place` is IC_NONE. IC_OUT_OF_RANGE: `at` or `place` is not below `places`. IC_NOT_LINKED: `at` or `place` is not
  * linked. IC_BROKEN: `at` or `place` is in no ring. */
 IC_NODISCARD
 uint32_t ic_ring_move_after(struct ic_link2 *table, ic_length places, uint32_t at, uint32_t place);
 
-/* Moves `place`, from whichever ring it is in, before the place `at` of a ring. O(1). If `at` is a head, `place` becomes the last member.
- * The place stays linked. If `at` and `place` are the same, nothing changes. Linux calls this list_move_tail.
+/* Moves `place`, from whichever ring it is in, before the place `at` of a ring, as list_move_tail of Linux does, in O(1). If `at` is a
+ * head, `place` becomes the last member. The place stays linked, and nothing changes if `at` and `place` are the same.
  * IC_NULL: `at` or `place` is IC_NONE. IC_OUT_OF_RANGE: `at` or `place` is not below `places`. IC_NOT_LINKED: `at` or `place` is not
  * linked. IC_BROKEN: `at` or `place` is in no ring. */
 IC_NODISCARD
 uint32_t ic_ring_move_before(struct ic_link2 *table, ic_length places, uint32_t at, uint32_t place);
 
-/* Moves all members of the head `head`, in their order, after the place `at` of another ring. O(1). Then `head` has no members. Linux calls
- * this list_splice_init.
+/* Moves all members of the head `head`, in their order, after the place `at` of another ring, as list_splice_init of Linux does, in O(1).
+ * Afterwards `head` is the head of a ring with no members.
  * IC_NULL: `at` or `head` is IC_NONE. IC_OUT_OF_RANGE: `at` or `head` is not below `places`. IC_NOT_LINKED: `at` or `head` is not linked.
  * IC_BROKEN: `at` or `head` is in no ring, or `at` is that head itself or its last member. */
 IC_NODISCARD
 uint32_t ic_ring_splice_after(struct ic_link2 *table, ic_length places, uint32_t at, uint32_t head);
 
-/* Moves all members of the head `head`, in their order, before the place `at` of another ring. O(1). Then `head` has no members. Linux
- * calls this list_splice_tail_init.
+/* Moves all members of the head `head`, in their order, before the place `at` of another ring, as list_splice_tail_init of Linux does, in
+ * O(1). Afterwards `head` is the head of a ring with no members.
  * IC_NULL: `at` or `head` is IC_NONE. IC_OUT_OF_RANGE: `at` or `head` is not below `places`. IC_NOT_LINKED: `at` or `head` is not linked.
  * IC_BROKEN: `at` or `head` is in no ring, or `at` is that head itself or its first member. */
 IC_NODISCARD
@@ -538,15 +653,15 @@ uint32_t ic_ring_splice_before(struct ic_link2 *table, ic_length places, uint32_
 
 /* to here */
 
-/* Two names more for calls of a head, as lists have them. */
+/* These are two more names for calls of a head, as lists have them. */
 
-/* Inserts `place` as the first member of a head. It returns what ic_ring_insert_after returns. */
+/* Inserts `place` as the first member of a head, and returns what ic_ring_insert_after returns. */
 IC_NODISCARD
 static inline uint32_t ic_ring_push_front(struct ic_link2 *table, ic_length places, uint32_t head, uint32_t place) {
     return ic_ring_insert_after(table, places, head, place);
 }
 
-/* Inserts `place` as the last member of a head. It returns what ic_ring_insert_before returns. */
+/* Inserts `place` as the last member of a head, and returns what ic_ring_insert_before returns. */
 IC_NODISCARD
 static inline uint32_t ic_ring_push_back(struct ic_link2 *table, ic_length places, uint32_t head, uint32_t place) {
     return ic_ring_insert_before(table, places, head, place);
@@ -554,31 +669,51 @@ static inline uint32_t ic_ring_push_back(struct ic_link2 *table, ic_length place
 
 /* ---- Singly linked lists: 8 bytes a place, calls O(1) except ic_stack_splice_after, and to fill, clear and check ------------------------
  *
- * Good for stacks and free lists. Calls edit the list after the member `at`, or at the front if `at` is IC_NONE. If you keep the last member
- * beside it, a list is a queue: insert after that member, and pop at the front.
+ * Take them for stacks and free lists. Calls edit the list after the member `at`, or at the front if `at` is IC_NONE. If you keep the last member
+ * beside it, a list is a queue, in which you insert after that member and pop at the front.
  */
 
-/* Whether a place is in a list of the table. */
+/* Returns whether a place is in a list of the table. */
 static inline int ic_stack_is_linked(const struct ic_link1 *table, ic_length places, uint32_t place) {
     return place < ic_bound(places) && (table[place].next & 1);
 }
 
-/* Whether the list has no members. Then ic_stack_pop_front returns IC_NULL. */
+/* Returns whether the list has no members, in which case ic_stack_pop_front returns IC_NULL. */
 static inline int ic_stack_is_empty(const struct ic_stack *list) {
     return ic_number(list->head) == 0;
 }
 
-/* The first member, or IC_NONE. */
+/* Returns the first member, or IC_NONE if there is none. */
 static inline uint32_t ic_stack_first(const struct ic_stack *list) {
     return ic_place(list->head);
 }
 
-/* The member after the member `at`, or IC_NONE. */
+/* Returns the member after the member `at`, or IC_NONE. */
 static inline uint32_t ic_stack_next(const struct ic_link1 *table, ic_length places, uint32_t at) {
     return ic_stack_is_linked(table, places, at) ? ic_place_within(places, table[at].next) : IC_NONE;
 }
 
-/* The member to go on to from `place`, which was the member after *before, or the first member if *before is IC_NONE. If `place` is still
+/* Returns the first member, or IC_NONE if there is none or if it is no linked place of the table. */
+static inline uint32_t ic_stack_front(const struct ic_link1 *table, ic_length places, const struct ic_stack *list) {
+    return ic_stack_is_linked(table, places, ic_stack_first(list)) ? ic_stack_first(list) : IC_NONE;
+}
+
+/* Returns whether the place `at` is the first member of the list. */
+static inline int ic_stack_is_first(const struct ic_link1 *table, ic_length places, const struct ic_stack *list, uint32_t at) {
+    return at != IC_NONE && ic_stack_front(table, places, list) == at;
+}
+
+/* Returns whether the place `at` is the last member of its list. */
+static inline int ic_stack_is_last(const struct ic_link1 *table, ic_length places, uint32_t at) {
+    return ic_stack_is_linked(table, places, at) && ic_stack_next(table, places, at) == IC_NONE;
+}
+
+/* Returns whether the list has one member and no other. */
+static inline int ic_stack_is_singular(const struct ic_link1 *table, ic_length places, const struct ic_stack *list) {
+    return ic_stack_is_last(table, places, ic_stack_first(list));
+}
+
+/* Returns the member to go on to from `place`, which was the member after *before, or the first member if *before is IC_NONE. If `place` is still
  * there, *before becomes `place`. If it has been removed, the loop goes on to the member that is there now. */
 static inline uint32_t ic_stack_go_on(const struct ic_link1 *table, ic_length places, const struct ic_stack *list, uint32_t *before,
                                       uint32_t place) {
@@ -589,7 +724,8 @@ static inline uint32_t ic_stack_go_on(const struct ic_link1 *table, ic_length pl
     return ic_stack_next(table, places, place);
 }
 
-/* Loops from the first member to the last. `before` is the member before `place`, or IC_NONE. The calls that edit take it:
+/* These loops go from the first member to the last. `before` is the member before `place`, or IC_NONE. The calls
+ * that edit the list take it:
  *
  *     IC_STACK_FOREACH_SAFE(before, place, links, 100, &list)
  *         if (is_done(place))
@@ -601,67 +737,76 @@ static inline uint32_t ic_stack_go_on(const struct ic_link1 *table, ic_length pl
     for (uint32_t before = IC_NONE, place = ic_stack_first(list), ic_rounds_##place = ic_bound(places); \
          ic_stack_is_linked(table, places, place) && ic_rounds_##place--;                               \
          place = ic_stack_go_on(table, places, list, &before, place))
+#define IC_STACK_FOREACH_FROM(place, at, table, places) \
+    IC_LOOP(place, at, places, ic_stack_is_linked(table, places, place), ic_stack_next(table, places, place))
+#define IC_STACK_FOREACH_ENTRY(object, objects, table, places, list)                  \
+    IC_LOOP_ENTRY(object, objects, ic_at_##object, ic_stack_first(list), places,      \
+                  ic_stack_is_linked(table, places, ic_at_##object), ic_stack_next(table, places, ic_at_##object))
+#define IC_STACK_FOREACH_ENTRY_SAFE(before, object, objects, table, places, list)                                             \
+    for (uint32_t before = IC_NONE, ic_at_##object = ic_stack_first(list), ic_rounds_##object = ic_bound(places);             \
+         IC_ENTRY_IF(object, objects, ic_at_##object, ic_stack_is_linked(table, places, ic_at_##object) && ic_rounds_##object--); \
+         ic_at_##object = ic_stack_go_on(table, places, list, &before, ic_at_##object))
 
 /* tools/c-calls --write writes from here: stack */
 
-/* Inserts `place` at the front. O(1).
+/* Inserts `place` at the front, in O(1).
  * IC_OUT_OF_RANGE: `place` is not below `places`. IC_LINKED: `place` is linked already. IC_BROKEN: the first member does not belong to this
  * table. */
 IC_NODISCARD
 uint32_t ic_stack_push_front(struct ic_link1 *table, ic_length places, struct ic_stack *list, uint32_t place);
 
-/* Removes the first member, and sets *popped to it. O(1).
+/* Removes the first member, and sets *popped to it, in O(1).
  * IC_NULL: the list is empty. IC_BROKEN: the first member does not belong to this table. */
 IC_NODISCARD
 uint32_t ic_stack_pop_front(struct ic_link1 *table, ic_length places, struct ic_stack *list, uint32_t *popped);
 
-/* Inserts `place` after the member `at`, or at the front if `at` is IC_NONE. O(1).
- * IC_OUT_OF_RANGE: `at` or `place` is not below `places`. IC_LINKED: `place` is linked already. IC_NOT_LINKED: `at` is not linked.
- * IC_BROKEN: the next member does not belong to this table. */
+/* Inserts `place` after the member `at`, or at the front if `at` is IC_NONE, in O(1).
+ * IC_OUT_OF_RANGE: `at` or `place` is not below `places`. IC_LINKED: `place` is linked already. IC_NOT_LINKED: the place `at` is not
+ * linked. IC_BROKEN: the next member does not belong to this table. */
 IC_NODISCARD
 uint32_t ic_stack_insert_after(struct ic_link1 *table, ic_length places, struct ic_stack *list, uint32_t at, uint32_t place);
 
-/* Removes the member after the member `at`, or the first member if `at` is IC_NONE, and sets *removed to it. O(1).
- * IC_NULL: there is no such member. IC_OUT_OF_RANGE: `at` is not below `places`. IC_NOT_LINKED: `at` is not linked. IC_BROKEN: the next
- * member does not belong to this table. */
+/* Removes the member after the member `at`, or the first member if `at` is IC_NONE, and sets *removed to it, in O(1).
+ * IC_NULL: there is no such member. IC_OUT_OF_RANGE: the place `at` is not below `places`. IC_NOT_LINKED: the place `at` is not linked.
+ * IC_BROKEN: the next member does not belong to this table. */
 IC_NODISCARD
 uint32_t ic_stack_remove_after(struct ic_link1 *table, ic_length places, struct ic_stack *list, uint32_t at, uint32_t *removed);
 
 /* Removes the member after the member `at`, or the first member if `at` is IC_NONE, inserts `place` where it was, and sets *replaced to the
- * removed member. O(1).
+ * removed member, in O(1).
  * IC_NULL: there is no such member. IC_OUT_OF_RANGE: `at` or `place` is not below `places`. IC_LINKED: `place` is linked already.
- * IC_NOT_LINKED: `at` is not linked. IC_BROKEN: the next member does not belong to this table. */
+ * IC_NOT_LINKED: the place `at` is not linked. IC_BROKEN: the next member does not belong to this table. */
 IC_NODISCARD
 uint32_t ic_stack_replace_after(struct ic_link1 *table, ic_length places, struct ic_stack *list, uint32_t at, uint32_t place,
                                 uint32_t *replaced);
 
-/* Moves all members of `given`, in their order, after the member `at`, or to the front if `at` is IC_NONE. O(members of `given`). Then
- * `given` is empty.
- * IC_OUT_OF_RANGE: `at` is not below `places`. IC_NOT_LINKED: `at` is not linked. IC_BROKEN: `given` is no list of this table, or has no
- * end within as many steps as the table has places, or both lists begin with the same member, as a list and its copy do. */
+/* Moves all members of `given`, in their order, after the member `at`, or to the front if `at` is IC_NONE, and leaves `given` empty, in
+ * O(members of `given`).
+ * IC_OUT_OF_RANGE: the place `at` is not below `places`. IC_NOT_LINKED: the place `at` is not linked. IC_BROKEN: `given` is no list of this
+ * table, or has no end within as many steps as the table has places, or both lists begin with the same member, as a list and its copy do. */
 IC_NODISCARD
 uint32_t ic_stack_splice_after(struct ic_link1 *table, ic_length places, struct ic_stack *list, uint32_t at, struct ic_stack *given);
 
-/* Moves the members after the member `at`, or all members if `at` is IC_NONE, to `rest`, which has to be empty. O(1).
- * IC_OUT_OF_RANGE: `at` is not below `places`. IC_NOT_LINKED: `at` is not linked. IC_BROKEN: the next member does not belong to this table,
- * or `rest` has members. */
+/* Moves the members after the member `at`, or all members if `at` is IC_NONE, to `rest`, which has to be empty, in O(1).
+ * IC_OUT_OF_RANGE: the place `at` is not below `places`. IC_NOT_LINKED: the place `at` is not linked. IC_BROKEN: the next member does not
+ * belong to this table, or `rest` has members. */
 IC_NODISCARD
 uint32_t ic_stack_split_after(struct ic_link1 *table, ic_length places, struct ic_stack *list, uint32_t at, struct ic_stack *rest);
 
-/* Inserts `count` places, `first` and those after it, at the front in the order of their numbers, so that `first` becomes the first member.
- * O(count). If `count` is 0, nothing changes.
+/* Inserts `count` places, `first` and those after it, at the front in the order of their numbers, so that `first` becomes the first member,
+ * in O(count). The call changes nothing if `count` is 0.
  * IC_OUT_OF_RANGE: the first of these places that the call refuses is not below `places`. IC_LINKED: the first of these places that the
  * call refuses is linked already. IC_BROKEN: the first member is not linked. */
 IC_NODISCARD
 uint32_t ic_stack_fill(struct ic_link1 *table, ic_length places, struct ic_stack *list, uint32_t first, uint32_t count);
 
-/* Removes all members. O(n).
+/* Removes all members, in O(n).
  * IC_BROKEN: the links lead to no end within as many steps as the table has places. */
 IC_NODISCARD
 uint32_t ic_stack_clear(struct ic_link1 *table, ic_length places, struct ic_stack *list);
 
-/* Counts the members, and sets *members to how many there are. O(n). Call it if the words come from a file, or from memory that others
- * write: if the status is IC_OK, each call does what it says of a list that the table holds.
+/* Counts the members, and sets *members to how many there are, in O(n). Call it if the words come from a file, or from memory that others
+ * write. If the status is IC_OK, each call does what it says of a list that the table holds.
  * IC_BROKEN: the links lead from the first member to no end within the table. */
 IC_NODISCARD
 uint32_t ic_stack_check(const struct ic_link1 *table, ic_length places, const struct ic_stack *list, uint64_t *members);
@@ -670,7 +815,7 @@ uint32_t ic_stack_check(const struct ic_link1 *table, ic_length places, const st
 
 /* ---- Hash tables: 8 bytes a place and 8 a bucket ---------------------------------------------------------------------------------------
  *
- * Good for finding objects by a key, in no order. A hash table is an array of buckets, of which {0} is empty. A bucket is the head of a
+ * Take them to find objects by a key, in no order. A hash table is an array of buckets, of which {0} is empty. A bucket is the head of a
  * singly linked list, whose members are its chain. Your hash function makes a number of each key, and a member is in the bucket whose index
  * is hash % bucket_count. So hand the same hash to each call for one object. With about as many buckets as members, chains are short.
  *
@@ -680,43 +825,47 @@ uint32_t ic_stack_check(const struct ic_link1 *table, ic_length places, const st
  *     status = ic_hash_find(links, 100, keys, 100, buckets, 64, hash_of(30), 30, &found);
  *     status = ic_hash_remove(links, 100, buckets, 64, hash_of(keys[7]), 7);
  *
- * ic_hash_find compares numbers, in an array of your own: keys[place]. Any other comparison is yours, in a loop over the chain:
+ * ic_hash_find compares numbers in an array of your own, which has that of `place` at keys[place]. You make any other comparison in a loop over
+ * the chain:
  *
  *     IC_HASH_FOREACH(place, links, 100, buckets, 64, hash_of(name))
  *         if (strcmp(names[place], name) == 0)
  *             break;
  *
- * Each call for singly linked lists takes a bucket, too: ic_stack_clear empties one, and by ic_stack_pop_front and ic_hash_insert all members
+ * Each call for singly linked lists takes a bucket, too. So ic_stack_clear empties one, and by ic_stack_pop_front and ic_hash_insert all members
  * move to a larger array of buckets. A place is in one chain or list of a table, so the free places may be in a list of the same table.
  */
 
-/* The first member of the chain of a hash, or IC_NONE. */
+/* Returns the first member of the chain of a hash, or IC_NONE. */
 static inline uint32_t ic_hash_first(const struct ic_stack *buckets, ic_length bucket_count, uint64_t hash) {
     return bucket_count ? ic_stack_first(&buckets[hash % bucket_count]) : IC_NONE;
 }
 
-/* Loops over the chain of a hash. The body leaves its members where they are. */
+/* These loops go over the chain of a hash, and their bodies leave the members where they are. */
 #define IC_HASH_FOREACH(place, table, places, buckets, bucket_count, hash)                                                              \
     IC_LOOP(place, ic_hash_first(buckets, bucket_count, hash), places, ic_stack_is_linked(table, places, place),                        \
             ic_stack_next(table, places, place))
+#define IC_HASH_FOREACH_ENTRY(object, objects, table, places, buckets, bucket_count, hash)                     \
+    IC_LOOP_ENTRY(object, objects, ic_at_##object, ic_hash_first(buckets, bucket_count, hash), places,         \
+                  ic_stack_is_linked(table, places, ic_at_##object), ic_stack_next(table, places, ic_at_##object))
 
 /* tools/c-calls --write writes from here: hash */
 
-/* Inserts `place` at the front of the chain of `hash`. O(1).
+/* Inserts `place` at the front of the chain of `hash`, in O(1).
  * IC_OUT_OF_RANGE: there is no bucket, or `place` is not below `places`. IC_LINKED: `place` is linked already. IC_BROKEN: the first member
  * of the chain does not belong to this table. */
 IC_NODISCARD
 uint32_t ic_hash_insert(struct ic_link1 *table, ic_length places, struct ic_stack *buckets, ic_length bucket_count, uint64_t hash,
                         uint32_t place);
 
-/* Removes `place` from the chain of `hash`, wherever it is in it. O(members of the chain).
+/* Removes `place` from the chain of `hash`, wherever it is in it, in O(members of the chain).
  * IC_NULL: `place` is IC_NONE. IC_OUT_OF_RANGE: there is no bucket, or `place` is not below `places`. IC_NOT_LINKED: `place` is not linked.
  * IC_BROKEN: `place` is no member of this chain, but perhaps of the chain of another hash, or the chain does not belong to this table. */
 IC_NODISCARD
 uint32_t ic_hash_remove(struct ic_link1 *table, ic_length places, struct ic_stack *buckets, ic_length bucket_count, uint64_t hash,
                         uint32_t place);
 
-/* Finds the first member of the chain of `hash` whose key is `key`, and sets *found to it. O(members of the chain). Of several such
+/* Finds the first member of the chain of `hash` whose key is `key`, and sets *found to it, in O(members of the chain). Of several such
  * members, the first is the one that was inserted last.
  * IC_NULL: there is no such member. IC_OUT_OF_RANGE: there are fewer keys than places, or there is no bucket. IC_BROKEN: the chain does not
  * belong to this table. */
@@ -724,9 +873,10 @@ IC_NODISCARD
 uint32_t ic_hash_find(const struct ic_link1 *table, ic_length places, const uint64_t *keys, ic_length key_count,
                       const struct ic_stack *buckets, ic_length bucket_count, uint64_t hash, uint64_t key, uint32_t *found);
 
-/* Finds the next member after the member `at`, in its chain, that has the same key as `at`, and sets *found to it. O(members of the chain).
- * IC_NULL: `at` is IC_NONE, or there is no such member. IC_OUT_OF_RANGE: there are fewer keys than places, or `at` is not below `places`.
- * IC_NOT_LINKED: `at` is not linked. IC_BROKEN: the chain does not belong to this table. */
+/* Finds the next member after the member `at`, in its chain, that has the same key as `at`, and sets *found to it, in O(members of the
+ * chain).
+ * IC_NULL: the place `at` is IC_NONE, or there is no such member. IC_OUT_OF_RANGE: there are fewer keys than places, or the place `at` is
+ * not below `places`. IC_NOT_LINKED: the place `at` is not linked. IC_BROKEN: the chain does not belong to this table. */
 IC_NODISCARD
 uint32_t ic_hash_next_equal(const struct ic_link1 *table, ic_length places, const uint64_t *keys, ic_length key_count, uint32_t at,
                             uint32_t *found);
@@ -735,51 +885,77 @@ uint32_t ic_hash_next_equal(const struct ic_link1 *table, ic_length places, cons
 
 /* ---- XOR lists: 8 bytes a place, calls O(1) except ic_xor_fill and ic_xor_clear -----------------------------------------------------
  *
- * Good for lists that you use at both ends and walk both ways, if memory is scarce. A member alone does not tell its neighbors, so you name
- * a gap by both members beside it: `before` is the member before the gap, or IC_NONE at the front, and `after` is the member after the gap, or
+ * Take them for lists that you use at both ends and walk both ways, if memory is scarce. A member alone does not tell its neighbors, so you
+ * name a gap by both members beside it. Here `before` is the member before the gap, or IC_NONE at the front, and `after` is the member after the gap, or
  * IC_NONE at the back. Both are IC_NONE in an empty list.
  *
  * A call at a gap tests that both members are linked, and that their words with each other name linked places beyond them, or none at an
- * end of the list. So it refuses with IC_BROKEN two names that are no gap if one of them is IC_NONE or an end, and most other pairs of
- * members. But if many places are linked, a pair that is no gap may pass: in the list of the places 0 to 6, in their order, 1 and 6 pass.
- * Then the call mixes the list up, within the table. So name members that you know to be neighbors.
+ * end of the list. So it refuses IC_NONE beside a member that is not that end, and most pairs that are no gap if few places are linked. Two
+ * neighbors in the wrong order pass. In a table that is nearly full most pairs that are no gap pass: 26 of 36 in the list of the places
+ * 0 to 6, in their order, and 8,871 of 9,801 in that of the places 0 to 99. Then the call mixes the list up, within the table. So name
+ * members that you know to be neighbors.
  */
 
-/* Whether a place is in a list of the table. */
+/* Returns whether a place is in a list of the table. */
 static inline int ic_xor_is_linked(const struct ic_link1 *table, ic_length places, uint32_t place) {
     return place < ic_bound(places) && (table[place].next & 1);
 }
 
-/* Whether the list has no members. Then ic_xor_pop_front returns IC_NULL. */
+/* Returns whether the list has no members, in which case ic_xor_pop_front returns IC_NULL. */
 static inline int ic_xor_is_empty(const struct ic_xor_list *list) {
     return ic_number(list->head) == 0;
 }
 
-/* The first member, or IC_NONE. */
+/* Returns the first member, or IC_NONE if there is none. */
 static inline uint32_t ic_xor_first(const struct ic_xor_list *list) {
     return ic_place(list->head);
 }
 
-/* The last member, or IC_NONE. */
+/* Returns the last member, or IC_NONE if there is none. */
 static inline uint32_t ic_xor_last(const struct ic_xor_list *list) {
     return ic_place(list->tail);
 }
 
-/* The neighbor of the member `at` on the other side than its neighbor `from`, or IC_NONE. `from` is IC_NONE at an end of the list.
- * From the first member with IC_NONE it leads to the back, and from the last to the front. If `from` is no neighbor, the step leads to
+/* Returns the neighbor of the member `at` on the other side than its neighbor `from`, or IC_NONE. At an end of the list `from` is
+ * IC_NONE. From the first member with IC_NONE the step leads to the back, and from the last one to the front. If `from` is no neighbor, the step leads to
  * some place of the table or to IC_NONE. */
 static inline uint32_t ic_xor_step(const struct ic_link1 *table, ic_length places, uint32_t from, uint32_t at) {
     return ic_xor_is_linked(table, places, at) ? ic_place_within(places, table[at].next ^ ic_word(from)) : IC_NONE;
 }
 
-/* The member to go on to from `place`, which was reached from *from. *from is `place` then. */
+/* Returns the first member, or IC_NONE if there is none or if it is no linked place of the table. */
+static inline uint32_t ic_xor_front(const struct ic_link1 *table, ic_length places, const struct ic_xor_list *list) {
+    return ic_xor_is_linked(table, places, ic_xor_first(list)) ? ic_xor_first(list) : IC_NONE;
+}
+
+/* Returns the last member, or IC_NONE if there is none or if it is no linked place of the table. */
+static inline uint32_t ic_xor_back(const struct ic_link1 *table, ic_length places, const struct ic_xor_list *list) {
+    return ic_xor_is_linked(table, places, ic_xor_last(list)) ? ic_xor_last(list) : IC_NONE;
+}
+
+/* Returns whether the place `at` is the first member of the list. */
+static inline int ic_xor_is_first(const struct ic_link1 *table, ic_length places, const struct ic_xor_list *list, uint32_t at) {
+    return at != IC_NONE && ic_xor_front(table, places, list) == at;
+}
+
+/* Returns whether the place `at` is the last member of the list. */
+static inline int ic_xor_is_last(const struct ic_link1 *table, ic_length places, const struct ic_xor_list *list, uint32_t at) {
+    return at != IC_NONE && ic_xor_back(table, places, list) == at;
+}
+
+/* Returns whether the list has one member and no other. */
+static inline int ic_xor_is_singular(const struct ic_link1 *table, ic_length places, const struct ic_xor_list *list) {
+    return ic_xor_is_first(table, places, list, ic_xor_last(list));
+}
+
+/* Returns the member to go on to from `place`, which the loop reached from *from, and sets *from to `place`. */
 static inline uint32_t ic_xor_go_on(const struct ic_link1 *table, ic_length places, uint32_t *from, uint32_t place) {
     uint32_t next = ic_xor_step(table, places, *from, place);
     *from = place;
     return next;
 }
 
-/* Loops from the first member to the last, and back. In both directions `before` is the member before `place`, and `after` is the member
+/* These loops go from the first member to the last, and back. In both directions `before` is the member before `place`, and `after` is the member
  * after it. They are IC_NONE beyond an end.
  *
  *     IC_XOR_FOREACH_SAFE(before, place, after, links, 100, &list)
@@ -794,111 +970,127 @@ static inline uint32_t ic_xor_go_on(const struct ic_link1 *table, ic_length plac
     IC_XOR_LOOP_SAFE(before, place, after, ic_xor_first(list), table, places)
 #define IC_XOR_FOREACH_REVERSE_SAFE(before, place, after, table, places, list) \
     IC_XOR_LOOP_SAFE(after, place, before, ic_xor_last(list), table, places)
+#define IC_XOR_FOREACH_ENTRY(object, objects, table, places, list) \
+    IC_XOR_LOOP_ENTRY(object, objects, ic_at_##object, ic_xor_first(list), table, places)
+#define IC_XOR_FOREACH_ENTRY_REVERSE(object, objects, table, places, list) \
+    IC_XOR_LOOP_ENTRY(object, objects, ic_at_##object, ic_xor_last(list), table, places)
+#define IC_XOR_FOREACH_ENTRY_SAFE(before, object, objects, after, table, places, list) \
+    IC_XOR_LOOP_ENTRY_SAFE(object, objects, before, ic_at_##object, after, ic_xor_first(list), table, places)
+#define IC_XOR_FOREACH_ENTRY_REVERSE_SAFE(before, object, objects, after, table, places, list) \
+    IC_XOR_LOOP_ENTRY_SAFE(object, objects, after, ic_at_##object, before, ic_xor_last(list), table, places)
 
-/* The loops of both directions. The second reads the member beyond `next` before its body runs. From there it finds the member beside
- * `next` after the body has run: `place`, or `from` if the body has removed `place`. */
-#define IC_XOR_LOOP(place, first, table, places)                                                    \
-    for (uint32_t place = (first), ic_from_##place = IC_NONE, ic_rounds_##place = ic_bound(places); \
-         ic_xor_is_linked(table, places, place) && ic_rounds_##place--;                             \
+/* These loops go in both directions, while `is_member` is true. The safe one reads the member beyond `next` before its body runs. From there it
+ * finds the member beside `next` after the body has run, which is `place`, or `from` if the body has removed `place`. */
+#define IC_XOR_WALK(place, first, table, places, is_member)                                                  \
+    for (uint32_t place = (first), ic_from_##place = IC_NONE, ic_rounds_##place = ic_bound(places); is_member; \
          place = ic_xor_go_on(table, places, &ic_from_##place, place))
-#define IC_XOR_LOOP_SAFE(from, place, next, first, table, places)                                                    \
+#define IC_XOR_WALK_SAFE(from, place, next, first, table, places, is_member)                                         \
     for (uint32_t from = IC_NONE, place = (first), next = ic_xor_step(table, places, from, place),                   \
                   ic_beyond_##place = ic_xor_step(table, places, place, next), ic_rounds_##place = ic_bound(places); \
-         ic_xor_is_linked(table, places, place) && ic_rounds_##place--;                                              \
+         is_member;                                                                                                  \
          from = ic_xor_step(table, places, ic_beyond_##place, next), place = next, next = ic_beyond_##place,         \
                   ic_beyond_##place = ic_xor_step(table, places, place, next))
+#define IC_XOR_ROUND(place, table, places) (ic_xor_is_linked(table, places, place) && ic_rounds_##place--)
+#define IC_XOR_LOOP(place, first, table, places) IC_XOR_WALK(place, first, table, places, IC_XOR_ROUND(place, table, places))
+#define IC_XOR_LOOP_SAFE(from, place, next, first, table, places) \
+    IC_XOR_WALK_SAFE(from, place, next, first, table, places, IC_XOR_ROUND(place, table, places))
+#define IC_XOR_LOOP_ENTRY(object, objects, place, first, table, places) \
+    IC_XOR_WALK(place, first, table, places, IC_ENTRY_IF(object, objects, place, IC_XOR_ROUND(place, table, places)))
+#define IC_XOR_LOOP_ENTRY_SAFE(object, objects, from, place, next, first, table, places) \
+    IC_XOR_WALK_SAFE(from, place, next, first, table, places, IC_ENTRY_IF(object, objects, place, IC_XOR_ROUND(place, table, places)))
 
 /* tools/c-calls --write writes from here: xor */
 
-/* Inserts `place` at the front. O(1).
+/* Inserts `place` at the front, in O(1).
  * IC_OUT_OF_RANGE: `place` is not below `places`. IC_LINKED: `place` is linked already. IC_BROKEN: the first member does not belong to this
  * table. */
 IC_NODISCARD
 uint32_t ic_xor_push_front(struct ic_link1 *table, ic_length places, struct ic_xor_list *list, uint32_t place);
 
-/* Inserts `place` at the back. O(1).
+/* Inserts `place` at the back, in O(1).
  * IC_OUT_OF_RANGE: `place` is not below `places`. IC_LINKED: `place` is linked already. IC_BROKEN: the last member does not belong to this
  * table. */
 IC_NODISCARD
 uint32_t ic_xor_push_back(struct ic_link1 *table, ic_length places, struct ic_xor_list *list, uint32_t place);
 
-/* Removes the first member, and sets *popped to it. O(1).
+/* Removes the first member, and sets *popped to it, in O(1).
  * IC_NULL: the list is empty. IC_BROKEN: the first member does not belong to this table. */
 IC_NODISCARD
 uint32_t ic_xor_pop_front(struct ic_link1 *table, ic_length places, struct ic_xor_list *list, uint32_t *popped);
 
-/* Removes the last member, and sets *popped to it. O(1).
+/* Removes the last member, and sets *popped to it, in O(1).
  * IC_NULL: the list is empty. IC_BROKEN: the last member does not belong to this table. */
 IC_NODISCARD
 uint32_t ic_xor_pop_back(struct ic_link1 *table, ic_length places, struct ic_xor_list *list, uint32_t *popped);
 
-/* Inserts `place` in the gap between the members `before` and `after`, which are IC_NONE beyond an end. O(1).
+/* Inserts `place` in the gap between the members `before` and `after`, which are IC_NONE beyond an end, in O(1).
  * IC_OUT_OF_RANGE: `before`, `place` or `after` is not below `places`. IC_LINKED: `place` is linked already. IC_NOT_LINKED: `before` or
  * `after` is not linked. IC_BROKEN: there is no such gap. */
 IC_NODISCARD
 uint32_t ic_xor_insert_between(struct ic_link1 *table, ic_length places, struct ic_xor_list *list, uint32_t before, uint32_t place,
                                uint32_t after);
 
-/* Removes the member `at`. O(1). Before it is the member `before`, which is IC_NONE if `at` is the first member.
- * IC_NULL: `at` is IC_NONE. IC_OUT_OF_RANGE: `before` or `at` is not below `places`. IC_NOT_LINKED: `before` or `at` is not linked.
- * IC_BROKEN: `before` and `at` are no such members. */
+/* Removes the member `at`, in O(1). You name the member before it, too: `before`, which is IC_NONE if `at` is the first member.
+ * IC_NULL: the place `at` is IC_NONE. IC_OUT_OF_RANGE: `before` or `at` is not below `places`. IC_NOT_LINKED: `before` or `at` is not
+ * linked. IC_BROKEN: `before` and `at` are no such members. */
 IC_NODISCARD
 uint32_t ic_xor_remove(struct ic_link1 *table, ic_length places, struct ic_xor_list *list, uint32_t before, uint32_t at);
 
-/* Removes the member `at`, and inserts `place` where it was. O(1). Before `at` is the member `before`, which is IC_NONE if `at` is the
- * first member.
- * IC_NULL: `at` is IC_NONE. IC_OUT_OF_RANGE: `before`, `at` or `place` is not below `places`. IC_LINKED: `place` is linked already, as it
- * is if `at` and `place` are the same. IC_NOT_LINKED: `before` or `at` is not linked. IC_BROKEN: `before` and `at` are no such members. */
+/* Removes the member `at`, and inserts `place` where it was, in O(1). You name the member before `at`, too: `before`, which is IC_NONE if
+ * `at` is the first member.
+ * IC_NULL: the place `at` is IC_NONE. IC_OUT_OF_RANGE: `before`, `at` or `place` is not below `places`. IC_LINKED: `place` is linked
+ * already, also where `at` and `place` are the same. IC_NOT_LINKED: `before` or `at` is not linked. IC_BROKEN: `before` and `at` are no
+ * such members. */
 IC_NODISCARD
 uint32_t ic_xor_replace(struct ic_link1 *table, ic_length places, struct ic_xor_list *list, uint32_t before, uint32_t at, uint32_t place);
 
-/* Moves all members of `given`, in their order, into the gap between the members `before` and `after`, which are IC_NONE beyond an end.
- * O(1). Then `given` is empty.
+/* Moves all members of `given`, in their order, into the gap between the members `before` and `after`, which are IC_NONE beyond an end, and
+ * leaves `given` empty, in O(1).
  * IC_OUT_OF_RANGE: `before` or `after` is not below `places`. IC_NOT_LINKED: `before` or `after` is not linked. IC_BROKEN: there is no such
  * gap, or `given` is no list of this table, or both lists begin with the same member, as a list and its copy do. */
 IC_NODISCARD
 uint32_t ic_xor_splice_between(struct ic_link1 *table, ic_length places, struct ic_xor_list *list, uint32_t before, struct ic_xor_list *given,
                                uint32_t after);
 
-/* Moves all members of `given`, in their order, to the back. O(1). Then `given` is empty.
+/* Moves all members of `given`, in their order, to the back, and leaves `given` empty, in O(1).
  * IC_BROKEN: an end of one of the lists does not belong to this table, or both lists begin with the same member, as a list and its copy do. */
 IC_NODISCARD
 uint32_t ic_xor_append(struct ic_link1 *table, ic_length places, struct ic_xor_list *list, struct ic_xor_list *given);
 
-/* Inserts `count` places, `first` and those after it, at the back in the order of their numbers. O(count). If `count` is 0, nothing
- * changes.
+/* Inserts `count` places, `first` and those after it, at the back in the order of their numbers, in O(count). The call changes nothing if
+ * `count` is 0.
  * IC_OUT_OF_RANGE: the first of these places that the call refuses is not below `places`. IC_LINKED: the first of these places that the
  * call refuses is linked already. IC_BROKEN: the last member does not belong to this table. */
 IC_NODISCARD
 uint32_t ic_xor_fill(struct ic_link1 *table, ic_length places, struct ic_xor_list *list, uint32_t first, uint32_t count);
 
-/* Removes all members. O(n).
+/* Removes all members, in O(n).
  * IC_BROKEN: an end of the list does not belong to this table, or the links do not lead from one end to the other within as many steps as
  * the table has places. */
 IC_NODISCARD
 uint32_t ic_xor_clear(struct ic_link1 *table, ic_length places, struct ic_xor_list *list);
 
-/* Moves the members from `after` on to `rest`, which has to be empty, so that `before` becomes the last member. O(1). All members move if
- * `before` is IC_NONE, and none if `after` is IC_NONE.
+/* Moves the members from `after` on to `rest`, which has to be empty, so that `before` becomes the last member, in O(1). All members move
+ * if `before` is IC_NONE, and none if `after` is IC_NONE.
  * IC_OUT_OF_RANGE: `before` or `after` is not below `places`. IC_NOT_LINKED: `before` or `after` is not linked. IC_BROKEN: there is no such
  * gap, or `rest` has members. */
 IC_NODISCARD
 uint32_t ic_xor_split_between(struct ic_link1 *table, ic_length places, struct ic_xor_list *list, uint32_t before, uint32_t after,
                               struct ic_xor_list *rest);
 
-/* Reverses the list. O(1). The call reads and writes no table, and is never refused. */
+/* Reverses the list, in O(1). The call reads and writes no table, and is never refused. */
 uint32_t ic_xor_reverse(struct ic_xor_list *list);
 
 /* to here */
 
 /* ---- Red-black trees: 24 bytes a place, calls O(log n) except ic_tree_clear and ic_tree_check ---------------------------------------
  *
- * Good for timers, priorities and indices: objects in order, which you insert and remove anywhere, and search for. You order them in one of
- * two ways:
+ * Take them for timers, priorities and indices, which are objects in order that you insert and remove anywhere, and search for. You order them
+ * in one of two ways:
  *
- *   - By a number each, in an array of your own: keys[place]. ic_tree_insert inserts a place where its key belongs, and ic_tree_find and
+ *   - You give each place a number, in an array of your own, and keys[place] is that of `place`. ic_tree_insert inserts a place where its key belongs, and ic_tree_find and
  *     both bounds search by it. To change a member's key, remove the member, and insert it again after that.
- *   - By any comparison of yours, as with sys/tree.h or the rb_link_node of Linux. Go down from the root to where the place belongs, and
+ *   - You make any comparison of yours, as with sys/tree.h or the rb_link_node of Linux. Go down from the root to where the place belongs, and
  *     insert it there:
  *
  *         uint32_t at = ic_tree_root(&tree), under = IC_NONE;
@@ -913,72 +1105,72 @@ uint32_t ic_xor_reverse(struct ic_xor_list *list);
  * The calls that remove a member, and those that step to the next member and back, compare nothing.
  */
 
-/* Whether a place is in a tree of the table. */
+/* Returns whether a place is in a tree of the table. */
 static inline int ic_tree_is_linked(const struct ic_link3 *table, ic_length places, uint32_t place) {
     return place < ic_bound(places) && (table[place].left & 1);
 }
 
-/* Whether the tree has no members. Then ic_tree_first returns IC_NULL. */
+/* Returns whether the tree has no members, in which case ic_tree_first returns IC_NULL. */
 static inline int ic_tree_is_empty(const struct ic_tree *tree) {
     return ic_number(tree->root) == 0;
 }
 
-/* The root, or IC_NONE. */
+/* Returns the root, or IC_NONE if the tree has no members. */
 static inline uint32_t ic_tree_root(const struct ic_tree *tree) {
     return ic_place(tree->root);
 }
 
-/* The left child of the member `at`, or IC_NONE. The members under it come before `at`. */
+/* Returns the left child of the member `at`, or IC_NONE. The members under it come before `at`. */
 static inline uint32_t ic_tree_left(const struct ic_link3 *table, ic_length places, uint32_t at) {
     return ic_tree_is_linked(table, places, at) ? ic_place_within(places, table[at].left) : IC_NONE;
 }
 
-/* The right child of the member `at`, or IC_NONE. The members under it come after `at`. */
+/* Returns the right child of the member `at`, or IC_NONE. The members under it come after `at`. */
 static inline uint32_t ic_tree_right(const struct ic_link3 *table, ic_length places, uint32_t at) {
     return ic_tree_is_linked(table, places, at) ? ic_place_within(places, table[at].right) : IC_NONE;
 }
 
-/* The parent of the member `at`, or IC_NONE. */
+/* Returns the parent of the member `at`, or IC_NONE. */
 static inline uint32_t ic_tree_parent(const struct ic_link3 *table, ic_length places, uint32_t at) {
     return ic_tree_is_linked(table, places, at) ? ic_place_within(places, table[at].parent) : IC_NONE;
 }
 
 /* tools/c-calls --write writes from here: tree */
 
-/* Inserts `place` as the left child of the member `at`, which has none, and balances the tree. O(log n). The place comes directly before
- * `at`. If `at` is IC_NONE, the tree has to be empty, and `place` becomes its root.
- * IC_OUT_OF_RANGE: `at` or `place` is not below `places`. IC_LINKED: `place` is linked already. IC_NOT_LINKED: `at` is not linked.
- * IC_BROKEN: `at` has a left child, or `at` is IC_NONE and the tree has members, or the root does not belong to this table. */
+/* Inserts `place` as the left child of the member `at`, which has none, and balances the tree, in O(log n). No member comes between the
+ * place and `at`, which is after it. If `at` is IC_NONE, the tree has to be empty, and `place` becomes its root.
+ * IC_OUT_OF_RANGE: `at` or `place` is not below `places`. IC_LINKED: `place` is linked already. IC_NOT_LINKED: the place `at` is not
+ * linked. IC_BROKEN: `at` has a left child, or `at` is IC_NONE and the tree has members, or the root does not belong to this table. */
 IC_NODISCARD
 uint32_t ic_tree_insert_left(struct ic_link3 *table, ic_length places, struct ic_tree *tree, uint32_t at, uint32_t place);
 
-/* Inserts `place` as the right child of the member `at`, which has none, and balances the tree. O(log n). The place comes directly after
- * `at`. If `at` is IC_NONE, the tree has to be empty, and `place` becomes its root.
- * IC_OUT_OF_RANGE: `at` or `place` is not below `places`. IC_LINKED: `place` is linked already. IC_NOT_LINKED: `at` is not linked.
- * IC_BROKEN: `at` has a right child, or `at` is IC_NONE and the tree has members, or the root does not belong to this table. */
+/* Inserts `place` as the right child of the member `at`, which has none, and balances the tree, in O(log n). No member comes between `at`
+ * and the place, which is after it. If `at` is IC_NONE, the tree has to be empty, and `place` becomes its root.
+ * IC_OUT_OF_RANGE: `at` or `place` is not below `places`. IC_LINKED: `place` is linked already. IC_NOT_LINKED: the place `at` is not
+ * linked. IC_BROKEN: `at` has a right child, or `at` is IC_NONE and the tree has members, or the root does not belong to this table. */
 IC_NODISCARD
 uint32_t ic_tree_insert_right(struct ic_link3 *table, ic_length places, struct ic_tree *tree, uint32_t at, uint32_t place);
 
-/* Removes the member `at`. O(log n).
- * IC_NULL: `at` is IC_NONE. IC_OUT_OF_RANGE: `at` is not below `places`. IC_NOT_LINKED: `at` is not linked. IC_BROKEN: the root does not
- * belong to this table. */
+/* Removes the member `at`, in O(log n).
+ * IC_NULL: the place `at` is IC_NONE. IC_OUT_OF_RANGE: the place `at` is not below `places`. IC_NOT_LINKED: the place `at` is not linked.
+ * IC_BROKEN: the root does not belong to this table. */
 IC_NODISCARD
 uint32_t ic_tree_remove(struct ic_link3 *table, ic_length places, struct ic_tree *tree, uint32_t at);
 
-/* Removes the member `at`, and inserts `place` where it was. O(1). The call compares nothing, so hand in a place that belongs there.
- * IC_NULL: `at` is IC_NONE. IC_OUT_OF_RANGE: `at` or `place` is not below `places`. IC_LINKED: `place` is linked already, as it is if `at`
- * and `place` are the same. IC_NOT_LINKED: `at` is not linked. IC_BROKEN: the root does not belong to this table. */
+/* Removes the member `at`, and inserts `place` where it was, in O(1). The call compares nothing, so hand in a place that belongs there.
+ * IC_NULL: the place `at` is IC_NONE. IC_OUT_OF_RANGE: `at` or `place` is not below `places`. IC_LINKED: `place` is linked already, also
+ * where `at` and `place` are the same. IC_NOT_LINKED: the place `at` is not linked. IC_BROKEN: the root does not belong to this table. */
 IC_NODISCARD
 uint32_t ic_tree_replace(struct ic_link3 *table, ic_length places, struct ic_tree *tree, uint32_t at, uint32_t place);
 
-/* Removes all members. O(n).
+/* Removes all members, in O(n).
  * IC_BROKEN: the root does not belong to this table, or the steps from the first member on come to a place that is not linked, or to no end
  * within as many steps as the table has places. */
 IC_NODISCARD
 uint32_t ic_tree_clear(struct ic_link3 *table, ic_length places, struct ic_tree *tree);
 
-/* Counts the members, and sets *members to how many there are. O(n). Call it if the words come from a file, or from memory that others
- * write: if the status is IC_OK, each call does what it says of a tree that the table holds. The check reads no keys. It calls itself, at
+/* Counts the members, and sets *members to how many there are, in O(n). Call it if the words come from a file, or from memory that others
+ * write. If the status is IC_OK, each call does what it says of a tree that the table holds. The check reads no keys, and calls itself, at
  * most 67 times within one another.
  * IC_BROKEN: the links form no red-black tree from the root on, because a parent, a color or a child is wrong. */
 IC_NODISCARD
@@ -994,28 +1186,28 @@ uint32_t ic_tree_check(const struct ic_link3 *table, ic_length places, const str
 
 /* tools/c-calls --write writes from here: tree-keys */
 
-/* Inserts `place` by its key, after all members whose keys are not greater than `keys[place]`. O(log n).
+/* Inserts `place` by its key, after all members whose keys are not greater than `keys[place]`, in O(log n).
  * IC_OUT_OF_RANGE: there are fewer keys than places, or `place` is not below `places`. IC_LINKED: `place` is linked already. IC_BROKEN: the
  * root does not belong to this table. */
 IC_NODISCARD
 uint32_t ic_tree_insert(struct ic_link3 *table, ic_length places, const uint64_t *keys, ic_length key_count, struct ic_tree *tree,
                         uint32_t place);
 
-/* Finds the first member whose key is `key`, and sets *found to it. O(log n).
+/* Finds the first member whose key is `key`, and sets *found to it, in O(log n).
  * IC_NULL: there is no such member. IC_OUT_OF_RANGE: there are fewer keys than places. IC_BROKEN: the root does not belong to this table. */
 IC_NODISCARD
 uint32_t ic_tree_find(const struct ic_link3 *table, ic_length places, const uint64_t *keys, ic_length key_count, const struct ic_tree *tree,
                       uint64_t key, uint32_t *found);
 
-/* Finds the first member whose key is not less than `key`, and sets *found to it. O(log n).
+/* Finds the first member whose key is not less than `key`, and sets *found to it, in O(log n).
  * IC_NULL: there is no such member. IC_OUT_OF_RANGE: there are fewer keys than places. IC_BROKEN: the root does not belong to this table. */
 IC_NODISCARD
 uint32_t ic_tree_lower_bound(const struct ic_link3 *table, ic_length places, const uint64_t *keys, ic_length key_count,
                              const struct ic_tree *tree, uint64_t key, uint32_t *found);
 
-/* Finds the LAST member whose key is NOT GREATER than `key`, and sets *found to it. O(log n). The upper_bound of C++ finds another one, the
- * first member whose key is greater. Both bounds are named as in the Rust crate intrusive-collections: if there are members with keys from
- * `low` to `high`, the lower bound of `low` is the first of them, and the upper bound of `high` is the last.
+/* Finds the LAST member whose key is NOT GREATER than `key`, and sets *found to it, in O(log n). The upper_bound of C++ finds another one,
+ * the first member whose key is greater. Both bounds have their names from the Rust crate intrusive-collections. If there are members with
+ * keys from `low` to `high`, the lower bound of `low` is the first of them, and the upper bound of `high` is the last.
  * IC_NULL: there is no such member. IC_OUT_OF_RANGE: there are fewer keys than places. IC_BROKEN: the root does not belong to this table. */
 IC_NODISCARD
 uint32_t ic_tree_upper_bound(const struct ic_link3 *table, ic_length places, const uint64_t *keys, ic_length key_count,
@@ -1030,15 +1222,15 @@ uint32_t ic_tree_upper_bound(const struct ic_link3 *table, ic_length places, con
 
 /* tools/c-calls --write writes from here: tree-steps */
 
-/* Finds the member after the member `at`, or the first member if `at` is IC_NONE, and sets *found to it. O(log n).
- * IC_NULL: `at` is the last member, or the tree is empty. IC_OUT_OF_RANGE: `at` is not below `places`. IC_NOT_LINKED: `at` is not linked.
- * IC_BROKEN: the root does not belong to this table. */
+/* Finds the member after the member `at`, or the first member if `at` is IC_NONE, and sets *found to it, in O(log n).
+ * IC_NULL: `at` is the last member, or the tree is empty. IC_OUT_OF_RANGE: the place `at` is not below `places`. IC_NOT_LINKED: the place
+ * `at` is not linked. IC_BROKEN: the root does not belong to this table. */
 IC_NODISCARD
 uint32_t ic_tree_next(const struct ic_link3 *table, ic_length places, const struct ic_tree *tree, uint32_t at, uint32_t *found);
 
-/* Finds the member before the member `at`, or the last member if `at` is IC_NONE, and sets *found to it. O(log n).
- * IC_NULL: `at` is the first member, or the tree is empty. IC_OUT_OF_RANGE: `at` is not below `places`. IC_NOT_LINKED: `at` is not linked.
- * IC_BROKEN: the root does not belong to this table. */
+/* Finds the member before the member `at`, or the last member if `at` is IC_NONE, and sets *found to it, in O(log n).
+ * IC_NULL: `at` is the first member, or the tree is empty. IC_OUT_OF_RANGE: the place `at` is not below `places`. IC_NOT_LINKED: the place
+ * `at` is not linked. IC_BROKEN: the root does not belong to this table. */
 IC_NODISCARD
 uint32_t ic_tree_prev(const struct ic_link3 *table, ic_length places, const struct ic_tree *tree, uint32_t at, uint32_t *found);
 
@@ -1056,19 +1248,19 @@ static inline uint32_t ic_tree_last(const struct ic_link3 *table, ic_length plac
     return ic_tree_prev(table, places, tree, IC_NONE, found);
 }
 
-/* The member after the member `at`, or the first member if `at` is IC_NONE, or IC_NONE if there is none. */
+/* Returns the member after the member `at`, or the first member if `at` is IC_NONE, or IC_NONE if there is none. */
 static inline uint32_t ic_tree_after(const struct ic_link3 *table, ic_length places, const struct ic_tree *tree, uint32_t at) {
     uint32_t found;
     return ic_tree_next(table, places, tree, at, &found) == IC_OK ? found : IC_NONE;
 }
 
-/* The member before the member `at`, or the last member if `at` is IC_NONE, or IC_NONE if there is none. */
+/* Returns the member before the member `at`, or the last member if `at` is IC_NONE, or IC_NONE if there is none. */
 static inline uint32_t ic_tree_before(const struct ic_link3 *table, ic_length places, const struct ic_tree *tree, uint32_t at) {
     uint32_t found;
     return ic_tree_prev(table, places, tree, at, &found) == IC_OK ? found : IC_NONE;
 }
 
-/* Loops from the first member to the last, and back. `next` and `prev` are as in the loops of a list. */
+/* These loops go from the first member to the last, and back. `next` and `prev` are as in the loops of a list. */
 #define IC_TREE_FOREACH(place, table, places, tree) \
     IC_LOOP(place, ic_tree_after(table, places, tree, IC_NONE), places, place != IC_NONE, ic_tree_after(table, places, tree, place))
 #define IC_TREE_FOREACH_REVERSE(place, table, places, tree) \
@@ -1079,6 +1271,22 @@ static inline uint32_t ic_tree_before(const struct ic_link3 *table, ic_length pl
 #define IC_TREE_FOREACH_REVERSE_SAFE(place, prev, table, places, tree)                                                       \
     IC_LOOP_SAFE(place, prev, ic_tree_before(table, places, tree, IC_NONE), places, ic_tree_is_linked(table, places, place), \
                  ic_tree_before(table, places, tree, place))
+#define IC_TREE_FOREACH_ENTRY(object, objects, table, places, tree)                                     \
+    IC_LOOP_ENTRY(object, objects, ic_at_##object, ic_tree_after(table, places, tree, IC_NONE), places, \
+        ic_tree_is_linked(table, places, ic_at_##object), ic_tree_after(table, places, tree, ic_at_##object))
+#define IC_TREE_FOREACH_ENTRY_REVERSE(object, objects, table, places, tree)                              \
+    IC_LOOP_ENTRY(object, objects, ic_at_##object, ic_tree_before(table, places, tree, IC_NONE), places, \
+        ic_tree_is_linked(table, places, ic_at_##object), ic_tree_before(table, places, tree, ic_at_##object))
+#define IC_TREE_FOREACH_ENTRY_SAFE(object, objects, table, places, tree)                                                       \
+    IC_LOOP_ENTRY_SAFE(object, objects, ic_at_##object, ic_next_##object, ic_tree_after(table, places, tree, IC_NONE), places, \
+        ic_tree_is_linked(table, places, ic_at_##object), ic_tree_after(table, places, tree, ic_at_##object))
+#define IC_TREE_FOREACH_ENTRY_REVERSE_SAFE(object, objects, table, places, tree)                                                \
+    IC_LOOP_ENTRY_SAFE(object, objects, ic_at_##object, ic_next_##object, ic_tree_before(table, places, tree, IC_NONE), places, \
+        ic_tree_is_linked(table, places, ic_at_##object), ic_tree_before(table, places, tree, ic_at_##object))
+#define IC_TREE_FOREACH_FROM(place, at, table, places, tree) \
+    IC_LOOP(place, at, places, ic_tree_is_linked(table, places, place), ic_tree_after(table, places, tree, place))
+#define IC_TREE_FOREACH_REVERSE_FROM(place, at, table, places, tree) \
+    IC_LOOP(place, at, places, ic_tree_is_linked(table, places, place), ic_tree_before(table, places, tree, place))
 
 #ifdef __cplusplus
 }

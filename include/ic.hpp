@@ -1,4 +1,5 @@
-// Views of the lists, trees and hash tables of ic.h for C++17: iterators, std::optional, and a status that can't be overlooked.
+// These are views of the lists, rings, hash tables and trees of ic.h for C++17, with iterators, std::optional, and a status that you can't
+// overlook.
 //
 //     std::vector<ic_link2> links(100);                 // a hundred unlinked places
 //     ic_list head{};                                   // a list with no members
@@ -12,7 +13,7 @@
 // a view as you copy a pointer. The comments of ic.h say what each edit does and why it is refused, at the call with the same name. Each
 // view has a twin whose name begins with const_, such as ic::const_list_view. It reads a table and a list or tree that are const.
 //
-// In C++20 each view with a begin() is a std::ranges::view, and a borrowed range: its iterators outlive it.
+// In C++20 each view with a begin() is a std::ranges::view, and a borrowed range, so that its iterators outlive it.
 //
 // Nothing here allocates or throws, and it compiles with -fno-exceptions and -fno-rtti. As in C, no words of a table make a view read or
 // write outside it. A loop from begin() to end(), or from rbegin() to rend(), has at most as many rounds as the table has places.
@@ -40,10 +41,10 @@
 
 namespace ic {
 
-/// Names no place.
+/// This number names no place.
 inline constexpr std::uint32_t none = IC_NONE;
 
-/// What an edit returns. Anything but `ok` is a refusal, which has changed nothing.
+/// An edit returns one of these, and any but `ok` is a refusal, which has changed nothing.
 enum class [[nodiscard]] status : std::uint32_t {
     ok = IC_OK,
     out_of_range = IC_OUT_OF_RANGE,
@@ -53,7 +54,7 @@ enum class [[nodiscard]] status : std::uint32_t {
     broken = IC_BROKEN
 };
 
-/// The name of a status in C, as "IC_OK".
+/// Returns the name of a status in C, such as "IC_OK".
 [[nodiscard]] inline const char *name(status it) noexcept {
     return ic_status_name(static_cast<std::uint32_t>(it));
 }
@@ -63,7 +64,8 @@ class array_view;
 
 namespace detail {
 
-/// Whether a container that is passed as an rvalue leaves its elements to somebody else, as a std::span does and a std::vector does not.
+/// Says whether a container that is passed as an rvalue leaves its elements to somebody else, as a std::span does and a std::vector does
+/// not.
 template <class Container>
 #ifdef __cpp_lib_ranges
 inline constexpr bool is_borrowed = std::ranges::enable_borrowed_range<Container>;
@@ -75,8 +77,8 @@ inline constexpr bool is_borrowed<array_view<Element>> = true;
 
 } // namespace detail
 
-/// A pointer and a length, made of these, or of a vector, an array, or whatever else has both. Of the containers that end with the
-/// expression it takes those alone that are borrowed, as a std::span.
+/// This is a pointer and a length, and you make it of these, or of a vector, an array, or whatever else has both. Of the containers that
+/// end with the expression it takes those alone that are borrowed, as a std::span.
 template <class Element>
 class array_view {
     template <class Container>
@@ -101,12 +103,12 @@ private:
 
 namespace detail {
 
-/// A member, and the one from which a walk came to it. At an end either is `none`.
+/// This is a member, and the one from which a walk came to it. At an end either is `none`.
 struct position {
     std::uint32_t from = none, at = none;
 };
 
-/// A table, and a list or tree in it, that are read.
+/// These are a table, and a list or tree in it, that somebody reads.
 template <class Link, class Head>
 struct words {
     const Link *table = nullptr;
@@ -116,7 +118,7 @@ struct words {
 
 // ---- Kinds: which calls each has, the member at an end, the one beyond a member, and how a member is removed ------------------------
 
-/// A kind with a head of its own, which views point to.
+/// This is a kind with a head of its own, which views point to.
 template <class Link, class Head>
 struct headed {
     using link = Link;
@@ -230,7 +232,7 @@ struct circular {
 
 // ---- Iterators ---------------------------------------------------------------------------------------------------------------------
 
-/// What an iterator keeps besides, whose place alone does not tell the member before it: from which position it came to `from`.
+/// An iterator whose place alone does not tell the member before it keeps from which position it came to `from`, too.
 struct trail {
     position before{};
     bool is_kept = false;
@@ -238,11 +240,11 @@ struct trail {
 struct no_trail {};
 
 /// Goes from member to member, and gives the place of each. It stays valid until its member is removed. In a singly linked or an XOR list
-/// it also needs the member that it came from: make it anew if that has been removed. An iterator that has gone on by `it++` does not, so
-/// that `erase(it++)` is right for each kind.
+/// it also needs the member that it came from, so make it anew if you have removed that. An iterator that has gone on by `it++` does not,
+/// so that `erase(it++)` is right for each kind.
 ///
-/// `Back` is whether it goes from the last member to the first. It counts its steps. After as many forwards as the table has places it is at
-/// the end, and after as many backwards at the beginning.
+/// `Back` says whether it goes from the last member to the first. It counts its steps. After as many forwards as the table has places it is
+/// at the end, and after as many backwards at the beginning.
 template <class Kind, bool Back>
 class iterator : std::conditional_t<Kind::needs_from, trail, no_trail> {
 public:
@@ -254,7 +256,7 @@ public:
 
     iterator() = default;
 
-    /// The iterator at a position, or at the end if no member is there.
+    /// Makes the iterator at a position, or at the end if no member is there.
     iterator(typename Kind::source in, position it) noexcept : in_(in), left_(ic_bound(in.places)) { go(it); }
 
     [[nodiscard]] std::uint32_t operator*() const noexcept { return it_.at; }
@@ -306,14 +308,14 @@ public:
     [[nodiscard]] friend bool operator==(const iterator &one, const iterator &other) noexcept { return one.it_.at == other.it_.at; }
     [[nodiscard]] friend bool operator!=(const iterator &one, const iterator &other) noexcept { return !(one == other); }
 
-    /// The member, and the one before it, from which the iterator came unless that has been removed.
+    /// Returns the member, and the one before it, from which the iterator came unless that has been removed.
     [[nodiscard]] position where() const noexcept {
         iterator settled = *this;
         settled.settle();
         return settled.it_;
     }
 
-    /// The iterator after this one, as it is once this one's member has been removed.
+    /// Returns the iterator after this one, as it is once this one's member has been removed.
     [[nodiscard]] iterator past() const noexcept {
         iterator next = *this;
         ++next;
@@ -331,8 +333,8 @@ private:
         }
     }
 
-    /// The member before a position: where it came from, unless the one before that leads to it now. It takes values and is no part of a
-    /// loop, so that compilers keep iterators in registers.
+    /// Returns the member before a position, which is where it came from, unless the one before that leads to it now. It takes values and
+    /// is no part of a loop, so that compilers keep iterators in registers.
 #ifdef __GNUC__
     [[gnu::noinline]]
 #endif
@@ -348,12 +350,12 @@ private:
 
     typename Kind::source in_;
     position it_;
-    /// How many steps forwards are left, and how many members before its first position it has been.
+    /// These say how many steps forwards are left, and how many members before its first position it has been.
     std::uint32_t left_ = 0, ahead_ = 0;
 };
 
-/// What `erase` returns: the iterator after the member that it removed, and its status. If the status is not ok, the member is where it was,
-/// and the iterator is end(), so that a loop of `it = erase(it)` ends.
+/// This is what `erase` returns, which is the iterator after the member that it removed, and its status. If the status is not ok, the
+/// member is where it was, and the iterator is end(), so that a loop of `it = erase(it)` ends.
 template <class Iterator>
 class erased : public Iterator {
 public:
@@ -376,7 +378,7 @@ template <class View>
 concept is_view = std::is_base_of_v<view_base, View>;
 #endif
 
-/// Reads a list, a ring or a tree.
+/// Reads a list, a ring or a tree of one kind.
 template <class Kind>
 class members : public view_base {
 public:
@@ -390,17 +392,17 @@ public:
 
     [[nodiscard]] bool empty() const noexcept { return Kind::is_empty(in_); }
 
-    /// How many members there are, for words that come from a file or that others write. O(n). std::nullopt: they show no list or tree. An XOR
-    /// list has no check.
+    /// Returns how many members there are, in O(n), for words that come from a file or that others write. It returns std::nullopt if they
+    /// form no list or tree. An XOR list has no check.
     [[nodiscard]] std::optional<std::uint64_t> check() const noexcept {
         std::uint64_t count = 0;
         return Kind::check(in_.table, in_.places, in_.head, &count) == IC_OK ? std::optional<std::uint64_t>(count) : std::nullopt;
     }
 
-    /// Whether a place is in this or another list or tree of the table.
+    /// Returns whether a place is in this or another list or tree of the table.
     [[nodiscard]] bool is_linked(std::uint32_t place) const noexcept { return Kind::is_linked(in_, place); }
 
-    /// The first member. std::nullopt: there is none, or it is none of this table.
+    /// Returns the first member, or std::nullopt if there is none or if it is no place of this table.
     [[nodiscard]] std::optional<std::uint32_t> front() const noexcept { return found(*begin()); }
 
 protected:
@@ -423,7 +425,7 @@ public:
     [[nodiscard]] reverse_iterator rbegin() const noexcept { return {this->in_, {none, Kind::outermost(this->in_, true)}}; }
     [[nodiscard]] reverse_iterator rend() const noexcept { return {this->in_, {}}; }
 
-    /// The last member. std::nullopt: there is none, or it is none of this table.
+    /// Returns the last member, or std::nullopt if there is none or if it is no place of this table.
     [[nodiscard]] std::optional<std::uint32_t> back() const noexcept { return this->found(*rbegin()); }
 
 protected:
@@ -434,7 +436,7 @@ protected:
 template <class Kind>
 class placed : public two_way<Kind> {
 public:
-    /// The iterator at a member, or end() if the place is `none` or unlinked.
+    /// Returns the iterator at a member, or end() if the place is `none` or unlinked.
     [[nodiscard]] typename two_way<Kind>::iterator iterator_to(std::uint32_t place) const noexcept {
         return {this->in_, {none, place}};
     }
@@ -471,11 +473,11 @@ public:
         return {done, next};
     }
 
-    /// The same of an iterator that nobody reads again, as `it++`. The status may be overlooked here, as in the standard library.
+    /// Does the same for an iterator that nobody reads again, such as `it++`. You may overlook the status here, as in the standard library.
     erased<iterator> erase(iterator &&at) const noexcept { return erase(at); }
     [[nodiscard]] erased<iterator> erase(const iterator &at) const noexcept { return erase(iterator(at)); }
 
-    /// Removes the members from `first` on, up to `last`. Stops at the first refusal.
+    /// Removes the members from `first` on, up to `last`, and stops at the first refusal.
     [[nodiscard]] erased<iterator> erase(iterator first, iterator last) const noexcept {
         while (first != last)
             if (const auto done = erase(first); done.status() != status::ok)
@@ -484,7 +486,7 @@ public:
     }
 
     /// Removes each member of which the predicate is true, and hands it to `then`, which may link it in another list or tree. Neither may
-    /// edit this one. Stops at the first refusal, and returns it.
+    /// edit this one. The call stops at the first refusal, and returns it.
     template <class Predicate, class Then>
     status remove_if(Predicate is_unwanted, Then then) const {
         for (iterator at = this->begin(); at != this->end();) {
@@ -534,14 +536,14 @@ protected:
         return static_cast<status>(call(table_, this->in_.places, head_, arguments...));
     }
 
-    /// An edit that returns the place which it has removed.
+    /// Makes an edit that returns the place which it has removed.
     template <class Call, class... Arguments>
     std::optional<std::uint32_t> taken(Call call, Arguments... arguments) const noexcept {
         std::uint32_t place = none;
         return call(table_, this->in_.places, head_, arguments..., &place) == IC_OK ? this->found(place) : std::nullopt;
     }
 
-    /// An edit with a second list, which has to be another one of the same table.
+    /// Makes an edit with a second list, which has to be another one of the same table.
     template <class Call, class... Arguments>
     status edit_both(const writes &other, Call call, Arguments... arguments) const noexcept {
         return other.table_ == table_ && other.head_ != head_ ? edit(call, arguments...) : status::broken;
@@ -560,7 +562,8 @@ public:
 
     status push_front(std::uint32_t place) const noexcept { return this->edit(kind::push_front, place); }
 
-    /// Removes the first member. std::nullopt: there is none, or, if the list is not empty(), it is none of this table.
+    /// Removes the first member, and returns it. It returns std::nullopt if there is none, or, if the list is not empty(), if it is no
+    /// place of this table.
     [[nodiscard]] std::optional<std::uint32_t> pop_front() const noexcept { return this->taken(kind::pop_front); }
 };
 
@@ -573,7 +576,8 @@ public:
 
     status push_back(std::uint32_t place) const noexcept { return this->edit(kind::push_back, place); }
 
-    /// Removes the last member. std::nullopt: there is none, or, if the list is not empty(), it is none of this table.
+    /// Removes the last member, and returns it. It returns std::nullopt if there is none, or, if the list is not empty(), if it is no place
+    /// of this table.
     [[nodiscard]] std::optional<std::uint32_t> pop_back() const noexcept { return this->taken(kind::pop_back); }
 };
 
@@ -584,11 +588,11 @@ public:
     using kind = typename Base::kind;
     using Base::Base;
 
-    /// Inserts `count` places, `first` and those after it, in the order of their numbers: at the back, and of a singly linked list at the
+    /// Inserts `count` places, `first` and those after it, in the order of their numbers, at the back, or in a singly linked list at the
     /// front. If one of them is refused, none is linked.
     status fill(std::uint32_t first, std::uint32_t count) const noexcept { return this->edit(kind::fill, first, count); }
 
-    /// Removes all members. ic::status::broken: they are no list of this table, and nothing is changed.
+    /// Removes all members. It returns ic::status::broken, and changes nothing, if they are no list of this table.
     status clear() const noexcept { return this->edit(kind::clear); }
 };
 
@@ -630,12 +634,13 @@ public:
     status split_after(std::uint32_t at, list_view rest) const noexcept { return edit_both(rest, ic_list_split_after, at, rest.head_); }
     status split_before(std::uint32_t at, list_view rest) const noexcept { return edit_both(rest, ic_list_split_before, at, rest.head_); }
 
-    /// Puts the members in the order of their keys, of which there is one for each place. Those with equal keys keep their order.
+    /// Sorts the members by their keys, of which there is one for each place. Members with equal keys keep their order.
     status sort(keys_view keys) const noexcept {
         return static_cast<status>(ic_list_sort(table_, in_.places, keys.data(), keys.size(), head_));
     }
 
-    /// Moves all members of `given` to where their keys belong, after members with equal keys. ic::status::broken as of a splice.
+    /// Moves all members of `given` to where their keys belong, after members with equal keys. It returns ic::status::broken where a splice
+    /// does.
     status merge(keys_view keys, list_view given) const noexcept {
         if (given.table_ != table_ || given.head_ == head_)
             return status::broken;
@@ -650,7 +655,7 @@ class const_ring_members : public detail::placed<detail::circular> {
 public:
     const_ring_members(array_view<const ic_link2> table, std::uint32_t head) noexcept : placed({table.data(), table.size(), head}) {}
 
-    /// The iterator at a member, or end() if the place is the head, `none` or unlinked.
+    /// Returns the iterator at a member, or end() if the place is the head, `none` or unlinked.
     [[nodiscard]] iterator iterator_to(std::uint32_t place) const noexcept { return placed::iterator_to(place == in_.head ? none : place); }
 };
 
@@ -675,7 +680,7 @@ public:
     [[nodiscard]] std::uint32_t next(std::uint32_t at) const noexcept { return ic_ring_next(in_.data(), in_.size(), at); }
     [[nodiscard]] std::uint32_t prev(std::uint32_t at) const noexcept { return ic_ring_prev(in_.data(), in_.size(), at); }
 
-    /// The members of a head, for a loop or an algorithm.
+    /// Returns the members of a head, for a loop or an algorithm.
     [[nodiscard]] const_ring_members members(std::uint32_t head) const noexcept { return {in_, head}; }
 
 protected:
@@ -687,7 +692,7 @@ class ring_view : public const_ring_view {
 public:
     ring_view(array_view<ic_link2> table) noexcept : const_ring_view(array_view<const ic_link2>(table)), table_(table.data()), places_(table.size()) {}
 
-    /// The members of a head, whose iterators `erase` takes, too.
+    /// Returns the members of a head, whose iterators `erase` takes, too.
     [[nodiscard]] ring_members members(std::uint32_t head) const noexcept { return {{table_, places_}, head}; }
 
     /// Makes a place the head of a ring with no members.
@@ -698,7 +703,7 @@ public:
     status push_front(std::uint32_t head, std::uint32_t place) const noexcept { return edit(ic_ring_push_front, head, place); }
     status push_back(std::uint32_t head, std::uint32_t place) const noexcept { return edit(ic_ring_push_back, head, place); }
 
-    /// Takes a place out of its ring, whichever that is.
+    /// Removes a place from its ring, whichever that is.
     status remove(std::uint32_t place) const noexcept { return edit(ic_ring_remove, place); }
     status replace(std::uint32_t at, std::uint32_t place) const noexcept { return edit(ic_ring_replace, at, place); }
     status move_after(std::uint32_t at, std::uint32_t place) const noexcept { return edit(ic_ring_move_after, at, place); }
@@ -708,10 +713,11 @@ public:
     status splice_after(std::uint32_t at, std::uint32_t given) const noexcept { return edit(ic_ring_splice_after, at, given); }
     status splice_before(std::uint32_t at, std::uint32_t given) const noexcept { return edit(ic_ring_splice_before, at, given); }
 
-    /// Two places that are in rings exchange what comes after them.
+    /// Exchanges what comes after two places that are in rings.
     status exchange(std::uint32_t one, std::uint32_t other) const noexcept { return edit(ic_ring_exchange, one, other); }
 
-    /// Removes the first member of a head, or the last one. std::nullopt: there is none, or it is refused.
+    /// Removes the first member of a head, or the last one, and returns it. It returns std::nullopt if there is none, or if the call is
+    /// refused.
     [[nodiscard]] std::optional<std::uint32_t> pop_front(std::uint32_t head) const noexcept { return taken(ic_ring_pop_front, head); }
     [[nodiscard]] std::optional<std::uint32_t> pop_back(std::uint32_t head) const noexcept { return taken(ic_ring_pop_back, head); }
 
@@ -749,10 +755,10 @@ public:
 
     status insert_after(std::uint32_t at, std::uint32_t place) const noexcept { return edit(ic_stack_insert_after, at, place); }
 
-    /// Removes the member after `at`. std::nullopt: it is refused.
+    /// Removes the member after `at`, and returns it. It returns std::nullopt if the call is refused.
     [[nodiscard]] std::optional<std::uint32_t> remove_after(std::uint32_t at) const noexcept { return taken(ic_stack_remove_after, at); }
 
-    /// Inserts a place where the member after `at` is, and returns that member. std::nullopt: it is refused.
+    /// Inserts a place where the member after `at` is, and returns that member. It returns std::nullopt if the call is refused.
     [[nodiscard]] std::optional<std::uint32_t> replace_after(std::uint32_t at, std::uint32_t place) const noexcept {
         return taken(ic_stack_replace_after, at, place);
     }
@@ -768,7 +774,7 @@ public:
 
 namespace detail {
 
-/// A table and its buckets, that are read.
+/// These are a table and its buckets, that somebody reads.
 struct hash_words {
     const ic_link1 *table = nullptr;
     std::size_t places = 0;
@@ -788,7 +794,7 @@ public:
 
     hash_iterator() = default;
 
-    /// The iterator at the first member.
+    /// Makes the iterator at the first member.
     explicit hash_iterator(hash_words in) noexcept : in_(in), left_(ic_bound(in.places)) {
         if (in.bucket_count > 0)
             go(ic_stack_first(in.buckets));
@@ -811,10 +817,10 @@ public:
     [[nodiscard]] friend bool operator==(const hash_iterator &one, const hash_iterator &other) noexcept { return one.at_ == other.at_; }
     [[nodiscard]] friend bool operator!=(const hash_iterator &one, const hash_iterator &other) noexcept { return !(one == other); }
 
-    /// The index of the member's bucket.
+    /// Returns the index of the member's bucket.
     [[nodiscard]] std::size_t bucket() const noexcept { return bucket_; }
 
-    /// The iterator after this one.
+    /// Returns the iterator after this one.
     [[nodiscard]] hash_iterator past() const noexcept {
         hash_iterator next = *this;
         ++next;
@@ -836,8 +842,8 @@ private:
 
 } // namespace detail
 
-/// Reads a hash table: an array of buckets, each a singly linked list of the members whose hash leads there. Hand each call for one object the
-/// same hash. A loop goes over all members, chain by chain.
+/// Reads a hash table, which is an array of buckets, each a singly linked list of the members whose hash leads there. Hand each call for
+/// one object the same hash. A loop goes over all members, chain by chain.
 class const_hash_view : public detail::view_base {
 public:
     using keys_view = array_view<const std::uint64_t>;
@@ -852,10 +858,11 @@ public:
     [[nodiscard]] iterator end() const noexcept { return {}; }
     [[nodiscard]] bool empty() const noexcept { return begin() == end(); }
 
-    /// Whether a place is in this hash table, or in another list of the table of links.
+    /// Returns whether a place is in this hash table, or in another list of the table of links.
     [[nodiscard]] bool is_linked(std::uint32_t place) const noexcept { return ic_stack_is_linked(in_.table, in_.places, place) != 0; }
 
-    /// The first member of the chain with this key: of several, the one that was inserted last. std::nullopt: there is none, or it is refused.
+    /// Returns the first member of the chain with this key, which of several is the one that was inserted last. It returns std::nullopt if
+    /// there is none, or if the call is refused.
     [[nodiscard]] std::optional<std::uint32_t> find(keys_view keys, std::uint64_t hash, std::uint64_t key) const noexcept {
         std::uint32_t place = none;
         const std::uint32_t done =
@@ -863,14 +870,15 @@ public:
         return found(done, place);
     }
 
-    /// The next member after the member `at` with the key of that one. std::nullopt: there is none, or it is refused.
+    /// Returns the next member after the member `at` with the key of that one. It returns std::nullopt if there is none, or if the call is
+    /// refused.
     [[nodiscard]] std::optional<std::uint32_t> next_equal(keys_view keys, std::uint32_t at) const noexcept {
         std::uint32_t place = none;
         const std::uint32_t done = ic_hash_next_equal(in_.table, in_.places, keys.data(), keys.size(), at, &place);
         return found(done, place);
     }
 
-    /// The first member of the chain of which the predicate is true.
+    /// Returns the first member of the chain of which the predicate is true.
     template <class Predicate>
     [[nodiscard]] std::optional<std::uint32_t> find_by(std::uint64_t hash, Predicate is_equal) const {
         IC_HASH_FOREACH(place, in_.table, in_.places, in_.buckets, in_.bucket_count, hash)
@@ -879,7 +887,7 @@ public:
         return std::nullopt;
     }
 
-    /// The chain of a hash, as a list. There has to be a bucket.
+    /// Returns the chain of a hash, as a list. There has to be a bucket.
     [[nodiscard]] const_stack_view chain(std::uint64_t hash) const noexcept {
         return {{in_.table, in_.places}, in_.buckets[hash % in_.bucket_count]};
     }
@@ -933,7 +941,7 @@ public:
     /// Removes a place from its chain, wherever it is in it.
     status remove(std::uint64_t hash, std::uint32_t place) const noexcept { return edit(ic_hash_remove, hash, place); }
 
-    /// The chain of a hash, as a list. There has to be a bucket.
+    /// Returns the chain of a hash, as a list. There has to be a bucket.
     [[nodiscard]] stack_view chain(std::uint64_t hash) const noexcept { return {{table_, in_.places}, buckets_[hash % in_.bucket_count]}; }
 };
 
@@ -974,44 +982,44 @@ private:
 
 // ---- Red-black trees ---------------------------------------------------------------------------------------------------------------
 
-/// Reads a tree. The keys of a search are one number for each place: a vector, an array, or a pointer and a length.
+/// Reads a tree. The keys of a search are one number for each place, in a vector, an array, or a pointer and a length.
 class const_tree_view : public detail::of_head<detail::placed<detail::red_black>> {
 public:
     using keys_view = array_view<const std::uint64_t>;
     using of_head::of_head;
 
-    /// The first member with this key. All searches return std::nullopt if there is no such member, if there are fewer keys than places, or
-    /// if the root is none of this table.
+    /// Returns the first member with this key. All searches return std::nullopt if there is no such member, if there are fewer keys than
+    /// places, or if the root is no place of this table.
     [[nodiscard]] std::optional<std::uint32_t> find(keys_view keys, std::uint64_t key) const noexcept {
         return search(ic_tree_find, keys, key);
     }
 
-    /// The first member whose key is not less.
+    /// Returns the first member whose key is not less.
     [[nodiscard]] std::optional<std::uint32_t> lower_bound(keys_view keys, std::uint64_t key) const noexcept {
         return search(ic_tree_lower_bound, keys, key);
     }
 
-    /// The first member whose key is greater, as in the standard library. at_most() is the call ic_tree_upper_bound.
+    /// Returns the first member whose key is greater, as in the standard library. The call ic_tree_upper_bound is at_most().
     [[nodiscard]] std::optional<std::uint32_t> upper_bound(keys_view keys, std::uint64_t key) const noexcept {
         return key < UINT64_MAX ? lower_bound(keys, key + 1) : std::nullopt;
     }
 
-    /// The last member whose key is not greater.
+    /// Returns the last member whose key is not greater.
     [[nodiscard]] std::optional<std::uint32_t> at_most(keys_view keys, std::uint64_t key) const noexcept {
         return search(ic_tree_upper_bound, keys, key);
     }
 
-    /// The members with this key, from the first to the one after the last.
+    /// Returns the members with this key, from the first to the one after the last.
     [[nodiscard]] std::pair<iterator, iterator> equal_range(keys_view keys, std::uint64_t key) const noexcept {
         return {iterator_to(lower_bound(keys, key).value_or(none)), iterator_to(upper_bound(keys, key).value_or(none))};
     }
 
-    /// The first member of which the predicate is false. It has to be false of all members after that one, too.
+    /// Returns the first member of which the predicate is false. It has to be false of all members after that one, too.
     template <class Predicate>
-    [[nodiscard]] std::optional<std::uint32_t> partition_point(Predicate is_in_front) const {
+    [[nodiscard]] std::optional<std::uint32_t> partition_point(Predicate is_before) const {
         std::uint32_t first = none;
         descend([&](std::uint32_t at) {
-            const bool goes_left = !is_in_front(at);
+            const bool goes_left = !is_before(at);
             first = goes_left ? at : first;
             return goes_left;
         });
@@ -1019,7 +1027,7 @@ public:
     }
 
 protected:
-    /// Where a way down from the root ends: under a member, on one of its sides.
+    /// A way down from the root ends here, under a member, on one of its sides.
     struct hole {
         std::uint32_t under = none;
         bool is_left = true;
@@ -1069,13 +1077,14 @@ public:
     status remove(std::uint32_t at) const noexcept { return edit(ic_tree_remove, at); }
     status replace(std::uint32_t at, std::uint32_t place) const noexcept { return edit(ic_tree_replace, at, place); }
 
-    /// Removes the first member. std::nullopt: there is none, or, if the tree is not empty(), its root is none of this table.
+    /// Removes the first member, and returns it. It returns std::nullopt if there is none, or, if the tree is not empty(), if its root is
+    /// no place of this table.
     [[nodiscard]] std::optional<std::uint32_t> pop_front() const noexcept { return popped(*begin()); }
 
-    /// Removes the last member. std::nullopt as of pop_front().
+    /// Removes the last member, and returns it. It returns std::nullopt where pop_front() does.
     [[nodiscard]] std::optional<std::uint32_t> pop_back() const noexcept { return popped(*rbegin()); }
 
-    /// Removes all members. ic::status::broken: they are no tree of this table, and nothing is changed.
+    /// Removes all members. It returns ic::status::broken, and changes nothing, if they are no tree of this table.
     status clear() const noexcept { return edit(ic_tree_clear); }
 
 private:

@@ -153,25 +153,31 @@ def listed(words, joined):
     return f" {joined} ".join([", ".join(words[:-1]), words[-1]] if len(words) > 1 else words)
 
 
+def one_of(places):
+    """The subject of what is wrong with one of these places. An argument whose name is no noun gets one."""
+    words = listed([f"`{name}`" for name in places], "or")
+    return words if len(places) > 1 or places[0] in ("place", "head", "first") else f"the place {words}"
+
+
 def refusals(call, none, length):
     """The statuses of a call other than OK, each with a sentence that says when the call returns it. `none` is how a language names no place, and
     `length` how it names the length of the table."""
-    quoted = lambda *roles: listed([f"`{name}`" for name in names(call, *roles)], "or")
+    some = lambda *roles: one_of(names(call, *roles))
     when = {status: [] for status in STATUSES}
     if names(call, "member", "ring"):
-        when["NULL"].append(f"{quoted('member', 'ring')} is {none}")
+        when["NULL"].append(f"{some('member', 'ring')} is {none}")
     when["NULL"] += [call.null] * bool(call.null)
     when["OUT_OF_RANGE"] += ["there are fewer keys than places"] * has(call, "keys") + ["there is no bucket"] * has(call, "buckets")
     if names(call, "new", "member", "ring", "gap"):
-        when["OUT_OF_RANGE"].append(f"{quoted('new', 'member', 'ring', 'gap')} is not below {length}")
+        when["OUT_OF_RANGE"].append(f"{some('new', 'member', 'ring', 'gap')} is not below {length}")
     if names(call, "run"):
         when["OUT_OF_RANGE"].append(f"the first of these places that the call refuses is not below {length}")
         when["LINKED"].append("the first of these places that the call refuses is linked already")
     if names(call, "new"):
         same = [f"`{at}` and `{new}` are the same" for at in names(call, "member", "ring") for new in names(call, "new")]
-        when["LINKED"].append(f"{quoted('new')} is linked already" + f", as it is if {' or '.join(same)}" * bool(same))
+        when["LINKED"].append(f"{some('new')} is linked already" + f", also where {' or '.join(same)}" * bool(same))
     if names(call, "member", "ring", "gap"):
-        when["NOT_LINKED"].append(f"{quoted('member', 'ring', 'gap')} is not linked")
+        when["NOT_LINKED"].append(f"{some('member', 'ring', 'gap')} is not linked")
     when["BROKEN"] += [call.broken] * bool(call.broken)
     return {status: ", or ".join(reasons) for status, reasons in when.items() if reasons}
 

@@ -24,9 +24,9 @@ SAFETY = "// SAFETY: each pointer comes from a reference, with the length of its
 
 
 def sentences(call, words):
-    """What the call does, with its cost behind the first sentence. `words` has what the table writes in braces."""
+    """What the call does, with its cost in the first sentence. `words` has what the table writes in braces."""
     first, _, rest = call.what.partition(". ")
-    text = f"{first.rstrip('.')}. {call.cost}." + f" {rest}" * bool(rest)
+    text = f"{first.rstrip('.')}, in {call.cost}." + f" {rest}" * bool(rest)
     return re.sub(r"\{(\w+)\}", lambda word: words[word[1]], text)
 
 
@@ -168,7 +168,7 @@ def head(begin, params, end, indent):
 
 
 def split_closure(line, indent):
-    """A line as rustfmt breaks it if it is too long: a statement behind its `=`, a closure around its body."""
+    """A line as rustfmt breaks it if it is too long: a statement after its `=`, a closure around its body."""
     if indent + len(line) <= RUST_LINE or line.startswith("//"):
         return [line]
     if line.startswith("let "):

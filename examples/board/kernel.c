@@ -99,7 +99,7 @@ static void run(uint32_t task, uint32_t tick) {
         sleep_until(SENSOR, tick + 3);
         break;
     case FILTER: break; /* it waits for the next reading, in no list */
-    case RADIO: /* it sends for three ticks, and stays in front meanwhile */
+    case RADIO: /* it sends for three ticks, and stays first meanwhile */
         if (--sends_left)
             expect(ic_list_push_front(ready_links, TASKS, &ready[tasks[RADIO].priority], RADIO));
         else {

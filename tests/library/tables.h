@@ -91,11 +91,20 @@ static inline uint64_t *end_between_guards(size_t count) {
     return (uint64_t *)(pages + 2 * page);
 }
 
+static inline void protect(uint64_t *end, int allowed) {
+    size_t page = (size_t)sysconf(_SC_PAGESIZE);
+    if (mprotect((char *)end - page, page, allowed))
+        exit(2);
+}
+
 /* Lets nobody write to the page that ends there. */
 static inline void guard_writes(uint64_t *end) {
-    size_t page = (size_t)sysconf(_SC_PAGESIZE);
-    if (mprotect((char *)end - page, page, PROT_READ))
-        exit(2);
+    protect(end, PROT_READ);
+}
+
+/* Lets all write to it again. */
+static inline void allow_writes(uint64_t *end) {
+    protect(end, PROT_READ | PROT_WRITE);
 }
 #else
 static inline uint64_t *end_between_guards(size_t count) {
@@ -106,6 +115,10 @@ static inline uint64_t *end_between_guards(size_t count) {
 }
 
 static inline void guard_writes(uint64_t *end) {
+    (void)end;
+}
+
+static inline void allow_writes(uint64_t *end) {
     (void)end;
 }
 #endif

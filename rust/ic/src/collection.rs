@@ -111,14 +111,14 @@ pub(crate) fn retain<C: Collection>(
 macro_rules! collection {
     ($Collection:ident, $Link:ident) => {
         impl $Collection {
-            /// Borrows the members together with their table, to print them and to iterate over them. O(1).
+            /// Borrows the members together with their table, to print them and to iterate over them, in O(1).
             #[inline]
             #[must_use]
             pub fn view<'a>(&'a self, table: &'a [$Link]) -> View<'a, $Collection> {
                 View::new(self, table)
             }
 
-            /// Iterates over the members, in order. O(n) for all, and O(1) for each of a list.
+            /// Iterates over the members, in order, which takes O(n) for all, and O(1) for each of a list.
             ///
             /// Whatever the words say, it ends after as many members as the table has places.
             #[inline]
@@ -126,7 +126,7 @@ macro_rules! collection {
                 self.view(table).iter()
             }
 
-            /// Moves all members to a new list or tree, and returns it. O(1).
+            /// Moves all members to a new list or tree, and returns it, in O(1).
             #[inline]
             #[must_use = "the members stay linked"]
             pub fn take(&mut self) -> $Collection {
@@ -147,21 +147,21 @@ macro_rules! collection {
                 crate::collection::retain(self, table, keep)
             }
 
-            /// A cursor on no member. O(1).
+            /// Returns a cursor on no member, in O(1).
             #[inline]
             #[must_use]
             pub fn cursor<'a>(&'a self, table: &'a [$Link]) -> Cursor<'a, $Collection> {
                 Cursor::new(self, table, Position::NULL)
             }
 
-            /// A cursor on no member, which edits. O(1).
+            /// Returns a cursor on no member, which edits, in O(1).
             #[inline]
             #[must_use]
             pub fn cursor_mut<'a>(&'a mut self, table: &'a mut [$Link]) -> CursorMut<'a, $Collection> {
                 CursorMut::new(self, table, Position::NULL)
             }
 
-            /// A cursor on the first member, or on none if there are no members. O(1) in a list, O(log n) in a tree.
+            /// Returns a cursor on the first member, or on none if there are no members. It takes O(1) in a list and O(log n) in a tree.
             #[inline]
             #[must_use]
             pub fn front<'a>(&'a self, table: &'a [$Link]) -> Cursor<'a, $Collection> {
@@ -170,7 +170,8 @@ macro_rules! collection {
                 cursor
             }
 
-            /// A cursor on the first member, which edits, or on none if there are no members. O(1) in a list, O(log n) in a tree.
+            /// Returns a cursor on the first member, which edits, or on none if there are no members. It takes O(1) in a list and O(log n)
+            /// in a tree.
             #[inline]
             #[must_use]
             pub fn front_mut<'a>(&'a mut self, table: &'a mut [$Link]) -> CursorMut<'a, $Collection> {
@@ -186,7 +187,7 @@ macro_rules! collection {
 macro_rules! bidirectional {
     ($Collection:ident, $Link:ident) => {
         impl $Collection {
-            /// A cursor on the last member, or on none if there are no members. O(1) in a list, O(log n) in a tree.
+            /// Returns a cursor on the last member, or on none if there are no members. It takes O(1) in a list and O(log n) in a tree.
             #[inline]
             #[must_use]
             pub fn back<'a>(&'a self, table: &'a [$Link]) -> Cursor<'a, $Collection> {
@@ -195,7 +196,8 @@ macro_rules! bidirectional {
                 cursor
             }
 
-            /// A cursor on the last member, which edits, or on none if there are no members. O(1) in a list, O(log n) in a tree.
+            /// Returns a cursor on the last member, which edits, or on none if there are no members. It takes O(1) in a list and O(log n)
+            /// in a tree.
             #[inline]
             #[must_use]
             pub fn back_mut<'a>(&'a mut self, table: &'a mut [$Link]) -> CursorMut<'a, $Collection> {
@@ -211,7 +213,8 @@ macro_rules! bidirectional {
 macro_rules! from_place {
     ($Collection:ident, $Link:ident) => {
         impl $Collection {
-            /// A cursor on the member `place`. O(1). The call cannot tell the members of this list or tree from those of another one.
+            /// Returns a cursor on the member `place`, in O(1). The call cannot tell the members of this list or tree from those of another
+            /// one.
             ///
             /// # Errors
             ///
@@ -226,8 +229,8 @@ macro_rules! from_place {
                 Ok(Cursor::new(self, table, Some(place)))
             }
 
-            /// A cursor on the member `place`, which edits. O(1). The call cannot tell the members of this list or tree from those of another
-            /// one.
+            /// Returns a cursor on the member `place`, which edits, in O(1). The call cannot tell the members of this list or tree from
+            /// those of another one.
             ///
             /// # Errors
             ///

@@ -38,14 +38,14 @@ impl<'a, C: Collection> Cursor<'a, C> {
         Cursor { view: View::new(collection, table), position }
     }
 
-    /// Whether the cursor is on no member. O(1).
+    /// Returns whether the cursor is on no member, in O(1).
     #[inline]
     #[must_use]
     pub fn is_null(&self) -> bool {
         self.get().is_none()
     }
 
-    /// The member that the cursor is on. O(1).
+    /// Returns the member that the cursor is on, in O(1).
     #[inline]
     #[must_use]
     #[doc(alias = "current")]
@@ -53,20 +53,20 @@ impl<'a, C: Collection> Cursor<'a, C> {
         self.position.place()
     }
 
-    /// Borrows all members together with their table, to print them and to iterate over them. O(1).
+    /// Borrows all members together with their table, to print them and to iterate over them, in O(1).
     #[inline]
     #[must_use]
     pub fn view(&self) -> View<'a, C> {
         self.view
     }
 
-    /// Moves to the next member, from none to the first, and from the last to none. O(1) in a list, O(log n) in a tree.
+    /// Moves to the next member, from none to the first, and from the last to none. It takes O(1) in a list and O(log n) in a tree.
     #[inline]
     pub fn move_next(&mut self) {
         self.position = self.view.next(self.position);
     }
 
-    /// A cursor where [`move_next`](Self::move_next) would go. O(1) in a list, O(log n) in a tree.
+    /// Returns a cursor where [`move_next`](Self::move_next) would go. It takes O(1) in a list and O(log n) in a tree.
     #[inline]
     #[must_use]
     pub fn peek_next(&self) -> Self {
@@ -78,13 +78,13 @@ impl<'a, C: Collection> Cursor<'a, C> {
 
 /// What cursors of all but a [`Stack`] have besides.
 impl<C: Bidirectional> Cursor<'_, C> {
-    /// Moves to the previous member, from none to the last, and from the first to none. O(1) in a list, O(log n) in a tree.
+    /// Moves to the previous member, from none to the last, and from the first to none. It takes O(1) in a list and O(log n) in a tree.
     #[inline]
     pub fn move_prev(&mut self) {
         self.position = self.view.prev(self.position);
     }
 
-    /// A cursor where [`move_prev`](Self::move_prev) would go. O(1) in a list, O(log n) in a tree.
+    /// Returns a cursor where [`move_prev`](Self::move_prev) would go. It takes O(1) in a list and O(log n) in a tree.
     #[inline]
     #[must_use]
     pub fn peek_prev(&self) -> Self {
@@ -144,14 +144,14 @@ impl<'a, C: Collection> CursorMut<'a, C> {
         CursorMut { collection, table, position }
     }
 
-    /// Whether the cursor is on no member. O(1).
+    /// Returns whether the cursor is on no member, in O(1).
     #[inline]
     #[must_use]
     pub fn is_null(&self) -> bool {
         self.get().is_none()
     }
 
-    /// The member that the cursor is on. O(1).
+    /// Returns the member that the cursor is on, in O(1).
     #[inline]
     #[must_use]
     #[doc(alias = "current")]
@@ -159,34 +159,34 @@ impl<'a, C: Collection> CursorMut<'a, C> {
         self.position.place()
     }
 
-    /// Borrows all members together with their table, to print them and to iterate over them. O(1).
+    /// Borrows all members together with their table, to print them and to iterate over them, in O(1).
     #[inline]
     #[must_use]
     pub fn view(&self) -> View<'_, C> {
         View::new(self.collection, self.table)
     }
 
-    /// A cursor at the same position, which reads. O(1).
+    /// Returns a cursor at the same position, which reads, in O(1).
     #[inline]
     #[must_use]
     pub fn as_cursor(&self) -> Cursor<'_, C> {
         Cursor { view: self.view(), position: self.position }
     }
 
-    /// Moves to the next member, from none to the first, and from the last to none. O(1) in a list, O(log n) in a tree.
+    /// Moves to the next member, from none to the first, and from the last to none. It takes O(1) in a list and O(log n) in a tree.
     #[inline]
     pub fn move_next(&mut self) {
         self.position = self.peek_next().position;
     }
 
-    /// A cursor where [`move_next`](Self::move_next) would go, which reads. O(1) in a list, O(log n) in a tree.
+    /// Returns a cursor where [`move_next`](Self::move_next) would go, which reads. It takes O(1) in a list and O(log n) in a tree.
     #[inline]
     #[must_use]
     pub fn peek_next(&self) -> Cursor<'_, C> {
         self.as_cursor().peek_next()
     }
 
-    /// Inserts `place` after the cursor's member, or at the front if the cursor is on none. O(1) in a list, O(log n) in a tree.
+    /// Inserts `place` after the cursor's member, or at the front if the cursor is on none. It takes O(1) in a list and O(log n) in a tree.
     ///
     /// The cursor stays. In a tree the call compares nothing, so hand in a place that belongs there.
     ///
@@ -202,20 +202,20 @@ impl<'a, C: Collection> CursorMut<'a, C> {
 
 /// What cursors of all but a [`Stack`] have besides.
 impl<C: Bidirectional> CursorMut<'_, C> {
-    /// Moves to the previous member, from none to the last, and from the first to none. O(1) in a list, O(log n) in a tree.
+    /// Moves to the previous member, from none to the last, and from the first to none. It takes O(1) in a list and O(log n) in a tree.
     #[inline]
     pub fn move_prev(&mut self) {
         self.position = self.peek_prev().position;
     }
 
-    /// A cursor where [`move_prev`](Self::move_prev) would go, which reads. O(1) in a list, O(log n) in a tree.
+    /// Returns a cursor where [`move_prev`](Self::move_prev) would go, which reads. It takes O(1) in a list and O(log n) in a tree.
     #[inline]
     #[must_use]
     pub fn peek_prev(&self) -> Cursor<'_, C> {
         self.as_cursor().peek_prev()
     }
 
-    /// Inserts `place` before the cursor's member, or at the back if the cursor is on none. O(1) in a list, O(log n) in a tree.
+    /// Inserts `place` before the cursor's member, or at the back if the cursor is on none. It takes O(1) in a list and O(log n) in a tree.
     ///
     /// The cursor stays. In a tree the call compares nothing, so hand in a place that belongs there.
     ///
@@ -229,7 +229,7 @@ impl<C: Bidirectional> CursorMut<'_, C> {
         Ok(())
     }
 
-    /// Removes the cursor's member and returns it, or `None` if the cursor is on none. O(1) in a list, O(log n) in a tree.
+    /// Removes the cursor's member and returns it, or `None` if the cursor is on none. It takes O(1) in a list and O(log n) in a tree.
     ///
     /// The cursor moves to the next member.
     ///
@@ -246,7 +246,7 @@ impl<C: Bidirectional> CursorMut<'_, C> {
         Ok(member)
     }
 
-    /// Removes the cursor's member, inserts `place` where it was, and returns the removed member. O(1).
+    /// Removes the cursor's member, inserts `place` where it was, and returns the removed member, in O(1).
     ///
     /// The cursor is on the place then. In a tree the call compares nothing, so hand in a place that belongs there.
     ///
@@ -278,7 +278,8 @@ impl<C: Splice> CursorMut<'_, C> {
         self.collection.splice_after(self.table, self.position, given)
     }
 
-    /// Moves the members after the cursor's member, or all if the cursor is on none, to a new list, which it returns. O(1). The cursor stays.
+    /// Moves the members after the cursor's member, or all if the cursor is on none, to a new list, which it returns, in O(1). The cursor
+    /// stays.
     ///
     /// # Errors
     ///
@@ -291,7 +292,7 @@ impl<C: Splice> CursorMut<'_, C> {
 
 /// What cursors of a [`List`](crate::List) and an [`XorList`](crate::XorList) have besides.
 impl<C: BidirectionalSplice> CursorMut<'_, C> {
-    /// Moves all members of a list of the same table before the cursor's member, or to the back if the cursor is on none. O(1).
+    /// Moves all members of a list of the same table before the cursor's member, or to the back if the cursor is on none, in O(1).
     ///
     /// Then `given` is empty. The cursor stays.
     ///
@@ -305,7 +306,8 @@ impl<C: BidirectionalSplice> CursorMut<'_, C> {
         Ok(())
     }
 
-    /// Moves the members before the cursor's member, or all if the cursor is on none, to a new list, which it returns. O(1). The cursor stays.
+    /// Moves the members before the cursor's member, or all if the cursor is on none, to a new list, which it returns, in O(1). The cursor
+    /// stays.
     ///
     /// # Errors
     ///
@@ -337,7 +339,7 @@ impl<C: BidirectionalSplice> CursorMut<'_, C> {
 /// # Ok::<(), ic::Error>(())
 /// ```
 impl CursorMut<'_, Stack> {
-    /// Removes the member after the cursor and returns it, or `None` if there is none. O(1). The cursor stays.
+    /// Removes the member after the cursor and returns it, or `None` if there is none, in O(1). The cursor stays.
     ///
     /// # Errors
     ///
@@ -347,7 +349,7 @@ impl CursorMut<'_, Stack> {
         self.collection.remove_after(self.table, self.position)
     }
 
-    /// Removes the member after the cursor, inserts `place` where it was, and returns the removed member. O(1). The cursor stays.
+    /// Removes the member after the cursor, inserts `place` where it was, and returns the removed member, in O(1). The cursor stays.
     ///
     /// # Errors
     ///

@@ -40,7 +40,7 @@ use crate::link::Link;
 use crate::{Error, Link1, Stack};
 use ic_sys::*;
 
-/// The chain of a hash, or `None` if there is no bucket. O(1).
+/// Returns the chain of a hash, or `None` if there is no bucket, in O(1).
 #[inline]
 #[must_use]
 pub fn chain(buckets: &[Stack], hash: u64) -> Option<&Stack> {
@@ -49,7 +49,7 @@ pub fn chain(buckets: &[Stack], hash: u64) -> Option<&Stack> {
 }
 
 // tools/c-calls --write writes from here: hash
-/// Inserts `place` at the front of the chain of `hash`. O(1).
+/// Inserts `place` at the front of the chain of `hash`, in O(1).
 ///
 /// # Errors
 ///
@@ -62,7 +62,7 @@ pub fn insert(table: &mut [Link1], buckets: &mut [Stack], hash: u64, place: u32)
     done(unsafe { ic_hash_insert(links, places, buckets.as_mut_ptr().cast(), buckets.len(), hash, place) })
 }
 
-/// Removes `place` from the chain of `hash`, wherever it is in it. O(members of the chain).
+/// Removes `place` from the chain of `hash`, wherever it is in it, in O(members of the chain).
 ///
 /// # Errors
 ///
@@ -76,8 +76,8 @@ pub fn remove(table: &mut [Link1], buckets: &mut [Stack], hash: u64, place: u32)
     done(unsafe { ic_hash_remove(links, places, buckets.as_mut_ptr().cast(), buckets.len(), hash, place) })
 }
 
-/// Finds the first member of the chain of `hash` whose key is `key`, and returns it. O(members of the chain). Of several such members, the
-/// first is the one that was inserted last. It returns `None` if there is no such member.
+/// Finds the first member of the chain of `hash` whose key is `key`, and returns it, in O(members of the chain). Of several such members,
+/// the first is the one that was inserted last. It returns `None` if there is no such member.
 ///
 /// # Errors
 ///
@@ -92,13 +92,13 @@ pub fn find(table: &[Link1], keys: &[u64], buckets: &[Stack], hash: u64, key: u6
     })
 }
 
-/// Finds the next member after the member `at`, in its chain, that has the same key as `at`, and returns it. O(members of the chain). It
-/// returns `None` if `at` is `u32::MAX`, or there is no such member.
+/// Finds the next member after the member `at`, in its chain, that has the same key as `at`, and returns it, in O(members of the chain). It
+/// returns `None` if the place `at` is `u32::MAX`, or there is no such member.
 ///
 /// # Errors
 ///
-/// [`Error::OutOfRange`] if there are fewer keys than places, or `at` is not below the table's length. [`Error::NotLinked`] if `at` is not
-/// linked. [`Error::Broken`] if the chain does not belong to this table.
+/// [`Error::OutOfRange`] if there are fewer keys than places, or the place `at` is not below the table's length. [`Error::NotLinked`] if
+/// the place `at` is not linked. [`Error::Broken`] if the chain does not belong to this table.
 #[inline]
 pub fn next_equal(table: &[Link1], keys: &[u64], at: u32) -> Result<Option<u32>, Error> {
     let (links, places) = Link1::read_parts(table);

@@ -35,7 +35,8 @@ pub enum Entry<'a> {
 }
 
 impl<'a> Entry<'a> {
-    /// A cursor on the member with the key. If there is none, the call first inserts `place`, whose key has to be this one. O(log n).
+    /// Returns a cursor on the member with the key. If there is none, the call first inserts `place`, whose key has to be this one, in
+    /// O(log n).
     ///
     /// # Errors
     ///
@@ -45,8 +46,8 @@ impl<'a> Entry<'a> {
         self.or_insert_with(|| place)
     }
 
-    /// A cursor on the member with the key. If there is none, the call first inserts the place that `make` returns, whose key has to be this one.
-    /// O(log n).
+    /// Returns a cursor on the member with the key. If there is none, the call first inserts the place that `make` returns, whose key has
+    /// to be this one, in O(log n).
     ///
     /// # Errors
     ///
@@ -68,7 +69,8 @@ pub struct VacantEntry<'a> {
 }
 
 impl<'a> VacantEntry<'a> {
-    /// Inserts `place` in the gap, and returns a cursor on it. O(log n). The call compares nothing, so hand in a place with the entry's key.
+    /// Inserts `place` in the gap, and returns a cursor on it, in O(log n). The call compares nothing, so hand in a place with the entry's
+    /// key.
     ///
     /// # Errors
     ///
@@ -118,8 +120,8 @@ impl Gap {
 
 /// Ranges, entries and comparisons.
 impl Tree {
-    /// Inserts `place` by a comparison of yours, after all members that are not greater. O(log n). The call hands `place` to `compare` first, and
-    /// then a member.
+    /// Inserts `place` by a comparison of yours, after all members that are not greater, in O(log n). The call hands `place` to `compare`
+    /// first, and then a member.
     ///
     /// ```
     /// # use ic::{Error, Link3, Tree};
@@ -149,8 +151,8 @@ impl Tree {
         gap.insert(self, table, place)
     }
 
-    /// Iterates over the members whose keys are in a range, in order. O(log n), and O(n) for a walk over all. There are none if the range ends before
-    /// it starts.
+    /// Iterates over the members whose keys are in a range, in order, in O(log n), and in O(n) for a walk over all. There are none if the
+    /// range ends before it starts.
     ///
     /// ```
     /// # use ic::{Error, Link3, Tree};
@@ -190,7 +192,7 @@ impl Tree {
         Ok(if has_any { self.view(table).between(front, back) } else { self.view(table).between(None, None) })
     }
 
-    /// Finds the first member with a key, or the gap where a place with this key belongs. O(log n). See [`Entry`].
+    /// Finds the first member with a key, or the gap where a place with this key belongs, in O(log n). See [`Entry`].
     ///
     /// # Errors
     ///

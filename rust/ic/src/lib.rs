@@ -1,4 +1,4 @@
-//! Lists, a red-black tree and hash tables over tables of links, which allocate nothing.
+//! This crate has lists, rings, hash tables and a red-black tree over tables of links, which allocate nothing.
 //!
 //! An object is a place, which is an index of your own collections. A table is a slice of links, one for each place, and a list or a tree
 //! leads from place to place through one table. A place is in at most one list or tree of a table. An object that has to be in several at

@@ -93,21 +93,22 @@ macro_rules! link {
             /// The link of a place that is in no list and no tree.
             pub const UNLINKED: $Link = $Link($Raw { $first: 0 $(, $word: 0)* });
 
-            /// The link that has these words, which may be any. They may come from a file: the `check` of a list or tree says whether a table holds it.
+            /// Returns the link that has these words, which may be any. They may come from a file: the `check` of a list or tree says
+            /// whether a table holds it.
             #[inline]
             #[must_use]
             pub const fn from_words([$first $(, $word)*]: [u64; $words]) -> $Link {
                 $Link($Raw { $first $(, $word)* })
             }
 
-            /// The words of the link, to be written to a file. They hold no addresses.
+            /// Returns the words of the link, to be written to a file. They hold no addresses.
             #[inline]
             #[must_use]
             pub const fn words(&self) -> [u64; $words] {
                 [self.0.$first $(, self.0.$word)*]
             }
 
-            /// Whether the place is in a list or tree. O(1).
+            /// Returns whether the place is in a list or tree, in O(1).
             #[inline]
             #[must_use]
             pub fn is_linked(&self) -> bool {
@@ -145,14 +146,14 @@ link!(Link3, 3, ic_link3 { left, right, parent });
 pub struct Link2(pub(crate) ic_link2);
 
 impl Link2 {
-    /// The member after this one, and `None` of a place that is not linked. O(1).
+    /// Returns the member after this one, and `None` of a place that is not linked, in O(1).
     #[inline]
     #[must_use]
     pub fn next(&self) -> Option<u32> {
         self.named(self.0.next)
     }
 
-    /// The member before this one, and `None` of a place that is not linked. O(1).
+    /// Returns the member before this one, and `None` of a place that is not linked, in O(1).
     #[inline]
     #[must_use]
     pub fn prev(&self) -> Option<u32> {
@@ -182,15 +183,15 @@ impl Link2 {
 pub struct Link1(pub(crate) ic_link1);
 
 impl Link1 {
-    /// The member after this one in a [`Stack`](crate::Stack), and `None` of a place that is not linked. O(1).
+    /// Returns the member after this one in a [`Stack`](crate::Stack), and `None` of a place that is not linked, in O(1).
     #[inline]
     #[must_use]
     pub fn next(&self) -> Option<u32> {
         self.named(self.0.next)
     }
 
-    /// The neighbor on the other side than `from` in an [`XorList`](crate::XorList), and `None` of a place that is not linked. `from` is `None` at
-    /// an end. O(1).
+    /// Returns the neighbor on the other side than `from` in an [`XorList`](crate::XorList), and `None` of a place that is not linked.
+    /// `from` is `None` at an end, in O(1).
     #[inline]
     #[must_use]
     pub fn step(&self, from: Option<u32>) -> Option<u32> {
@@ -216,21 +217,21 @@ impl Link1 {
 pub struct Link3(pub(crate) ic_link3);
 
 impl Link3 {
-    /// The left child, and `None` of a place that is not linked. The members under it come before this one. O(1).
+    /// Returns the left child, and `None` of a place that is not linked. The members under it come before this one, in O(1).
     #[inline]
     #[must_use]
     pub fn left(&self) -> Option<u32> {
         self.named(self.0.left)
     }
 
-    /// The right child, and `None` of a place that is not linked. The members under it come after this one. O(1).
+    /// Returns the right child, and `None` of a place that is not linked. The members under it come after this one, in O(1).
     #[inline]
     #[must_use]
     pub fn right(&self) -> Option<u32> {
         self.named(self.0.right)
     }
 
-    /// The parent, and `None` of a place that is not linked. O(1).
+    /// Returns the parent, and `None` of a place that is not linked, in O(1).
     #[inline]
     #[must_use]
     pub fn parent(&self) -> Option<u32> {

@@ -70,58 +70,59 @@ use ic_sys::*;
 pub struct List(pub(crate) ic_list);
 
 impl List {
-    /// A list with no members. O(1).
+    /// Returns a list with no members, in O(1).
     #[inline]
     #[must_use]
     pub const fn new() -> List {
         List(ic_list { head: 0, tail: 0 })
     }
 
-    /// The list that has these words, which may be any. They may come from a file: [`check`](Self::check) says whether a table holds it.
+    /// Returns the list that has these words, which may be any. They may come from a file: [`check`](Self::check) says whether a table
+    /// holds it.
     #[inline]
     #[must_use]
     pub const fn from_words([head, tail]: [u64; 2]) -> List {
         List(ic_list { head, tail })
     }
 
-    /// The words of the list, to be written to a file. They hold no addresses.
+    /// Returns the words of the list, to be written to a file. They hold no addresses.
     #[inline]
     #[must_use]
     pub const fn words(&self) -> [u64; 2] {
         [self.0.head, self.0.tail]
     }
 
-    /// Whether there are no members. O(1).
+    /// Returns whether there are no members, in O(1).
     #[inline]
     #[must_use]
     pub fn is_empty(&self) -> bool {
         is_none(self.0.head)
     }
 
-    /// The first member. O(1).
+    /// Returns the first member, in O(1).
     #[inline]
     #[must_use]
     pub fn first(&self) -> Option<u32> {
         place(self.0.head)
     }
 
-    /// The last member. O(1).
+    /// Returns the last member, in O(1).
     #[inline]
     #[must_use]
     pub fn last(&self) -> Option<u32> {
         place(self.0.tail)
     }
 
-    /// The member after the member `at`. O(1). It returns `None` if `at` is the last member, is not linked or is not in the table, and if the link
-    /// there leads out of the table.
+    /// Returns the member after the member `at`, in O(1). It returns `None` if `at` is the last member, is not linked or is not in the
+    /// table, and if the link there leads out of the table.
     #[inline]
     #[must_use]
     pub fn next(&self, table: &[Link2], at: u32) -> Option<u32> {
         read(table, at, Link2::next)
     }
 
-    /// The member before the member `at`. O(1). It returns `None` if `at` is the first member, is not linked or is not in the table, and if the link
-    /// there leads out of the table.
+    /// Returns the member before the member `at`, in O(1). It returns `None` if `at` is the first member, is not linked or is not in the
+    /// table, and if the link there leads out of the table.
     #[inline]
     #[must_use]
     pub fn prev(&self, table: &[Link2], at: u32) -> Option<u32> {
@@ -129,7 +130,7 @@ impl List {
     }
 
     // tools/c-calls --write writes from here: list list-keys
-    /// Inserts `place` at the front. O(1).
+    /// Inserts `place` at the front, in O(1).
     ///
     /// # Errors
     ///
@@ -142,7 +143,7 @@ impl List {
         done(unsafe { ic_list_push_front(links, places, &mut self.0, place) })
     }
 
-    /// Inserts `place` at the back. O(1).
+    /// Inserts `place` at the back, in O(1).
     ///
     /// # Errors
     ///
@@ -155,7 +156,7 @@ impl List {
         done(unsafe { ic_list_push_back(links, places, &mut self.0, place) })
     }
 
-    /// Removes the first member, and returns it. O(1). It returns `None` if the list is empty.
+    /// Removes the first member, and returns it, in O(1). It returns `None` if the list is empty.
     ///
     /// # Errors
     ///
@@ -167,7 +168,7 @@ impl List {
         handed_out(|it| unsafe { ic_list_pop_front(links, places, &mut self.0, it) })
     }
 
-    /// Removes the last member, and returns it. O(1). It returns `None` if the list is empty.
+    /// Removes the last member, and returns it, in O(1). It returns `None` if the list is empty.
     ///
     /// # Errors
     ///
@@ -179,12 +180,12 @@ impl List {
         handed_out(|it| unsafe { ic_list_pop_back(links, places, &mut self.0, it) })
     }
 
-    /// Inserts `place` after the member `at`, or at the front if `at` is `None`. O(1).
+    /// Inserts `place` after the member `at`, or at the front if `at` is `None`, in O(1).
     ///
     /// # Errors
     ///
     /// [`Error::OutOfRange`] if `at` or `place` is not below the table's length. [`Error::Linked`] if `place` is linked already.
-    /// [`Error::NotLinked`] if `at` is not linked. [`Error::Broken`] if `at` is no member of the list.
+    /// [`Error::NotLinked`] if the place `at` is not linked. [`Error::Broken`] if `at` is no member of the list.
     #[inline]
     pub fn insert_after(&mut self, table: &mut [Link2], at: Option<u32>, place: u32) -> Result<(), Error> {
         let (links, places) = Link2::parts(table);
@@ -192,12 +193,12 @@ impl List {
         done(unsafe { ic_list_insert_after(links, places, &mut self.0, number(at), place) })
     }
 
-    /// Inserts `place` before the member `at`, or at the back if `at` is `None`. O(1).
+    /// Inserts `place` before the member `at`, or at the back if `at` is `None`, in O(1).
     ///
     /// # Errors
     ///
     /// [`Error::OutOfRange`] if `at` or `place` is not below the table's length. [`Error::Linked`] if `place` is linked already.
-    /// [`Error::NotLinked`] if `at` is not linked. [`Error::Broken`] if `at` is no member of the list.
+    /// [`Error::NotLinked`] if the place `at` is not linked. [`Error::Broken`] if `at` is no member of the list.
     #[inline]
     pub fn insert_before(&mut self, table: &mut [Link2], at: Option<u32>, place: u32) -> Result<(), Error> {
         let (links, places) = Link2::parts(table);
@@ -205,12 +206,12 @@ impl List {
         done(unsafe { ic_list_insert_before(links, places, &mut self.0, number(at), place) })
     }
 
-    /// Removes the member `at`. O(1).
+    /// Removes the member `at`, in O(1).
     ///
     /// # Errors
     ///
-    /// [`Error::Null`] if `at` is `u32::MAX`. [`Error::OutOfRange`] if `at` is not below the table's length. [`Error::NotLinked`] if `at`
-    /// is not linked. [`Error::Broken`] if `at` is no member of the list.
+    /// [`Error::Null`] if the place `at` is `u32::MAX`. [`Error::OutOfRange`] if the place `at` is not below the table's length.
+    /// [`Error::NotLinked`] if the place `at` is not linked. [`Error::Broken`] if `at` is no member of the list.
     #[inline]
     pub fn remove(&mut self, table: &mut [Link2], at: u32) -> Result<(), Error> {
         let (links, places) = Link2::parts(table);
@@ -218,13 +219,13 @@ impl List {
         done(unsafe { ic_list_remove(links, places, &mut self.0, at) })
     }
 
-    /// Removes the member `at`, and inserts `place` where it was. O(1).
+    /// Removes the member `at`, and inserts `place` where it was, in O(1).
     ///
     /// # Errors
     ///
-    /// [`Error::Null`] if `at` is `u32::MAX`. [`Error::OutOfRange`] if `at` or `place` is not below the table's length. [`Error::Linked`]
-    /// if `place` is linked already, as it is if `at` and `place` are the same. [`Error::NotLinked`] if `at` is not linked.
-    /// [`Error::Broken`] if `at` is no member of the list.
+    /// [`Error::Null`] if the place `at` is `u32::MAX`. [`Error::OutOfRange`] if `at` or `place` is not below the table's length.
+    /// [`Error::Linked`] if `place` is linked already, also where `at` and `place` are the same. [`Error::NotLinked`] if the place `at` is
+    /// not linked. [`Error::Broken`] if `at` is no member of the list.
     #[inline]
     pub fn replace(&mut self, table: &mut [Link2], at: u32, place: u32) -> Result<(), Error> {
         let (links, places) = Link2::parts(table);
@@ -232,8 +233,8 @@ impl List {
         done(unsafe { ic_list_replace(links, places, &mut self.0, at, place) })
     }
 
-    /// Moves the member `place` after the member `at`, or to the front if `at` is `None`. O(1). The place stays linked. If it is there
-    /// already, or if `at` and `place` are the same, nothing changes.
+    /// Moves the member `place` after the member `at`, or to the front if `at` is `None`, in O(1). The place stays linked, and nothing
+    /// changes if it is there already, or if `at` and `place` are the same.
     ///
     /// # Errors
     ///
@@ -246,8 +247,8 @@ impl List {
         done(unsafe { ic_list_move_after(links, places, &mut self.0, number(at), place) })
     }
 
-    /// Moves the member `place` before the member `at`, or to the back if `at` is `None`. O(1). The place stays linked. If it is there
-    /// already, or if `at` and `place` are the same, nothing changes.
+    /// Moves the member `place` before the member `at`, or to the back if `at` is `None`, in O(1). The place stays linked, and nothing
+    /// changes if it is there already, or if `at` and `place` are the same.
     ///
     /// # Errors
     ///
@@ -260,7 +261,8 @@ impl List {
         done(unsafe { ic_list_move_before(links, places, &mut self.0, number(at), place) })
     }
 
-    /// Moves the member `place` to the front, as a cache does with the object that it used last. O(1). The place stays linked.
+    /// Moves the member `place` to the front, as a cache does with the object that it used last, in O(1). The place stays linked during the
+    /// call.
     ///
     /// # Errors
     ///
@@ -273,7 +275,7 @@ impl List {
         done(unsafe { ic_list_move_to_front(links, places, &mut self.0, place) })
     }
 
-    /// Moves the member `place` to the back. O(1). The place stays linked.
+    /// Moves the member `place` to the back, in O(1). The place stays linked during the call.
     ///
     /// # Errors
     ///
@@ -286,12 +288,14 @@ impl List {
         done(unsafe { ic_list_move_to_back(links, places, &mut self.0, place) })
     }
 
-    /// Moves all members of `given`, in their order, after the member `at`, or to the front if `at` is `None`. O(1). Then `given` is empty.
+    /// Moves all members of `given`, in their order, after the member `at`, or to the front if `at` is `None`, and leaves `given` empty, in
+    /// O(1).
     ///
     /// # Errors
     ///
-    /// [`Error::OutOfRange`] if `at` is not below the table's length. [`Error::NotLinked`] if `at` is not linked. [`Error::Broken`] if `at`
-    /// is no member of the list, or `given` is no list of this table, or both lists begin with the same member, as a list and its copy do.
+    /// [`Error::OutOfRange`] if the place `at` is not below the table's length. [`Error::NotLinked`] if the place `at` is not linked.
+    /// [`Error::Broken`] if `at` is no member of the list, or `given` is no list of this table, or both lists begin with the same member,
+    /// as a list and its copy do.
     #[inline]
     pub fn splice_after(&mut self, table: &mut [Link2], at: Option<u32>, given: &mut List) -> Result<(), Error> {
         let (links, places) = Link2::parts(table);
@@ -299,12 +303,14 @@ impl List {
         done(unsafe { ic_list_splice_after(links, places, &mut self.0, number(at), &mut given.0) })
     }
 
-    /// Moves all members of `given`, in their order, before the member `at`, or to the back if `at` is `None`. O(1). Then `given` is empty.
+    /// Moves all members of `given`, in their order, before the member `at`, or to the back if `at` is `None`, and leaves `given` empty, in
+    /// O(1).
     ///
     /// # Errors
     ///
-    /// [`Error::OutOfRange`] if `at` is not below the table's length. [`Error::NotLinked`] if `at` is not linked. [`Error::Broken`] if `at`
-    /// is no member of the list, or `given` is no list of this table, or both lists begin with the same member, as a list and its copy do.
+    /// [`Error::OutOfRange`] if the place `at` is not below the table's length. [`Error::NotLinked`] if the place `at` is not linked.
+    /// [`Error::Broken`] if `at` is no member of the list, or `given` is no list of this table, or both lists begin with the same member,
+    /// as a list and its copy do.
     #[inline]
     pub fn splice_before(&mut self, table: &mut [Link2], at: Option<u32>, given: &mut List) -> Result<(), Error> {
         let (links, places) = Link2::parts(table);
@@ -312,7 +318,7 @@ impl List {
         done(unsafe { ic_list_splice_before(links, places, &mut self.0, number(at), &mut given.0) })
     }
 
-    /// Moves all members of `given`, in their order, to the back. O(1). Then `given` is empty.
+    /// Moves all members of `given`, in their order, to the back, and leaves `given` empty, in O(1).
     ///
     /// # Errors
     ///
@@ -325,8 +331,8 @@ impl List {
         done(unsafe { ic_list_append(links, places, &mut self.0, &mut given.0) })
     }
 
-    /// Inserts `count` places, `first` and those after it, at the back in the order of their numbers. O(count). If `count` is 0, nothing
-    /// changes.
+    /// Inserts `count` places, `first` and those after it, at the back in the order of their numbers, in O(count). The call changes nothing
+    /// if `count` is 0.
     ///
     /// # Errors
     ///
@@ -339,7 +345,7 @@ impl List {
         done(unsafe { ic_list_fill(links, places, &mut self.0, first, count) })
     }
 
-    /// Removes all members. O(n).
+    /// Removes all members, in O(n).
     ///
     /// # Errors
     ///
@@ -351,12 +357,12 @@ impl List {
         done(unsafe { ic_list_clear(links, places, &mut self.0) })
     }
 
-    /// Moves the members after the member `at`, or all members if `at` is `None`, to a new list, which it returns. O(1).
+    /// Moves the members after the member `at`, or all members if `at` is `None`, to a new list, which it returns, in O(1).
     ///
     /// # Errors
     ///
-    /// [`Error::OutOfRange`] if `at` is not below the table's length. [`Error::NotLinked`] if `at` is not linked. [`Error::Broken`] if `at`
-    /// is no member of the list.
+    /// [`Error::OutOfRange`] if the place `at` is not below the table's length. [`Error::NotLinked`] if the place `at` is not linked.
+    /// [`Error::Broken`] if `at` is no member of the list.
     #[inline]
     pub fn split_after(&mut self, table: &mut [Link2], at: Option<u32>) -> Result<List, Error> {
         let ((links, places), mut rest) = (Link2::parts(table), List::new());
@@ -365,12 +371,12 @@ impl List {
         Ok(rest)
     }
 
-    /// Moves the members before the member `at`, or all members if `at` is `None`, to a new list, which it returns. O(1).
+    /// Moves the members before the member `at`, or all members if `at` is `None`, to a new list, which it returns, in O(1).
     ///
     /// # Errors
     ///
-    /// [`Error::OutOfRange`] if `at` is not below the table's length. [`Error::NotLinked`] if `at` is not linked. [`Error::Broken`] if `at`
-    /// is no member of the list.
+    /// [`Error::OutOfRange`] if the place `at` is not below the table's length. [`Error::NotLinked`] if the place `at` is not linked.
+    /// [`Error::Broken`] if `at` is no member of the list.
     #[inline]
     pub fn split_before(&mut self, table: &mut [Link2], at: Option<u32>) -> Result<List, Error> {
         let ((links, places), mut rest) = (Link2::parts(table), List::new());
@@ -379,9 +385,9 @@ impl List {
         Ok(rest)
     }
 
-    /// Counts the members, and returns how many there are. O(n). Call it if the words come from a file, or from memory that others write:
-    /// if it returns a number, each call does what it says of a list that the table holds. It returns `None` if the links do not lead from
-    /// the first member to the last, each to the next one and back.
+    /// Counts the members, and returns how many there are, in O(n). Call it if the words come from a file, or from memory that others
+    /// write. If it returns a number, each call does what it says of a list that the table holds. It returns `None` if the links do not
+    /// lead from the first member to the last, each to the next one and back.
     #[inline]
     #[must_use]
     pub fn check(&self, table: &[Link2]) -> Option<u64> {
@@ -390,7 +396,7 @@ impl List {
         counted(|members| unsafe { ic_list_check(links, places, &self.0, members) })
     }
 
-    /// Sorts the members by their keys. O(n log n). Members with equal keys keep their order.
+    /// Sorts the members by their keys, in O(n log n). Members with equal keys keep their order.
     ///
     /// # Errors
     ///
@@ -403,8 +409,8 @@ impl List {
         done(unsafe { ic_list_sort(links, places, keys.as_ptr(), keys.len(), &mut self.0) })
     }
 
-    /// Moves all members of `given` to where their keys belong, if both lists are in the order of their keys. O(n). Of members with equal
-    /// keys, those of this list come first. Then `given` is empty.
+    /// Moves all members of `given` to where their keys belong, if both lists are in the order of their keys, in O(n). Of members with
+    /// equal keys, those of this list come first. The call leaves `given` empty.
     ///
     /// # Errors
     ///

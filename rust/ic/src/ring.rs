@@ -32,7 +32,7 @@ use crate::{Error, Link2};
 use ic_sys::*;
 
 // tools/c-calls --write writes from here: ring
-/// Makes `head` the head of a ring with no members. O(1). Linux calls this INIT_LIST_HEAD.
+/// Makes `head` the head of a ring with no members, as INIT_LIST_HEAD of Linux does, in O(1).
 ///
 /// # Errors
 ///
@@ -44,13 +44,13 @@ pub fn init(table: &mut [Link2], head: u32) -> Result<(), Error> {
     done(unsafe { ic_ring_init(links, places, head) })
 }
 
-/// Inserts `place` after the place `at` of a ring. O(1). If `at` is a head, `place` becomes the first member. Linux calls this list_add.
+/// Inserts `place` after the place `at` of a ring, as list_add of Linux does, in O(1). If `at` is a head, `place` becomes the first member.
 ///
 /// # Errors
 ///
-/// [`Error::Null`] if `at` is `u32::MAX`. [`Error::OutOfRange`] if `at` or `place` is not below the table's length. [`Error::Linked`] if
-/// `place` is linked already, as it is if `at` and `place` are the same. [`Error::NotLinked`] if `at` is not linked. [`Error::Broken`] if
-/// `at` is in no ring.
+/// [`Error::Null`] if the place `at` is `u32::MAX`. [`Error::OutOfRange`] if `at` or `place` is not below the table's length.
+/// [`Error::Linked`] if `place` is linked already, also where `at` and `place` are the same. [`Error::NotLinked`] if the place `at` is not
+/// linked. [`Error::Broken`] if `at` is in no ring.
 #[inline]
 pub fn insert_after(table: &mut [Link2], at: u32, place: u32) -> Result<(), Error> {
     let (links, places) = Link2::parts(table);
@@ -58,14 +58,14 @@ pub fn insert_after(table: &mut [Link2], at: u32, place: u32) -> Result<(), Erro
     done(unsafe { ic_ring_insert_after(links, places, at, place) })
 }
 
-/// Inserts `place` before the place `at` of a ring. O(1). If `at` is a head, `place` becomes the last member. Linux calls this
-/// list_add_tail.
+/// Inserts `place` before the place `at` of a ring, as list_add_tail of Linux does, in O(1). If `at` is a head, `place` becomes the last
+/// member.
 ///
 /// # Errors
 ///
-/// [`Error::Null`] if `at` is `u32::MAX`. [`Error::OutOfRange`] if `at` or `place` is not below the table's length. [`Error::Linked`] if
-/// `place` is linked already, as it is if `at` and `place` are the same. [`Error::NotLinked`] if `at` is not linked. [`Error::Broken`] if
-/// `at` is in no ring.
+/// [`Error::Null`] if the place `at` is `u32::MAX`. [`Error::OutOfRange`] if `at` or `place` is not below the table's length.
+/// [`Error::Linked`] if `place` is linked already, also where `at` and `place` are the same. [`Error::NotLinked`] if the place `at` is not
+/// linked. [`Error::Broken`] if `at` is in no ring.
 #[inline]
 pub fn insert_before(table: &mut [Link2], at: u32, place: u32) -> Result<(), Error> {
     let (links, places) = Link2::parts(table);
@@ -73,8 +73,8 @@ pub fn insert_before(table: &mut [Link2], at: u32, place: u32) -> Result<(), Err
     done(unsafe { ic_ring_insert_before(links, places, at, place) })
 }
 
-/// Removes `place` from its ring, whichever that is. O(1). If `place` is a head without members, its ring is gone then. Linux calls this
-/// list_del.
+/// Removes `place` from its ring, whichever that is, as list_del of Linux does, in O(1). If `place` is a head without members, its ring is
+/// gone then.
 ///
 /// # Errors
 ///
@@ -87,9 +87,9 @@ pub fn remove(table: &mut [Link2], place: u32) -> Result<(), Error> {
     done(unsafe { ic_ring_remove(links, places, place) })
 }
 
-/// Exchanges the places after `one` and after `other`, which are in rings. O(1). So two rings become one, and one becomes two, and the same
-/// call again undoes it. If `one` is the last member of a ring and `other` the head of another one, all members of the second ring, and
-/// then its head, come after `one`.
+/// Exchanges the places after `one` and after `other`, which are in rings, in O(1). So two rings become one, and one becomes two, and the
+/// same call again undoes it. If `one` is the last member of a ring and `other` the head of another one, all members of the second ring,
+/// and then its head, come after `one`.
 ///
 /// # Errors
 ///
@@ -102,7 +102,8 @@ pub fn exchange(table: &mut [Link2], one: u32, other: u32) -> Result<(), Error> 
     done(unsafe { ic_ring_exchange(links, places, one, other) })
 }
 
-/// Removes the first member of the head `head`, and returns it. O(1). It returns `None` if `head` is `u32::MAX`, or `head` has no members.
+/// Removes the first member of the head `head`, and returns it, in O(1). It returns `None` if `head` is `u32::MAX`, or `head` has no
+/// members.
 ///
 /// # Errors
 ///
@@ -115,7 +116,8 @@ pub fn pop_front(table: &mut [Link2], head: u32) -> Result<Option<u32>, Error> {
     handed_out(|it| unsafe { ic_ring_pop_front(links, places, head, it) })
 }
 
-/// Removes the last member of the head `head`, and returns it. O(1). It returns `None` if `head` is `u32::MAX`, or `head` has no members.
+/// Removes the last member of the head `head`, and returns it, in O(1). It returns `None` if `head` is `u32::MAX`, or `head` has no
+/// members.
 ///
 /// # Errors
 ///
@@ -128,13 +130,13 @@ pub fn pop_back(table: &mut [Link2], head: u32) -> Result<Option<u32>, Error> {
     handed_out(|it| unsafe { ic_ring_pop_back(links, places, head, it) })
 }
 
-/// Removes the place `at` from its ring, and inserts `place` where it was. O(1). Linux calls this list_replace.
+/// Removes the place `at` from its ring, and inserts `place` where it was, as list_replace of Linux does, in O(1).
 ///
 /// # Errors
 ///
-/// [`Error::Null`] if `at` is `u32::MAX`. [`Error::OutOfRange`] if `at` or `place` is not below the table's length. [`Error::Linked`] if
-/// `place` is linked already, as it is if `at` and `place` are the same. [`Error::NotLinked`] if `at` is not linked. [`Error::Broken`] if
-/// `at` is in no ring.
+/// [`Error::Null`] if the place `at` is `u32::MAX`. [`Error::OutOfRange`] if `at` or `place` is not below the table's length.
+/// [`Error::Linked`] if `place` is linked already, also where `at` and `place` are the same. [`Error::NotLinked`] if the place `at` is not
+/// linked. [`Error::Broken`] if `at` is in no ring.
 #[inline]
 pub fn replace(table: &mut [Link2], at: u32, place: u32) -> Result<(), Error> {
     let (links, places) = Link2::parts(table);
@@ -142,8 +144,8 @@ pub fn replace(table: &mut [Link2], at: u32, place: u32) -> Result<(), Error> {
     done(unsafe { ic_ring_replace(links, places, at, place) })
 }
 
-/// Moves `place`, from whichever ring it is in, after the place `at` of a ring. O(1). If `at` is a head, `place` becomes the first member.
-/// The place stays linked. If `at` and `place` are the same, nothing changes. Linux calls this list_move.
+/// Moves `place`, from whichever ring it is in, after the place `at` of a ring, as list_move of Linux does, in O(1). If `at` is a head,
+/// `place` becomes the first member. The place stays linked, and nothing changes if `at` and `place` are the same.
 ///
 /// # Errors
 ///
@@ -156,8 +158,8 @@ pub fn move_after(table: &mut [Link2], at: u32, place: u32) -> Result<(), Error>
     done(unsafe { ic_ring_move_after(links, places, at, place) })
 }
 
-/// Moves `place`, from whichever ring it is in, before the place `at` of a ring. O(1). If `at` is a head, `place` becomes the last member.
-/// The place stays linked. If `at` and `place` are the same, nothing changes. Linux calls this list_move_tail.
+/// Moves `place`, from whichever ring it is in, before the place `at` of a ring, as list_move_tail of Linux does, in O(1). If `at` is a
+/// head, `place` becomes the last member. The place stays linked, and nothing changes if `at` and `place` are the same.
 ///
 /// # Errors
 ///
@@ -170,8 +172,8 @@ pub fn move_before(table: &mut [Link2], at: u32, place: u32) -> Result<(), Error
     done(unsafe { ic_ring_move_before(links, places, at, place) })
 }
 
-/// Moves all members of the head `head`, in their order, after the place `at` of another ring. O(1). Then `head` has no members. Linux
-/// calls this list_splice_init.
+/// Moves all members of the head `head`, in their order, after the place `at` of another ring, as list_splice_init of Linux does, in O(1).
+/// Afterwards `head` is the head of a ring with no members.
 ///
 /// # Errors
 ///
@@ -185,8 +187,8 @@ pub fn splice_after(table: &mut [Link2], at: u32, head: u32) -> Result<(), Error
     done(unsafe { ic_ring_splice_after(links, places, at, head) })
 }
 
-/// Moves all members of the head `head`, in their order, before the place `at` of another ring. O(1). Then `head` has no members. Linux
-/// calls this list_splice_tail_init.
+/// Moves all members of the head `head`, in their order, before the place `at` of another ring, as list_splice_tail_init of Linux does, in
+/// O(1). Afterwards `head` is the head of a ring with no members.
 ///
 /// # Errors
 ///
@@ -201,7 +203,7 @@ pub fn splice_before(table: &mut [Link2], at: u32, head: u32) -> Result<(), Erro
 }
 // to here
 
-/// Inserts `place` as the first member of a head. O(1).
+/// Inserts `place` as the first member of a head, in O(1).
 ///
 /// # Errors
 ///
@@ -211,7 +213,7 @@ pub fn push_front(table: &mut [Link2], head: u32, place: u32) -> Result<(), Erro
     insert_after(table, head, place)
 }
 
-/// Inserts `place` as the last member of a head. O(1).
+/// Inserts `place` as the last member of a head, in O(1).
 ///
 /// # Errors
 ///
@@ -221,22 +223,22 @@ pub fn push_back(table: &mut [Link2], head: u32, place: u32) -> Result<(), Error
     insert_before(table, head, place)
 }
 
-/// Whether a head has no members. O(1).
+/// Returns whether a head has no members, in O(1).
 #[inline]
 #[must_use]
 pub fn is_empty(table: &[Link2], head: u32) -> bool {
     next(table, head) == Some(head)
 }
 
-/// The place after the place `at` of a ring: after a head the first member, after the last member the head. O(1). It returns `None` if `at` is not
-/// linked or is not in the table, and if the link there leads out of the table.
+/// Returns the place after the place `at` of a ring: after a head the first member, after the last member the head, in O(1). It returns
+/// `None` if `at` is not linked or is not in the table, and if the link there leads out of the table.
 #[inline]
 #[must_use]
 pub fn next(table: &[Link2], at: u32) -> Option<u32> {
     read(table, at, Link2::next)
 }
 
-/// The place before the place `at` of a ring. O(1). It returns `None` if [`next`] does.
+/// Returns the place before the place `at` of a ring, in O(1). It returns `None` if [`next`] does.
 #[inline]
 #[must_use]
 pub fn prev(table: &[Link2], at: u32) -> Option<u32> {

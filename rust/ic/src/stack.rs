@@ -37,43 +37,44 @@ use ic_sys::*;
 pub struct Stack(pub(crate) ic_stack);
 
 impl Stack {
-    /// A list with no members. O(1).
+    /// Returns a list with no members, in O(1).
     #[inline]
     #[must_use]
     pub const fn new() -> Stack {
         Stack(ic_stack { head: 0 })
     }
 
-    /// The list that has these words, which may be any. They may come from a file: [`check`](Self::check) says whether a table holds it.
+    /// Returns the list that has these words, which may be any. They may come from a file: [`check`](Self::check) says whether a table
+    /// holds it.
     #[inline]
     #[must_use]
     pub const fn from_words([head]: [u64; 1]) -> Stack {
         Stack(ic_stack { head })
     }
 
-    /// The words of the list, to be written to a file. They hold no addresses.
+    /// Returns the words of the list, to be written to a file. They hold no addresses.
     #[inline]
     #[must_use]
     pub const fn words(&self) -> [u64; 1] {
         [self.0.head]
     }
 
-    /// Whether there are no members. O(1).
+    /// Returns whether there are no members, in O(1).
     #[inline]
     #[must_use]
     pub fn is_empty(&self) -> bool {
         is_none(self.0.head)
     }
 
-    /// The first member. O(1).
+    /// Returns the first member, in O(1).
     #[inline]
     #[must_use]
     pub fn first(&self) -> Option<u32> {
         place(self.0.head)
     }
 
-    /// The member after the member `at`. O(1). It returns `None` if `at` is the last member, is not linked or is not in the table, and if the link
-    /// there leads out of the table.
+    /// Returns the member after the member `at`, in O(1). It returns `None` if `at` is the last member, is not linked or is not in the
+    /// table, and if the link there leads out of the table.
     #[inline]
     #[must_use]
     pub fn next(&self, table: &[Link1], at: u32) -> Option<u32> {
@@ -81,7 +82,7 @@ impl Stack {
     }
 
     // tools/c-calls --write writes from here: stack
-    /// Inserts `place` at the front. O(1).
+    /// Inserts `place` at the front, in O(1).
     ///
     /// # Errors
     ///
@@ -94,7 +95,7 @@ impl Stack {
         done(unsafe { ic_stack_push_front(links, places, &mut self.0, place) })
     }
 
-    /// Removes the first member, and returns it. O(1). It returns `None` if the list is empty.
+    /// Removes the first member, and returns it, in O(1). It returns `None` if the list is empty.
     ///
     /// # Errors
     ///
@@ -106,12 +107,12 @@ impl Stack {
         handed_out(|it| unsafe { ic_stack_pop_front(links, places, &mut self.0, it) })
     }
 
-    /// Inserts `place` after the member `at`, or at the front if `at` is `None`. O(1).
+    /// Inserts `place` after the member `at`, or at the front if `at` is `None`, in O(1).
     ///
     /// # Errors
     ///
     /// [`Error::OutOfRange`] if `at` or `place` is not below the table's length. [`Error::Linked`] if `place` is linked already.
-    /// [`Error::NotLinked`] if `at` is not linked. [`Error::Broken`] if the next member does not belong to this table.
+    /// [`Error::NotLinked`] if the place `at` is not linked. [`Error::Broken`] if the next member does not belong to this table.
     #[inline]
     pub fn insert_after(&mut self, table: &mut [Link1], at: Option<u32>, place: u32) -> Result<(), Error> {
         let (links, places) = Link1::parts(table);
@@ -119,13 +120,13 @@ impl Stack {
         done(unsafe { ic_stack_insert_after(links, places, &mut self.0, number(at), place) })
     }
 
-    /// Removes the member after the member `at`, or the first member if `at` is `None`, and returns it. O(1). It returns `None` if there is
-    /// no such member.
+    /// Removes the member after the member `at`, or the first member if `at` is `None`, and returns it, in O(1). It returns `None` if there
+    /// is no such member.
     ///
     /// # Errors
     ///
-    /// [`Error::OutOfRange`] if `at` is not below the table's length. [`Error::NotLinked`] if `at` is not linked. [`Error::Broken`] if the
-    /// next member does not belong to this table.
+    /// [`Error::OutOfRange`] if the place `at` is not below the table's length. [`Error::NotLinked`] if the place `at` is not linked.
+    /// [`Error::Broken`] if the next member does not belong to this table.
     #[inline]
     pub fn remove_after(&mut self, table: &mut [Link1], at: Option<u32>) -> Result<Option<u32>, Error> {
         let (links, places) = Link1::parts(table);
@@ -134,13 +135,13 @@ impl Stack {
     }
 
     /// Removes the member after the member `at`, or the first member if `at` is `None`, inserts `place` where it was, and returns the
-    /// removed member. O(1).
+    /// removed member, in O(1).
     ///
     /// # Errors
     ///
     /// [`Error::Null`] if there is no such member. [`Error::OutOfRange`] if `at` or `place` is not below the table's length.
-    /// [`Error::Linked`] if `place` is linked already. [`Error::NotLinked`] if `at` is not linked. [`Error::Broken`] if the next member
-    /// does not belong to this table.
+    /// [`Error::Linked`] if `place` is linked already. [`Error::NotLinked`] if the place `at` is not linked. [`Error::Broken`] if the next
+    /// member does not belong to this table.
     #[inline]
     pub fn replace_after(&mut self, table: &mut [Link1], at: Option<u32>, place: u32) -> Result<u32, Error> {
         let (links, places) = Link1::parts(table);
@@ -150,14 +151,14 @@ impl Stack {
         removed.ok_or(Error::Null)
     }
 
-    /// Moves all members of `given`, in their order, after the member `at`, or to the front if `at` is `None`. O(members of `given`). Then
-    /// `given` is empty.
+    /// Moves all members of `given`, in their order, after the member `at`, or to the front if `at` is `None`, and leaves `given` empty, in
+    /// O(members of `given`).
     ///
     /// # Errors
     ///
-    /// [`Error::OutOfRange`] if `at` is not below the table's length. [`Error::NotLinked`] if `at` is not linked. [`Error::Broken`] if
-    /// `given` is no list of this table, or has no end within as many steps as the table has places, or both lists begin with the same
-    /// member, as a list and its copy do.
+    /// [`Error::OutOfRange`] if the place `at` is not below the table's length. [`Error::NotLinked`] if the place `at` is not linked.
+    /// [`Error::Broken`] if `given` is no list of this table, or has no end within as many steps as the table has places, or both lists
+    /// begin with the same member, as a list and its copy do.
     #[inline]
     pub fn splice_after(&mut self, table: &mut [Link1], at: Option<u32>, given: &mut Stack) -> Result<(), Error> {
         let (links, places) = Link1::parts(table);
@@ -165,12 +166,12 @@ impl Stack {
         done(unsafe { ic_stack_splice_after(links, places, &mut self.0, number(at), &mut given.0) })
     }
 
-    /// Moves the members after the member `at`, or all members if `at` is `None`, to a new list, which it returns. O(1).
+    /// Moves the members after the member `at`, or all members if `at` is `None`, to a new list, which it returns, in O(1).
     ///
     /// # Errors
     ///
-    /// [`Error::OutOfRange`] if `at` is not below the table's length. [`Error::NotLinked`] if `at` is not linked. [`Error::Broken`] if the
-    /// next member does not belong to this table.
+    /// [`Error::OutOfRange`] if the place `at` is not below the table's length. [`Error::NotLinked`] if the place `at` is not linked.
+    /// [`Error::Broken`] if the next member does not belong to this table.
     #[inline]
     pub fn split_after(&mut self, table: &mut [Link1], at: Option<u32>) -> Result<Stack, Error> {
         let ((links, places), mut rest) = (Link1::parts(table), Stack::new());
@@ -180,7 +181,7 @@ impl Stack {
     }
 
     /// Inserts `count` places, `first` and those after it, at the front in the order of their numbers, so that `first` becomes the first
-    /// member. O(count). If `count` is 0, nothing changes.
+    /// member, in O(count). The call changes nothing if `count` is 0.
     ///
     /// # Errors
     ///
@@ -193,7 +194,7 @@ impl Stack {
         done(unsafe { ic_stack_fill(links, places, &mut self.0, first, count) })
     }
 
-    /// Removes all members. O(n).
+    /// Removes all members, in O(n).
     ///
     /// # Errors
     ///
@@ -205,9 +206,9 @@ impl Stack {
         done(unsafe { ic_stack_clear(links, places, &mut self.0) })
     }
 
-    /// Counts the members, and returns how many there are. O(n). Call it if the words come from a file, or from memory that others write:
-    /// if it returns a number, each call does what it says of a list that the table holds. It returns `None` if the links lead from the
-    /// first member to no end within the table.
+    /// Counts the members, and returns how many there are, in O(n). Call it if the words come from a file, or from memory that others
+    /// write. If it returns a number, each call does what it says of a list that the table holds. It returns `None` if the links lead from
+    /// the first member to no end within the table.
     #[inline]
     #[must_use]
     pub fn check(&self, table: &[Link1]) -> Option<u64> {

@@ -78,57 +78,58 @@ use ic_sys::*;
 pub struct Tree(pub(crate) ic_tree);
 
 impl Tree {
-    /// A tree with no members. O(1).
+    /// Returns a tree with no members, in O(1).
     #[inline]
     #[must_use]
     pub const fn new() -> Tree {
         Tree(ic_tree { root: 0 })
     }
 
-    /// The tree that has these words, which may be any. They may come from a file: [`check`](Self::check) says whether a table holds it.
+    /// Returns the tree that has these words, which may be any. They may come from a file: [`check`](Self::check) says whether a table
+    /// holds it.
     #[inline]
     #[must_use]
     pub const fn from_words([root]: [u64; 1]) -> Tree {
         Tree(ic_tree { root })
     }
 
-    /// The words of the tree, to be written to a file. They hold no addresses.
+    /// Returns the words of the tree, to be written to a file. They hold no addresses.
     #[inline]
     #[must_use]
     pub const fn words(&self) -> [u64; 1] {
         [self.0.root]
     }
 
-    /// Whether there are no members. O(1).
+    /// Returns whether there are no members, in O(1).
     #[inline]
     #[must_use]
     pub fn is_empty(&self) -> bool {
         is_none(self.0.root)
     }
 
-    /// The root. O(1).
+    /// Returns the root, in O(1).
     #[inline]
     #[must_use]
     pub fn root(&self) -> Option<u32> {
         place(self.0.root)
     }
 
-    /// The left child of the member `at`. O(1). It returns `None` if there is none, if `at` is not linked or is not in the table, and if the link there
-    /// leads out of the table. So do [`right`](Self::right) and [`parent`](Self::parent).
+    /// Returns the left child of the member `at`, in O(1). It returns `None` if there is none, if `at` is not linked or is not in the
+    /// table, and if the link there leads out of the table. So do [`right`](Self::right) and [`parent`](Self::parent).
     #[inline]
     #[must_use]
     pub fn left(&self, table: &[Link3], at: u32) -> Option<u32> {
         read(table, at, Link3::left)
     }
 
-    /// The right child of the member `at`. O(1).
+    /// Returns the right child of the member `at`, in O(1).
     #[inline]
     #[must_use]
     pub fn right(&self, table: &[Link3], at: u32) -> Option<u32> {
         read(table, at, Link3::right)
     }
 
-    /// The parent of the member `at`. O(1).
+    /// Returns the parent of the member `at`, in O(1).
     #[inline]
     #[must_use]
     pub fn parent(&self, table: &[Link3], at: u32) -> Option<u32> {
@@ -136,14 +137,14 @@ impl Tree {
     }
 
     // tools/c-calls --write writes from here: tree
-    /// Inserts `place` as the left child of the member `at`, which has none, and balances the tree. O(log n). The place comes directly
-    /// before `at`. If `at` is `None`, the tree has to be empty, and `place` becomes its root.
+    /// Inserts `place` as the left child of the member `at`, which has none, and balances the tree, in O(log n). No member comes between
+    /// the place and `at`, which is after it. If `at` is `None`, the tree has to be empty, and `place` becomes its root.
     ///
     /// # Errors
     ///
     /// [`Error::OutOfRange`] if `at` or `place` is not below the table's length. [`Error::Linked`] if `place` is linked already.
-    /// [`Error::NotLinked`] if `at` is not linked. [`Error::Broken`] if `at` has a left child, or `at` is `None` and the tree has members,
-    /// or the root does not belong to this table.
+    /// [`Error::NotLinked`] if the place `at` is not linked. [`Error::Broken`] if `at` has a left child, or `at` is `None` and the tree has
+    /// members, or the root does not belong to this table.
     #[inline]
     pub fn insert_left(&mut self, table: &mut [Link3], at: Option<u32>, place: u32) -> Result<(), Error> {
         let (links, places) = Link3::parts(table);
@@ -151,14 +152,14 @@ impl Tree {
         done(unsafe { ic_tree_insert_left(links, places, &mut self.0, number(at), place) })
     }
 
-    /// Inserts `place` as the right child of the member `at`, which has none, and balances the tree. O(log n). The place comes directly
-    /// after `at`. If `at` is `None`, the tree has to be empty, and `place` becomes its root.
+    /// Inserts `place` as the right child of the member `at`, which has none, and balances the tree, in O(log n). No member comes between
+    /// `at` and the place, which is after it. If `at` is `None`, the tree has to be empty, and `place` becomes its root.
     ///
     /// # Errors
     ///
     /// [`Error::OutOfRange`] if `at` or `place` is not below the table's length. [`Error::Linked`] if `place` is linked already.
-    /// [`Error::NotLinked`] if `at` is not linked. [`Error::Broken`] if `at` has a right child, or `at` is `None` and the tree has members,
-    /// or the root does not belong to this table.
+    /// [`Error::NotLinked`] if the place `at` is not linked. [`Error::Broken`] if `at` has a right child, or `at` is `None` and the tree
+    /// has members, or the root does not belong to this table.
     #[inline]
     pub fn insert_right(&mut self, table: &mut [Link3], at: Option<u32>, place: u32) -> Result<(), Error> {
         let (links, places) = Link3::parts(table);
@@ -166,12 +167,12 @@ impl Tree {
         done(unsafe { ic_tree_insert_right(links, places, &mut self.0, number(at), place) })
     }
 
-    /// Removes the member `at`. O(log n).
+    /// Removes the member `at`, in O(log n).
     ///
     /// # Errors
     ///
-    /// [`Error::Null`] if `at` is `u32::MAX`. [`Error::OutOfRange`] if `at` is not below the table's length. [`Error::NotLinked`] if `at`
-    /// is not linked. [`Error::Broken`] if the root does not belong to this table.
+    /// [`Error::Null`] if the place `at` is `u32::MAX`. [`Error::OutOfRange`] if the place `at` is not below the table's length.
+    /// [`Error::NotLinked`] if the place `at` is not linked. [`Error::Broken`] if the root does not belong to this table.
     #[inline]
     pub fn remove(&mut self, table: &mut [Link3], at: u32) -> Result<(), Error> {
         let (links, places) = Link3::parts(table);
@@ -179,13 +180,14 @@ impl Tree {
         done(unsafe { ic_tree_remove(links, places, &mut self.0, at) })
     }
 
-    /// Removes the member `at`, and inserts `place` where it was. O(1). The call compares nothing, so hand in a place that belongs there.
+    /// Removes the member `at`, and inserts `place` where it was, in O(1). The call compares nothing, so hand in a place that belongs
+    /// there.
     ///
     /// # Errors
     ///
-    /// [`Error::Null`] if `at` is `u32::MAX`. [`Error::OutOfRange`] if `at` or `place` is not below the table's length. [`Error::Linked`]
-    /// if `place` is linked already, as it is if `at` and `place` are the same. [`Error::NotLinked`] if `at` is not linked.
-    /// [`Error::Broken`] if the root does not belong to this table.
+    /// [`Error::Null`] if the place `at` is `u32::MAX`. [`Error::OutOfRange`] if `at` or `place` is not below the table's length.
+    /// [`Error::Linked`] if `place` is linked already, also where `at` and `place` are the same. [`Error::NotLinked`] if the place `at` is
+    /// not linked. [`Error::Broken`] if the root does not belong to this table.
     #[inline]
     pub fn replace(&mut self, table: &mut [Link3], at: u32, place: u32) -> Result<(), Error> {
         let (links, places) = Link3::parts(table);
@@ -193,7 +195,7 @@ impl Tree {
         done(unsafe { ic_tree_replace(links, places, &mut self.0, at, place) })
     }
 
-    /// Removes all members. O(n).
+    /// Removes all members, in O(n).
     ///
     /// # Errors
     ///
@@ -206,10 +208,10 @@ impl Tree {
         done(unsafe { ic_tree_clear(links, places, &mut self.0) })
     }
 
-    /// Counts the members, and returns how many there are. O(n). Call it if the words come from a file, or from memory that others write:
-    /// if it returns a number, each call does what it says of a tree that the table holds. The check reads no keys. It calls itself, at
-    /// most 67 times within one another. It returns `None` if the links form no red-black tree from the root on, because a parent, a color
-    /// or a child is wrong.
+    /// Counts the members, and returns how many there are, in O(n). Call it if the words come from a file, or from memory that others
+    /// write. If it returns a number, each call does what it says of a tree that the table holds. The check reads no keys, and calls
+    /// itself, at most 67 times within one another. It returns `None` if the links form no red-black tree from the root on, because a
+    /// parent, a color or a child is wrong.
     #[inline]
     #[must_use]
     pub fn check(&self, table: &[Link3]) -> Option<u64> {
@@ -226,7 +228,7 @@ impl Tree {
 /// or none.
 impl Tree {
     // tools/c-calls --write writes from here: tree-keys
-    /// Inserts `place` by its key, after all members whose keys are not greater than `keys[place]`. O(log n).
+    /// Inserts `place` by its key, after all members whose keys are not greater than `keys[place]`, in O(log n).
     ///
     /// # Errors
     ///
@@ -239,7 +241,7 @@ impl Tree {
         done(unsafe { ic_tree_insert(links, places, keys.as_ptr(), keys.len(), &mut self.0, place) })
     }
 
-    /// Finds the first member whose key is `key`, and returns it. O(log n). It returns `None` if there is no such member.
+    /// Finds the first member whose key is `key`, and returns it, in O(log n). It returns `None` if there is no such member.
     ///
     /// # Errors
     ///
@@ -251,7 +253,7 @@ impl Tree {
         handed_out(|it| unsafe { ic_tree_find(links, places, keys.as_ptr(), keys.len(), &self.0, key, it) })
     }
 
-    /// Finds the first member whose key is not less than `key`, and returns it. O(log n). It returns `None` if there is no such member.
+    /// Finds the first member whose key is not less than `key`, and returns it, in O(log n). It returns `None` if there is no such member.
     ///
     /// # Errors
     ///
@@ -263,10 +265,10 @@ impl Tree {
         handed_out(|it| unsafe { ic_tree_lower_bound(links, places, keys.as_ptr(), keys.len(), &self.0, key, it) })
     }
 
-    /// Finds the LAST member whose key is NOT GREATER than `key`, and returns it. O(log n). The upper_bound of C++ finds another one, the
-    /// first member whose key is greater. Both bounds are named as in the Rust crate intrusive-collections: if there are members with keys
-    /// from `low` to `high`, the lower bound of `low` is the first of them, and the upper bound of `high` is the last. It returns `None` if
-    /// there is no such member.
+    /// Finds the LAST member whose key is NOT GREATER than `key`, and returns it, in O(log n). The upper_bound of C++ finds another one,
+    /// the first member whose key is greater. Both bounds have their names from the Rust crate intrusive-collections. If there are members
+    /// with keys from `low` to `high`, the lower bound of `low` is the first of them, and the upper bound of `high` is the last. It returns
+    /// `None` if there is no such member.
     ///
     /// # Errors
     ///
@@ -282,7 +284,7 @@ impl Tree {
 
 /// Steps through a tree. A walk over all n members takes O(n).
 impl Tree {
-    /// The first member. O(log n).
+    /// Returns the first member, in O(log n).
     ///
     /// # Errors
     ///
@@ -292,7 +294,7 @@ impl Tree {
         Tree::next(self, table, None)
     }
 
-    /// The last member. O(log n).
+    /// Returns the last member, in O(log n).
     ///
     /// # Errors
     ///
@@ -303,13 +305,13 @@ impl Tree {
     }
 
     // tools/c-calls --write writes from here: tree-steps
-    /// Finds the member after the member `at`, or the first member if `at` is `None`, and returns it. O(log n). It returns `None` if `at`
-    /// is the last member, or the tree is empty.
+    /// Finds the member after the member `at`, or the first member if `at` is `None`, and returns it, in O(log n). It returns `None` if
+    /// `at` is the last member, or the tree is empty.
     ///
     /// # Errors
     ///
-    /// [`Error::OutOfRange`] if `at` is not below the table's length. [`Error::NotLinked`] if `at` is not linked. [`Error::Broken`] if the
-    /// root does not belong to this table.
+    /// [`Error::OutOfRange`] if the place `at` is not below the table's length. [`Error::NotLinked`] if the place `at` is not linked.
+    /// [`Error::Broken`] if the root does not belong to this table.
     #[inline]
     pub fn next(&self, table: &[Link3], at: Option<u32>) -> Result<Option<u32>, Error> {
         let (links, places) = Link3::read_parts(table);
@@ -317,13 +319,13 @@ impl Tree {
         handed_out(|it| unsafe { ic_tree_next(links, places, &self.0, number(at), it) })
     }
 
-    /// Finds the member before the member `at`, or the last member if `at` is `None`, and returns it. O(log n). It returns `None` if `at`
-    /// is the first member, or the tree is empty.
+    /// Finds the member before the member `at`, or the last member if `at` is `None`, and returns it, in O(log n). It returns `None` if
+    /// `at` is the first member, or the tree is empty.
     ///
     /// # Errors
     ///
-    /// [`Error::OutOfRange`] if `at` is not below the table's length. [`Error::NotLinked`] if `at` is not linked. [`Error::Broken`] if the
-    /// root does not belong to this table.
+    /// [`Error::OutOfRange`] if the place `at` is not below the table's length. [`Error::NotLinked`] if the place `at` is not linked.
+    /// [`Error::Broken`] if the root does not belong to this table.
     #[inline]
     pub fn prev(&self, table: &[Link3], at: Option<u32>) -> Result<Option<u32>, Error> {
         let (links, places) = Link3::read_parts(table);

@@ -41,7 +41,7 @@ impl<'a, C: Collection> View<'a, C> {
         self.collection.next(self.table, at)
     }
 
-    /// Iterates over the members, in order. O(n) for all, and O(1) for each of a list.
+    /// Iterates over the members, in order, which takes O(n) for all, and O(1) for each of a list.
     ///
     /// Whatever the words say, it ends after as many members as the table has places.
     #[inline]

@@ -43,50 +43,50 @@ use ic_sys::*;
 pub struct XorList(pub(crate) ic_xor_list);
 
 impl XorList {
-    /// A list with no members. O(1).
+    /// Returns a list with no members, in O(1).
     #[inline]
     #[must_use]
     pub const fn new() -> XorList {
         XorList(ic_xor_list { head: 0, tail: 0 })
     }
 
-    /// The list that has these words, which may be any. No call tells whether a table holds an XOR list.
+    /// Returns the list that has these words, which may be any. No call tells whether a table holds an XOR list.
     #[inline]
     #[must_use]
     pub const fn from_words([head, tail]: [u64; 2]) -> XorList {
         XorList(ic_xor_list { head, tail })
     }
 
-    /// The words of the list, to be written to a file. They hold no addresses.
+    /// Returns the words of the list, to be written to a file. They hold no addresses.
     #[inline]
     #[must_use]
     pub const fn words(&self) -> [u64; 2] {
         [self.0.head, self.0.tail]
     }
 
-    /// Whether there are no members. O(1).
+    /// Returns whether there are no members, in O(1).
     #[inline]
     #[must_use]
     pub fn is_empty(&self) -> bool {
         is_none(self.0.head)
     }
 
-    /// The first member. O(1).
+    /// Returns the first member, in O(1).
     #[inline]
     #[must_use]
     pub fn first(&self) -> Option<u32> {
         place(self.0.head)
     }
 
-    /// The last member. O(1).
+    /// Returns the last member, in O(1).
     #[inline]
     #[must_use]
     pub fn last(&self) -> Option<u32> {
         place(self.0.tail)
     }
 
-    /// The neighbor of the member `at` on the other side than its neighbor `from`, which is `None` at an end. O(1). It returns `None` if `at` is not
-    /// linked or is not in the table, and if the link there leads out of the table.
+    /// Returns the neighbor of the member `at` on the other side than its neighbor `from`, which is `None` at an end, in O(1). It returns
+    /// `None` if `at` is not linked or is not in the table, and if the link there leads out of the table.
     #[inline]
     #[must_use]
     pub fn step(&self, table: &[Link1], from: Option<u32>, at: u32) -> Option<u32> {
@@ -94,7 +94,7 @@ impl XorList {
     }
 
     // tools/c-calls --write writes from here: xor
-    /// Inserts `place` at the front. O(1).
+    /// Inserts `place` at the front, in O(1).
     ///
     /// # Errors
     ///
@@ -107,7 +107,7 @@ impl XorList {
         done(unsafe { ic_xor_push_front(links, places, &mut self.0, place) })
     }
 
-    /// Inserts `place` at the back. O(1).
+    /// Inserts `place` at the back, in O(1).
     ///
     /// # Errors
     ///
@@ -120,7 +120,7 @@ impl XorList {
         done(unsafe { ic_xor_push_back(links, places, &mut self.0, place) })
     }
 
-    /// Removes the first member, and returns it. O(1). It returns `None` if the list is empty.
+    /// Removes the first member, and returns it, in O(1). It returns `None` if the list is empty.
     ///
     /// # Errors
     ///
@@ -132,7 +132,7 @@ impl XorList {
         handed_out(|it| unsafe { ic_xor_pop_front(links, places, &mut self.0, it) })
     }
 
-    /// Removes the last member, and returns it. O(1). It returns `None` if the list is empty.
+    /// Removes the last member, and returns it, in O(1). It returns `None` if the list is empty.
     ///
     /// # Errors
     ///
@@ -144,7 +144,7 @@ impl XorList {
         handed_out(|it| unsafe { ic_xor_pop_back(links, places, &mut self.0, it) })
     }
 
-    /// Inserts `place` in the gap between the members `before` and `after`, which are `None` beyond an end. O(1).
+    /// Inserts `place` in the gap between the members `before` and `after`, which are `None` beyond an end, in O(1).
     ///
     /// # Errors
     ///
@@ -163,11 +163,11 @@ impl XorList {
         done(unsafe { ic_xor_insert_between(links, places, &mut self.0, number(before), place, number(after)) })
     }
 
-    /// Removes the member `at`. O(1). Before it is the member `before`, which is `None` if `at` is the first member.
+    /// Removes the member `at`, in O(1). You name the member before it, too: `before`, which is `None` if `at` is the first member.
     ///
     /// # Errors
     ///
-    /// [`Error::Null`] if `at` is `u32::MAX`. [`Error::OutOfRange`] if `before` or `at` is not below the table's length.
+    /// [`Error::Null`] if the place `at` is `u32::MAX`. [`Error::OutOfRange`] if `before` or `at` is not below the table's length.
     /// [`Error::NotLinked`] if `before` or `at` is not linked. [`Error::Broken`] if `before` and `at` are no such members.
     #[inline]
     pub fn remove(&mut self, table: &mut [Link1], before: Option<u32>, at: u32) -> Result<(), Error> {
@@ -176,13 +176,13 @@ impl XorList {
         done(unsafe { ic_xor_remove(links, places, &mut self.0, number(before), at) })
     }
 
-    /// Removes the member `at`, and inserts `place` where it was. O(1). Before `at` is the member `before`, which is `None` if `at` is the
-    /// first member.
+    /// Removes the member `at`, and inserts `place` where it was, in O(1). You name the member before `at`, too: `before`, which is `None`
+    /// if `at` is the first member.
     ///
     /// # Errors
     ///
-    /// [`Error::Null`] if `at` is `u32::MAX`. [`Error::OutOfRange`] if `before`, `at` or `place` is not below the table's length.
-    /// [`Error::Linked`] if `place` is linked already, as it is if `at` and `place` are the same. [`Error::NotLinked`] if `before` or `at`
+    /// [`Error::Null`] if the place `at` is `u32::MAX`. [`Error::OutOfRange`] if `before`, `at` or `place` is not below the table's length.
+    /// [`Error::Linked`] if `place` is linked already, also where `at` and `place` are the same. [`Error::NotLinked`] if `before` or `at`
     /// is not linked. [`Error::Broken`] if `before` and `at` are no such members.
     #[inline]
     pub fn replace(&mut self, table: &mut [Link1], before: Option<u32>, at: u32, place: u32) -> Result<(), Error> {
@@ -191,8 +191,8 @@ impl XorList {
         done(unsafe { ic_xor_replace(links, places, &mut self.0, number(before), at, place) })
     }
 
-    /// Moves all members of `given`, in their order, into the gap between the members `before` and `after`, which are `None` beyond an end.
-    /// O(1). Then `given` is empty.
+    /// Moves all members of `given`, in their order, into the gap between the members `before` and `after`, which are `None` beyond an end,
+    /// and leaves `given` empty, in O(1).
     ///
     /// # Errors
     ///
@@ -212,7 +212,7 @@ impl XorList {
         done(unsafe { ic_xor_splice_between(links, places, &mut self.0, number(before), &mut given.0, number(after)) })
     }
 
-    /// Moves all members of `given`, in their order, to the back. O(1). Then `given` is empty.
+    /// Moves all members of `given`, in their order, to the back, and leaves `given` empty, in O(1).
     ///
     /// # Errors
     ///
@@ -225,8 +225,8 @@ impl XorList {
         done(unsafe { ic_xor_append(links, places, &mut self.0, &mut given.0) })
     }
 
-    /// Inserts `count` places, `first` and those after it, at the back in the order of their numbers. O(count). If `count` is 0, nothing
-    /// changes.
+    /// Inserts `count` places, `first` and those after it, at the back in the order of their numbers, in O(count). The call changes nothing
+    /// if `count` is 0.
     ///
     /// # Errors
     ///
@@ -239,7 +239,7 @@ impl XorList {
         done(unsafe { ic_xor_fill(links, places, &mut self.0, first, count) })
     }
 
-    /// Removes all members. O(n).
+    /// Removes all members, in O(n).
     ///
     /// # Errors
     ///
@@ -252,8 +252,8 @@ impl XorList {
         done(unsafe { ic_xor_clear(links, places, &mut self.0) })
     }
 
-    /// Moves the members from `after` on to a new list, which it returns, so that `before` becomes the last member. O(1). All members move
-    /// if `before` is `None`, and none if `after` is `None`.
+    /// Moves the members from `after` on to a new list, which it returns, so that `before` becomes the last member, in O(1). All members
+    /// move if `before` is `None`, and none if `after` is `None`.
     ///
     /// # Errors
     ///
@@ -272,7 +272,7 @@ impl XorList {
         Ok(rest)
     }
 
-    /// Reverses the list. O(1). The call reads and writes no table, and is never refused.
+    /// Reverses the list, in O(1). The call reads and writes no table, and is never refused.
     #[inline]
     pub fn reverse(&mut self) {
         // SAFETY: each pointer comes from a reference, with the length of its slice, and no mutable reference overlaps another one.
@@ -286,7 +286,8 @@ bidirectional!(XorList, Link1);
 
 /// Cursors on a member that is named with a neighbor.
 impl XorList {
-    /// A cursor on the member `place`, before which `prev` is. O(1). The call cannot tell the members of this list from those of another.
+    /// Returns a cursor on the member `place`, before which `prev` is, in O(1). The call cannot tell the members of this list from those of
+    /// another.
     ///
     /// # Errors
     ///
@@ -302,7 +303,8 @@ impl XorList {
         Ok(Cursor::new(self, table, position))
     }
 
-    /// A cursor on the member `place`, after which `next` is. O(1). The call cannot tell the members of this list from those of another.
+    /// Returns a cursor on the member `place`, after which `next` is, in O(1). The call cannot tell the members of this list from those of
+    /// another.
     ///
     /// # Errors
     ///
@@ -318,8 +320,8 @@ impl XorList {
         Ok(Cursor::new(self, table, position))
     }
 
-    /// A cursor on the member `place`, before which `prev` is, which edits. O(1). The call cannot tell the members of this list from those of
-    /// another.
+    /// Returns a cursor on the member `place`, before which `prev` is, which edits, in O(1). The call cannot tell the members of this list
+    /// from those of another.
     ///
     /// # Errors
     ///
@@ -335,8 +337,8 @@ impl XorList {
         Ok(CursorMut::new(self, table, position))
     }
 
-    /// A cursor on the member `place`, after which `next` is, which edits. O(1). The call cannot tell the members of this list from those of
-    /// another.
+    /// Returns a cursor on the member `place`, after which `next` is, which edits, in O(1). The call cannot tell the members of this list
+    /// from those of another.
     ///
     /// # Errors
     ///

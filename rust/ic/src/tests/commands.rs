@@ -24,8 +24,8 @@ impl Plain {
         (self.at + by) % (self.members.len() + 1)
     }
 
-    /// The gap behind the cursor, by how many members are in front of it.
-    fn gap_behind(&self) -> usize {
+    /// The gap after the cursor, by how many members are before it.
+    fn gap_after(&self) -> usize {
         self.step(1)
     }
 
@@ -41,7 +41,7 @@ impl Plain {
     }
 
     /// Puts places into a gap. The cursor stays on its member, or on none.
-    fn put(&mut self, gap: usize, places: &[u32]) {
+    fn insert(&mut self, gap: usize, places: &[u32]) {
         if gap <= self.at {
             self.at += places.len();
         }
@@ -70,7 +70,7 @@ fn insert_after<C: Kind>(it: &mut Session<'_, C>) {
     let expected = it.plain.accepts(place);
     assert_eq!(it.cursor.insert_after(place), expected);
     if expected.is_ok() {
-        it.plain.put(it.plain.gap_behind(), &[place]);
+        it.plain.insert(it.plain.gap_after(), &[place]);
     }
 }
 
@@ -84,7 +84,7 @@ fn insert_before<C: Kind + Bidirectional>(it: &mut Session<'_, C>) {
     let expected = it.plain.accepts(place);
     assert_eq!(it.cursor.insert_before(place), expected);
     if expected.is_ok() {
-        it.plain.put(it.plain.at, &[place]);
+        it.plain.insert(it.plain.at, &[place]);
     }
 }
 
@@ -108,14 +108,14 @@ fn replace_with<C: Kind + Bidirectional>(it: &mut Session<'_, C>) {
 fn splice_after<C: Kind + Splice>(it: &mut Session<'_, C>) {
     assert_eq!(it.cursor.splice_after(it.other), Ok(()));
     let given = std::mem::take(&mut it.plain.others);
-    it.plain.put(it.plain.gap_behind(), &given);
+    it.plain.insert(it.plain.gap_after(), &given);
 }
 
 fn split_after<C: Kind + Splice>(it: &mut Session<'_, C>) {
     if it.plain.others.is_empty() {
         *it.other = it.cursor.split_after().unwrap();
         let is_null = it.plain.is_null();
-        it.plain.others = it.plain.members.split_off(it.plain.gap_behind());
+        it.plain.others = it.plain.members.split_off(it.plain.gap_after());
         it.plain.at = if is_null { 0 } else { it.plain.at };
     }
 }
@@ -123,7 +123,7 @@ fn split_after<C: Kind + Splice>(it: &mut Session<'_, C>) {
 fn splice_before<C: Kind + BidirectionalSplice>(it: &mut Session<'_, C>) {
     assert_eq!(it.cursor.splice_before(it.other), Ok(()));
     let given = std::mem::take(&mut it.plain.others);
-    it.plain.put(it.plain.at, &given);
+    it.plain.insert(it.plain.at, &given);
 }
 
 fn split_before<C: Kind + BidirectionalSplice>(it: &mut Session<'_, C>) {
@@ -136,7 +136,7 @@ fn split_before<C: Kind + BidirectionalSplice>(it: &mut Session<'_, C>) {
 }
 
 fn remove_next(it: &mut Session<'_, Stack>) {
-    let gap = it.plain.gap_behind();
+    let gap = it.plain.gap_after();
     let member = it.plain.members.get(gap).copied();
     assert_eq!(it.cursor.remove_next(), Ok(member));
     if member.is_some() {
@@ -147,7 +147,7 @@ fn remove_next(it: &mut Session<'_, Stack>) {
 }
 
 fn replace_next_with(it: &mut Session<'_, Stack>) {
-    let (gap, place) = (it.plain.gap_behind(), it.random.place());
+    let (gap, place) = (it.plain.gap_after(), it.random.place());
     let member = it.plain.members.get(gap).copied();
     let expected = member.ok_or(Error::Null).and_then(|out| it.plain.accepts(place).map(|()| out));
     assert_eq!(it.cursor.replace_next_with(place), expected);

@@ -161,7 +161,7 @@ fn retain_ends<C: Kind>() {
     }
 }
 
-/// A list in which each member is behind itself, the first of which is 5.
+/// A list in which each member comes after itself, and whose first member is 5.
 fn a_ring_is_broken<C: Kind>(mut own: C) {
     let mut table = vec![C::link(|| ic_word(5) | 1); PLACES];
     assert_eq!(members(&own, &table), [5; PLACES]);

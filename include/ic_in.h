@@ -1,0 +1,779 @@
+/* This header has each call, read and loop of ic.h over a handle, which is a table, its length, and the list, the buckets or the tree as one value.
+ *
+ * A call of ic.h takes a table and its length, and then places, which are numbers, too. If you swap a length and a place, the compiler does not tell
+ * you. A call of this header has `in_` in its name, and takes a handle in place of the table, its length and the list, so that you name the length
+ * once. A handle has pointers to what is yours, and you copy it as you copy a pointer. The functions are inline, and take as many instructions as those
+ * of ic.h do.
+ *
+ *     static struct ic_link2 links[100];
+ *     static struct ic_list list;
+ *     static const struct ic_list_in jobs = {IC_TABLE(links), &list};
+ *     uint32_t status, oldest;
+ *     status = ic_list_in_push_back(jobs, 7);             // IC_OK
+ *     status = ic_list_in_push_back(jobs, 7);             // IC_LINKED, and nothing is changed
+ *     IC_LIST_IN_FOREACH(place, jobs)
+ *         printf("%u\n", (unsigned)place);
+ *     status = ic_list_in_pop_front(jobs, &oldest);
+ *
+ * The comments of ic.h say what each call does, at the name without `in_`. A call with a second list takes a second handle. It returns IC_BROKEN, and
+ * changes nothing, if that is one of another table, or of the same list.
+ */
+#ifndef IC_IN_H
+#define IC_IN_H
+
+#include "ic.h"
+
+#ifdef __cplusplus
+extern "C" {
+#endif
+
+/* Gives the table and the length of a handle, of an array of links. Compilers warn if you hand it a pointer. */
+#define IC_TABLE(links) (links), sizeof(links) / sizeof *(links)
+
+/* These are keys, of which there is one for each place, and how many there are. */
+struct ic_keys {
+    const uint64_t *keys;
+    ic_length count;
+};
+
+/* ---- Doubly linked lists ---- */
+
+/* This is a doubly linked list of a table. */
+struct ic_list_in {
+    struct ic_link2 *table;
+    ic_length places;
+    struct ic_list *list;
+};
+
+/* tools/c-calls --write writes from here: list */
+
+static inline int ic_list_in_is_linked(struct ic_list_in in, uint32_t place) {
+    return ic_list_is_linked(in.table, in.places, place);
+}
+
+static inline int ic_list_in_is_empty(struct ic_list_in in) {
+    return ic_list_is_empty(in.list);
+}
+
+static inline uint32_t ic_list_in_first(struct ic_list_in in) {
+    return ic_list_first(in.list);
+}
+
+static inline uint32_t ic_list_in_last(struct ic_list_in in) {
+    return ic_list_last(in.list);
+}
+
+static inline uint32_t ic_list_in_next(struct ic_list_in in, uint32_t at) {
+    return ic_list_next(in.table, in.places, at);
+}
+
+static inline uint32_t ic_list_in_prev(struct ic_list_in in, uint32_t at) {
+    return ic_list_prev(in.table, in.places, at);
+}
+
+static inline uint32_t ic_list_in_front(struct ic_list_in in) {
+    return ic_list_front(in.table, in.places, in.list);
+}
+
+static inline uint32_t ic_list_in_back(struct ic_list_in in) {
+    return ic_list_back(in.table, in.places, in.list);
+}
+
+static inline int ic_list_in_is_first(struct ic_list_in in, uint32_t at) {
+    return ic_list_is_first(in.table, in.places, in.list, at);
+}
+
+static inline int ic_list_in_is_last(struct ic_list_in in, uint32_t at) {
+    return ic_list_is_last(in.table, in.places, in.list, at);
+}
+
+static inline int ic_list_in_is_singular(struct ic_list_in in) {
+    return ic_list_is_singular(in.table, in.places, in.list);
+}
+
+IC_NODISCARD
+static inline uint32_t ic_list_in_push_front(struct ic_list_in in, uint32_t place) {
+    return ic_list_push_front(in.table, in.places, in.list, place);
+}
+
+IC_NODISCARD
+static inline uint32_t ic_list_in_push_back(struct ic_list_in in, uint32_t place) {
+    return ic_list_push_back(in.table, in.places, in.list, place);
+}
+
+IC_NODISCARD
+static inline uint32_t ic_list_in_pop_front(struct ic_list_in in, uint32_t *popped) {
+    return ic_list_pop_front(in.table, in.places, in.list, popped);
+}
+
+IC_NODISCARD
+static inline uint32_t ic_list_in_pop_back(struct ic_list_in in, uint32_t *popped) {
+    return ic_list_pop_back(in.table, in.places, in.list, popped);
+}
+
+IC_NODISCARD
+static inline uint32_t ic_list_in_insert_after(struct ic_list_in in, uint32_t at, uint32_t place) {
+    return ic_list_insert_after(in.table, in.places, in.list, at, place);
+}
+
+IC_NODISCARD
+static inline uint32_t ic_list_in_insert_before(struct ic_list_in in, uint32_t at, uint32_t place) {
+    return ic_list_insert_before(in.table, in.places, in.list, at, place);
+}
+
+IC_NODISCARD
+static inline uint32_t ic_list_in_remove(struct ic_list_in in, uint32_t at) {
+    return ic_list_remove(in.table, in.places, in.list, at);
+}
+
+IC_NODISCARD
+static inline uint32_t ic_list_in_replace(struct ic_list_in in, uint32_t at, uint32_t place) {
+    return ic_list_replace(in.table, in.places, in.list, at, place);
+}
+
+IC_NODISCARD
+static inline uint32_t ic_list_in_move_after(struct ic_list_in in, uint32_t at, uint32_t place) {
+    return ic_list_move_after(in.table, in.places, in.list, at, place);
+}
+
+IC_NODISCARD
+static inline uint32_t ic_list_in_move_before(struct ic_list_in in, uint32_t at, uint32_t place) {
+    return ic_list_move_before(in.table, in.places, in.list, at, place);
+}
+
+IC_NODISCARD
+static inline uint32_t ic_list_in_move_to_front(struct ic_list_in in, uint32_t place) {
+    return ic_list_move_to_front(in.table, in.places, in.list, place);
+}
+
+IC_NODISCARD
+static inline uint32_t ic_list_in_move_to_back(struct ic_list_in in, uint32_t place) {
+    return ic_list_move_to_back(in.table, in.places, in.list, place);
+}
+
+IC_NODISCARD
+static inline uint32_t ic_list_in_splice_after(struct ic_list_in in, uint32_t at, struct ic_list_in given) {
+    if (given.table != in.table || given.list == in.list)
+        return IC_BROKEN;
+    return ic_list_splice_after(in.table, in.places, in.list, at, given.list);
+}
+
+IC_NODISCARD
+static inline uint32_t ic_list_in_splice_before(struct ic_list_in in, uint32_t at, struct ic_list_in given) {
+    if (given.table != in.table || given.list == in.list)
+        return IC_BROKEN;
+    return ic_list_splice_before(in.table, in.places, in.list, at, given.list);
+}
+
+IC_NODISCARD
+static inline uint32_t ic_list_in_append(struct ic_list_in in, struct ic_list_in given) {
+    if (given.table != in.table || given.list == in.list)
+        return IC_BROKEN;
+    return ic_list_append(in.table, in.places, in.list, given.list);
+}
+
+IC_NODISCARD
+static inline uint32_t ic_list_in_fill(struct ic_list_in in, uint32_t first, uint32_t count) {
+    return ic_list_fill(in.table, in.places, in.list, first, count);
+}
+
+IC_NODISCARD
+static inline uint32_t ic_list_in_clear(struct ic_list_in in) {
+    return ic_list_clear(in.table, in.places, in.list);
+}
+
+IC_NODISCARD
+static inline uint32_t ic_list_in_split_after(struct ic_list_in in, uint32_t at, struct ic_list_in rest) {
+    if (rest.table != in.table || rest.list == in.list)
+        return IC_BROKEN;
+    return ic_list_split_after(in.table, in.places, in.list, at, rest.list);
+}
+
+IC_NODISCARD
+static inline uint32_t ic_list_in_split_before(struct ic_list_in in, uint32_t at, struct ic_list_in rest) {
+    if (rest.table != in.table || rest.list == in.list)
+        return IC_BROKEN;
+    return ic_list_split_before(in.table, in.places, in.list, at, rest.list);
+}
+
+IC_NODISCARD
+static inline uint32_t ic_list_in_check(struct ic_list_in in, uint64_t *members) {
+    return ic_list_check(in.table, in.places, in.list, members);
+}
+
+IC_NODISCARD
+static inline uint32_t ic_list_in_sort(struct ic_list_in in, struct ic_keys keys) {
+    return ic_list_sort(in.table, in.places, keys.keys, keys.count, in.list);
+}
+
+IC_NODISCARD
+static inline uint32_t ic_list_in_merge(struct ic_list_in in, struct ic_keys keys, struct ic_list_in given) {
+    if (given.table != in.table || given.list == in.list)
+        return IC_BROKEN;
+    return ic_list_merge(in.table, in.places, keys.keys, keys.count, in.list, given.list);
+}
+
+#define IC_LIST_IN_FOREACH(place, in) IC_LIST_FOREACH(place, (in).table, (in).places, (in).list)
+#define IC_LIST_IN_FOREACH_REVERSE(place, in) IC_LIST_FOREACH_REVERSE(place, (in).table, (in).places, (in).list)
+#define IC_LIST_IN_FOREACH_SAFE(place, next, in) IC_LIST_FOREACH_SAFE(place, next, (in).table, (in).places, (in).list)
+#define IC_LIST_IN_FOREACH_REVERSE_SAFE(place, prev, in) IC_LIST_FOREACH_REVERSE_SAFE(place, prev, (in).table, (in).places, (in).list)
+#define IC_LIST_IN_FOREACH_ENTRY(object, objects, in) IC_LIST_FOREACH_ENTRY(object, objects, (in).table, (in).places, (in).list)
+#define IC_LIST_IN_FOREACH_ENTRY_REVERSE(object, objects, in) \
+    IC_LIST_FOREACH_ENTRY_REVERSE(object, objects, (in).table, (in).places, (in).list)
+#define IC_LIST_IN_FOREACH_ENTRY_SAFE(object, objects, in) IC_LIST_FOREACH_ENTRY_SAFE(object, objects, (in).table, (in).places, (in).list)
+#define IC_LIST_IN_FOREACH_ENTRY_REVERSE_SAFE(object, objects, in) \
+    IC_LIST_FOREACH_ENTRY_REVERSE_SAFE(object, objects, (in).table, (in).places, (in).list)
+#define IC_LIST_IN_FOREACH_FROM(place, at, in) IC_LIST_FOREACH_FROM(place, at, (in).table, (in).places)
+#define IC_LIST_IN_FOREACH_REVERSE_FROM(place, at, in) IC_LIST_FOREACH_REVERSE_FROM(place, at, (in).table, (in).places)
+
+/* to here */
+
+/* ---- Rings ---- */
+
+/* This is a table of rings, whose heads are places of it. */
+struct ic_ring_in {
+    struct ic_link2 *table;
+    ic_length places;
+};
+
+/* tools/c-calls --write writes from here: ring */
+
+static inline int ic_ring_in_is_linked(struct ic_ring_in in, uint32_t place) {
+    return ic_ring_is_linked(in.table, in.places, place);
+}
+
+static inline uint32_t ic_ring_in_next(struct ic_ring_in in, uint32_t at) {
+    return ic_ring_next(in.table, in.places, at);
+}
+
+static inline uint32_t ic_ring_in_prev(struct ic_ring_in in, uint32_t at) {
+    return ic_ring_prev(in.table, in.places, at);
+}
+
+static inline int ic_ring_in_is_empty(struct ic_ring_in in, uint32_t head) {
+    return ic_ring_is_empty(in.table, in.places, head);
+}
+
+static inline uint32_t ic_ring_in_front(struct ic_ring_in in, uint32_t head) {
+    return ic_ring_front(in.table, in.places, head);
+}
+
+static inline uint32_t ic_ring_in_back(struct ic_ring_in in, uint32_t head) {
+    return ic_ring_back(in.table, in.places, head);
+}
+
+static inline int ic_ring_in_is_first(struct ic_ring_in in, uint32_t head, uint32_t at) {
+    return ic_ring_is_first(in.table, in.places, head, at);
+}
+
+static inline int ic_ring_in_is_last(struct ic_ring_in in, uint32_t head, uint32_t at) {
+    return ic_ring_is_last(in.table, in.places, head, at);
+}
+
+static inline int ic_ring_in_is_singular(struct ic_ring_in in, uint32_t head) {
+    return ic_ring_is_singular(in.table, in.places, head);
+}
+
+IC_NODISCARD
+static inline uint32_t ic_ring_in_init(struct ic_ring_in in, uint32_t head) {
+    return ic_ring_init(in.table, in.places, head);
+}
+
+IC_NODISCARD
+static inline uint32_t ic_ring_in_insert_after(struct ic_ring_in in, uint32_t at, uint32_t place) {
+    return ic_ring_insert_after(in.table, in.places, at, place);
+}
+
+IC_NODISCARD
+static inline uint32_t ic_ring_in_insert_before(struct ic_ring_in in, uint32_t at, uint32_t place) {
+    return ic_ring_insert_before(in.table, in.places, at, place);
+}
+
+IC_NODISCARD
+static inline uint32_t ic_ring_in_remove(struct ic_ring_in in, uint32_t place) {
+    return ic_ring_remove(in.table, in.places, place);
+}
+
+IC_NODISCARD
+static inline uint32_t ic_ring_in_exchange(struct ic_ring_in in, uint32_t one, uint32_t other) {
+    return ic_ring_exchange(in.table, in.places, one, other);
+}
+
+IC_NODISCARD
+static inline uint32_t ic_ring_in_pop_front(struct ic_ring_in in, uint32_t head, uint32_t *popped) {
+    return ic_ring_pop_front(in.table, in.places, head, popped);
+}
+
+IC_NODISCARD
+static inline uint32_t ic_ring_in_pop_back(struct ic_ring_in in, uint32_t head, uint32_t *popped) {
+    return ic_ring_pop_back(in.table, in.places, head, popped);
+}
+
+IC_NODISCARD
+static inline uint32_t ic_ring_in_replace(struct ic_ring_in in, uint32_t at, uint32_t place) {
+    return ic_ring_replace(in.table, in.places, at, place);
+}
+
+IC_NODISCARD
+static inline uint32_t ic_ring_in_move_after(struct ic_ring_in in, uint32_t at, uint32_t place) {
+    return ic_ring_move_after(in.table, in.places, at, place);
+}
+
+IC_NODISCARD
+static inline uint32_t ic_ring_in_move_before(struct ic_ring_in in, uint32_t at, uint32_t place) {
+    return ic_ring_move_before(in.table, in.places, at, place);
+}
+
+IC_NODISCARD
+static inline uint32_t ic_ring_in_splice_after(struct ic_ring_in in, uint32_t at, uint32_t head) {
+    return ic_ring_splice_after(in.table, in.places, at, head);
+}
+
+IC_NODISCARD
+static inline uint32_t ic_ring_in_splice_before(struct ic_ring_in in, uint32_t at, uint32_t head) {
+    return ic_ring_splice_before(in.table, in.places, at, head);
+}
+
+IC_NODISCARD
+static inline uint32_t ic_ring_in_push_front(struct ic_ring_in in, uint32_t head, uint32_t place) {
+    return ic_ring_push_front(in.table, in.places, head, place);
+}
+
+IC_NODISCARD
+static inline uint32_t ic_ring_in_push_back(struct ic_ring_in in, uint32_t head, uint32_t place) {
+    return ic_ring_push_back(in.table, in.places, head, place);
+}
+
+#define IC_RING_IN_FOREACH(place, in, head) IC_RING_FOREACH(place, (in).table, (in).places, head)
+#define IC_RING_IN_FOREACH_REVERSE(place, in, head) IC_RING_FOREACH_REVERSE(place, (in).table, (in).places, head)
+#define IC_RING_IN_FOREACH_SAFE(place, next, in, head) IC_RING_FOREACH_SAFE(place, next, (in).table, (in).places, head)
+#define IC_RING_IN_FOREACH_REVERSE_SAFE(place, prev, in, head) IC_RING_FOREACH_REVERSE_SAFE(place, prev, (in).table, (in).places, head)
+#define IC_RING_IN_FOREACH_ENTRY(object, objects, in, head) IC_RING_FOREACH_ENTRY(object, objects, (in).table, (in).places, head)
+#define IC_RING_IN_FOREACH_ENTRY_REVERSE(object, objects, in, head) \
+    IC_RING_FOREACH_ENTRY_REVERSE(object, objects, (in).table, (in).places, head)
+#define IC_RING_IN_FOREACH_ENTRY_SAFE(object, objects, in, head) IC_RING_FOREACH_ENTRY_SAFE(object, objects, (in).table, (in).places, head)
+#define IC_RING_IN_FOREACH_ENTRY_REVERSE_SAFE(object, objects, in, head) \
+    IC_RING_FOREACH_ENTRY_REVERSE_SAFE(object, objects, (in).table, (in).places, head)
+#define IC_RING_IN_FOREACH_FROM(place, at, in, head) IC_RING_FOREACH_FROM(place, at, (in).table, (in).places, head)
+#define IC_RING_IN_FOREACH_REVERSE_FROM(place, at, in, head) IC_RING_FOREACH_REVERSE_FROM(place, at, (in).table, (in).places, head)
+
+/* to here */
+
+/* ---- Singly linked lists ---- */
+
+/* This is a singly linked list of a table. */
+struct ic_stack_in {
+    struct ic_link1 *table;
+    ic_length places;
+    struct ic_stack *list;
+};
+
+/* tools/c-calls --write writes from here: stack */
+
+static inline int ic_stack_in_is_linked(struct ic_stack_in in, uint32_t place) {
+    return ic_stack_is_linked(in.table, in.places, place);
+}
+
+static inline int ic_stack_in_is_empty(struct ic_stack_in in) {
+    return ic_stack_is_empty(in.list);
+}
+
+static inline uint32_t ic_stack_in_first(struct ic_stack_in in) {
+    return ic_stack_first(in.list);
+}
+
+static inline uint32_t ic_stack_in_next(struct ic_stack_in in, uint32_t at) {
+    return ic_stack_next(in.table, in.places, at);
+}
+
+static inline uint32_t ic_stack_in_front(struct ic_stack_in in) {
+    return ic_stack_front(in.table, in.places, in.list);
+}
+
+static inline int ic_stack_in_is_first(struct ic_stack_in in, uint32_t at) {
+    return ic_stack_is_first(in.table, in.places, in.list, at);
+}
+
+static inline int ic_stack_in_is_last(struct ic_stack_in in, uint32_t at) {
+    return ic_stack_is_last(in.table, in.places, at);
+}
+
+static inline int ic_stack_in_is_singular(struct ic_stack_in in) {
+    return ic_stack_is_singular(in.table, in.places, in.list);
+}
+
+IC_NODISCARD
+static inline uint32_t ic_stack_in_push_front(struct ic_stack_in in, uint32_t place) {
+    return ic_stack_push_front(in.table, in.places, in.list, place);
+}
+
+IC_NODISCARD
+static inline uint32_t ic_stack_in_pop_front(struct ic_stack_in in, uint32_t *popped) {
+    return ic_stack_pop_front(in.table, in.places, in.list, popped);
+}
+
+IC_NODISCARD
+static inline uint32_t ic_stack_in_insert_after(struct ic_stack_in in, uint32_t at, uint32_t place) {
+    return ic_stack_insert_after(in.table, in.places, in.list, at, place);
+}
+
+IC_NODISCARD
+static inline uint32_t ic_stack_in_remove_after(struct ic_stack_in in, uint32_t at, uint32_t *removed) {
+    return ic_stack_remove_after(in.table, in.places, in.list, at, removed);
+}
+
+IC_NODISCARD
+static inline uint32_t ic_stack_in_replace_after(struct ic_stack_in in, uint32_t at, uint32_t place, uint32_t *replaced) {
+    return ic_stack_replace_after(in.table, in.places, in.list, at, place, replaced);
+}
+
+IC_NODISCARD
+static inline uint32_t ic_stack_in_splice_after(struct ic_stack_in in, uint32_t at, struct ic_stack_in given) {
+    if (given.table != in.table || given.list == in.list)
+        return IC_BROKEN;
+    return ic_stack_splice_after(in.table, in.places, in.list, at, given.list);
+}
+
+IC_NODISCARD
+static inline uint32_t ic_stack_in_split_after(struct ic_stack_in in, uint32_t at, struct ic_stack_in rest) {
+    if (rest.table != in.table || rest.list == in.list)
+        return IC_BROKEN;
+    return ic_stack_split_after(in.table, in.places, in.list, at, rest.list);
+}
+
+IC_NODISCARD
+static inline uint32_t ic_stack_in_fill(struct ic_stack_in in, uint32_t first, uint32_t count) {
+    return ic_stack_fill(in.table, in.places, in.list, first, count);
+}
+
+IC_NODISCARD
+static inline uint32_t ic_stack_in_clear(struct ic_stack_in in) {
+    return ic_stack_clear(in.table, in.places, in.list);
+}
+
+IC_NODISCARD
+static inline uint32_t ic_stack_in_check(struct ic_stack_in in, uint64_t *members) {
+    return ic_stack_check(in.table, in.places, in.list, members);
+}
+
+#define IC_STACK_IN_FOREACH(place, in) IC_STACK_FOREACH(place, (in).table, (in).places, (in).list)
+#define IC_STACK_IN_FOREACH_SAFE(before, place, in) IC_STACK_FOREACH_SAFE(before, place, (in).table, (in).places, (in).list)
+#define IC_STACK_IN_FOREACH_FROM(place, at, in) IC_STACK_FOREACH_FROM(place, at, (in).table, (in).places)
+#define IC_STACK_IN_FOREACH_ENTRY(object, objects, in) IC_STACK_FOREACH_ENTRY(object, objects, (in).table, (in).places, (in).list)
+#define IC_STACK_IN_FOREACH_ENTRY_SAFE(before, object, objects, in) \
+    IC_STACK_FOREACH_ENTRY_SAFE(before, object, objects, (in).table, (in).places, (in).list)
+
+/* to here */
+
+/* ---- Hash tables ---- */
+
+/* This is a hash table over a table of links, with the keys of all places. If you look no key up, leave them out. */
+struct ic_hash_in {
+    struct ic_link1 *table;
+    ic_length places;
+    struct ic_stack *buckets;
+    ic_length bucket_count;
+    struct ic_keys keys;
+};
+
+/* tools/c-calls --write writes from here: hash */
+
+static inline uint32_t ic_hash_in_first(struct ic_hash_in in, uint64_t hash) {
+    return ic_hash_first(in.buckets, in.bucket_count, hash);
+}
+
+IC_NODISCARD
+static inline uint32_t ic_hash_in_insert(struct ic_hash_in in, uint64_t hash, uint32_t place) {
+    return ic_hash_insert(in.table, in.places, in.buckets, in.bucket_count, hash, place);
+}
+
+IC_NODISCARD
+static inline uint32_t ic_hash_in_remove(struct ic_hash_in in, uint64_t hash, uint32_t place) {
+    return ic_hash_remove(in.table, in.places, in.buckets, in.bucket_count, hash, place);
+}
+
+IC_NODISCARD
+static inline uint32_t ic_hash_in_find(struct ic_hash_in in, uint64_t hash, uint64_t key, uint32_t *found) {
+    return ic_hash_find(in.table, in.places, in.keys.keys, in.keys.count, in.buckets, in.bucket_count, hash, key, found);
+}
+
+IC_NODISCARD
+static inline uint32_t ic_hash_in_next_equal(struct ic_hash_in in, uint32_t at, uint32_t *found) {
+    return ic_hash_next_equal(in.table, in.places, in.keys.keys, in.keys.count, at, found);
+}
+
+#define IC_HASH_IN_FOREACH(place, in, hash) IC_HASH_FOREACH(place, (in).table, (in).places, (in).buckets, (in).bucket_count, hash)
+#define IC_HASH_IN_FOREACH_ENTRY(object, objects, in, hash) \
+    IC_HASH_FOREACH_ENTRY(object, objects, (in).table, (in).places, (in).buckets, (in).bucket_count, hash)
+
+/* to here */
+
+/* ---- XOR lists ---- */
+
+/* This is an XOR list of a table. */
+struct ic_xor_in {
+    struct ic_link1 *table;
+    ic_length places;
+    struct ic_xor_list *list;
+};
+
+/* tools/c-calls --write writes from here: xor */
+
+static inline int ic_xor_in_is_linked(struct ic_xor_in in, uint32_t place) {
+    return ic_xor_is_linked(in.table, in.places, place);
+}
+
+static inline int ic_xor_in_is_empty(struct ic_xor_in in) {
+    return ic_xor_is_empty(in.list);
+}
+
+static inline uint32_t ic_xor_in_first(struct ic_xor_in in) {
+    return ic_xor_first(in.list);
+}
+
+static inline uint32_t ic_xor_in_last(struct ic_xor_in in) {
+    return ic_xor_last(in.list);
+}
+
+static inline uint32_t ic_xor_in_step(struct ic_xor_in in, uint32_t from, uint32_t at) {
+    return ic_xor_step(in.table, in.places, from, at);
+}
+
+static inline uint32_t ic_xor_in_front(struct ic_xor_in in) {
+    return ic_xor_front(in.table, in.places, in.list);
+}
+
+static inline uint32_t ic_xor_in_back(struct ic_xor_in in) {
+    return ic_xor_back(in.table, in.places, in.list);
+}
+
+static inline int ic_xor_in_is_first(struct ic_xor_in in, uint32_t at) {
+    return ic_xor_is_first(in.table, in.places, in.list, at);
+}
+
+static inline int ic_xor_in_is_last(struct ic_xor_in in, uint32_t at) {
+    return ic_xor_is_last(in.table, in.places, in.list, at);
+}
+
+static inline int ic_xor_in_is_singular(struct ic_xor_in in) {
+    return ic_xor_is_singular(in.table, in.places, in.list);
+}
+
+IC_NODISCARD
+static inline uint32_t ic_xor_in_push_front(struct ic_xor_in in, uint32_t place) {
+    return ic_xor_push_front(in.table, in.places, in.list, place);
+}
+
+IC_NODISCARD
+static inline uint32_t ic_xor_in_push_back(struct ic_xor_in in, uint32_t place) {
+    return ic_xor_push_back(in.table, in.places, in.list, place);
+}
+
+IC_NODISCARD
+static inline uint32_t ic_xor_in_pop_front(struct ic_xor_in in, uint32_t *popped) {
+    return ic_xor_pop_front(in.table, in.places, in.list, popped);
+}
+
+IC_NODISCARD
+static inline uint32_t ic_xor_in_pop_back(struct ic_xor_in in, uint32_t *popped) {
+    return ic_xor_pop_back(in.table, in.places, in.list, popped);
+}
+
+IC_NODISCARD
+static inline uint32_t ic_xor_in_insert_between(struct ic_xor_in in, uint32_t before, uint32_t place, uint32_t after) {
+    return ic_xor_insert_between(in.table, in.places, in.list, before, place, after);
+}
+
+IC_NODISCARD
+static inline uint32_t ic_xor_in_remove(struct ic_xor_in in, uint32_t before, uint32_t at) {
+    return ic_xor_remove(in.table, in.places, in.list, before, at);
+}
+
+IC_NODISCARD
+static inline uint32_t ic_xor_in_replace(struct ic_xor_in in, uint32_t before, uint32_t at, uint32_t place) {
+    return ic_xor_replace(in.table, in.places, in.list, before, at, place);
+}
+
+IC_NODISCARD
+static inline uint32_t ic_xor_in_splice_between(struct ic_xor_in in, uint32_t before, struct ic_xor_in given, uint32_t after) {
+    if (given.table != in.table || given.list == in.list)
+        return IC_BROKEN;
+    return ic_xor_splice_between(in.table, in.places, in.list, before, given.list, after);
+}
+
+IC_NODISCARD
+static inline uint32_t ic_xor_in_append(struct ic_xor_in in, struct ic_xor_in given) {
+    if (given.table != in.table || given.list == in.list)
+        return IC_BROKEN;
+    return ic_xor_append(in.table, in.places, in.list, given.list);
+}
+
+IC_NODISCARD
+static inline uint32_t ic_xor_in_fill(struct ic_xor_in in, uint32_t first, uint32_t count) {
+    return ic_xor_fill(in.table, in.places, in.list, first, count);
+}
+
+IC_NODISCARD
+static inline uint32_t ic_xor_in_clear(struct ic_xor_in in) {
+    return ic_xor_clear(in.table, in.places, in.list);
+}
+
+IC_NODISCARD
+static inline uint32_t ic_xor_in_split_between(struct ic_xor_in in, uint32_t before, uint32_t after, struct ic_xor_in rest) {
+    if (rest.table != in.table || rest.list == in.list)
+        return IC_BROKEN;
+    return ic_xor_split_between(in.table, in.places, in.list, before, after, rest.list);
+}
+
+static inline uint32_t ic_xor_in_reverse(struct ic_xor_in in) {
+    return ic_xor_reverse(in.list);
+}
+
+#define IC_XOR_IN_FOREACH(place, in) IC_XOR_FOREACH(place, (in).table, (in).places, (in).list)
+#define IC_XOR_IN_FOREACH_REVERSE(place, in) IC_XOR_FOREACH_REVERSE(place, (in).table, (in).places, (in).list)
+#define IC_XOR_IN_FOREACH_SAFE(before, place, after, in) IC_XOR_FOREACH_SAFE(before, place, after, (in).table, (in).places, (in).list)
+#define IC_XOR_IN_FOREACH_REVERSE_SAFE(before, place, after, in) \
+    IC_XOR_FOREACH_REVERSE_SAFE(before, place, after, (in).table, (in).places, (in).list)
+#define IC_XOR_IN_FOREACH_ENTRY(object, objects, in) IC_XOR_FOREACH_ENTRY(object, objects, (in).table, (in).places, (in).list)
+#define IC_XOR_IN_FOREACH_ENTRY_REVERSE(object, objects, in) IC_XOR_FOREACH_ENTRY_REVERSE(object, objects, (in).table, (in).places, (in).list)
+#define IC_XOR_IN_FOREACH_ENTRY_SAFE(before, object, objects, after, in) \
+    IC_XOR_FOREACH_ENTRY_SAFE(before, object, objects, after, (in).table, (in).places, (in).list)
+#define IC_XOR_IN_FOREACH_ENTRY_REVERSE_SAFE(before, object, objects, after, in) \
+    IC_XOR_FOREACH_ENTRY_REVERSE_SAFE(before, object, objects, after, (in).table, (in).places, (in).list)
+
+/* to here */
+
+/* ---- Red-black trees ---- */
+
+/* This is a tree of a table, with the keys of all places. If you order the tree by a comparison of yours, leave them out. */
+struct ic_tree_in {
+    struct ic_link3 *table;
+    ic_length places;
+    struct ic_tree *tree;
+    struct ic_keys keys;
+};
+
+/* tools/c-calls --write writes from here: tree */
+
+static inline int ic_tree_in_is_linked(struct ic_tree_in in, uint32_t place) {
+    return ic_tree_is_linked(in.table, in.places, place);
+}
+
+static inline int ic_tree_in_is_empty(struct ic_tree_in in) {
+    return ic_tree_is_empty(in.tree);
+}
+
+static inline uint32_t ic_tree_in_root(struct ic_tree_in in) {
+    return ic_tree_root(in.tree);
+}
+
+static inline uint32_t ic_tree_in_left(struct ic_tree_in in, uint32_t at) {
+    return ic_tree_left(in.table, in.places, at);
+}
+
+static inline uint32_t ic_tree_in_right(struct ic_tree_in in, uint32_t at) {
+    return ic_tree_right(in.table, in.places, at);
+}
+
+static inline uint32_t ic_tree_in_parent(struct ic_tree_in in, uint32_t at) {
+    return ic_tree_parent(in.table, in.places, at);
+}
+
+IC_NODISCARD
+static inline uint32_t ic_tree_in_insert_left(struct ic_tree_in in, uint32_t at, uint32_t place) {
+    return ic_tree_insert_left(in.table, in.places, in.tree, at, place);
+}
+
+IC_NODISCARD
+static inline uint32_t ic_tree_in_insert_right(struct ic_tree_in in, uint32_t at, uint32_t place) {
+    return ic_tree_insert_right(in.table, in.places, in.tree, at, place);
+}
+
+IC_NODISCARD
+static inline uint32_t ic_tree_in_remove(struct ic_tree_in in, uint32_t at) {
+    return ic_tree_remove(in.table, in.places, in.tree, at);
+}
+
+IC_NODISCARD
+static inline uint32_t ic_tree_in_replace(struct ic_tree_in in, uint32_t at, uint32_t place) {
+    return ic_tree_replace(in.table, in.places, in.tree, at, place);
+}
+
+IC_NODISCARD
+static inline uint32_t ic_tree_in_clear(struct ic_tree_in in) {
+    return ic_tree_clear(in.table, in.places, in.tree);
+}
+
+IC_NODISCARD
+static inline uint32_t ic_tree_in_check(struct ic_tree_in in, uint64_t *members) {
+    return ic_tree_check(in.table, in.places, in.tree, members);
+}
+
+IC_NODISCARD
+static inline uint32_t ic_tree_in_insert(struct ic_tree_in in, uint32_t place) {
+    return ic_tree_insert(in.table, in.places, in.keys.keys, in.keys.count, in.tree, place);
+}
+
+IC_NODISCARD
+static inline uint32_t ic_tree_in_find(struct ic_tree_in in, uint64_t key, uint32_t *found) {
+    return ic_tree_find(in.table, in.places, in.keys.keys, in.keys.count, in.tree, key, found);
+}
+
+IC_NODISCARD
+static inline uint32_t ic_tree_in_lower_bound(struct ic_tree_in in, uint64_t key, uint32_t *found) {
+    return ic_tree_lower_bound(in.table, in.places, in.keys.keys, in.keys.count, in.tree, key, found);
+}
+
+IC_NODISCARD
+static inline uint32_t ic_tree_in_upper_bound(struct ic_tree_in in, uint64_t key, uint32_t *found) {
+    return ic_tree_upper_bound(in.table, in.places, in.keys.keys, in.keys.count, in.tree, key, found);
+}
+
+IC_NODISCARD
+static inline uint32_t ic_tree_in_next(struct ic_tree_in in, uint32_t at, uint32_t *found) {
+    return ic_tree_next(in.table, in.places, in.tree, at, found);
+}
+
+IC_NODISCARD
+static inline uint32_t ic_tree_in_prev(struct ic_tree_in in, uint32_t at, uint32_t *found) {
+    return ic_tree_prev(in.table, in.places, in.tree, at, found);
+}
+
+IC_NODISCARD
+static inline uint32_t ic_tree_in_first(struct ic_tree_in in, uint32_t *found) {
+    return ic_tree_first(in.table, in.places, in.tree, found);
+}
+
+IC_NODISCARD
+static inline uint32_t ic_tree_in_last(struct ic_tree_in in, uint32_t *found) {
+    return ic_tree_last(in.table, in.places, in.tree, found);
+}
+
+static inline uint32_t ic_tree_in_after(struct ic_tree_in in, uint32_t at) {
+    return ic_tree_after(in.table, in.places, in.tree, at);
+}
+
+static inline uint32_t ic_tree_in_before(struct ic_tree_in in, uint32_t at) {
+    return ic_tree_before(in.table, in.places, in.tree, at);
+}
+
+#define IC_TREE_IN_FOREACH(place, in) IC_TREE_FOREACH(place, (in).table, (in).places, (in).tree)
+#define IC_TREE_IN_FOREACH_REVERSE(place, in) IC_TREE_FOREACH_REVERSE(place, (in).table, (in).places, (in).tree)
+#define IC_TREE_IN_FOREACH_SAFE(place, next, in) IC_TREE_FOREACH_SAFE(place, next, (in).table, (in).places, (in).tree)
+#define IC_TREE_IN_FOREACH_REVERSE_SAFE(place, prev, in) IC_TREE_FOREACH_REVERSE_SAFE(place, prev, (in).table, (in).places, (in).tree)
+#define IC_TREE_IN_FOREACH_ENTRY(object, objects, in) IC_TREE_FOREACH_ENTRY(object, objects, (in).table, (in).places, (in).tree)
+#define IC_TREE_IN_FOREACH_ENTRY_REVERSE(object, objects, in) \
+    IC_TREE_FOREACH_ENTRY_REVERSE(object, objects, (in).table, (in).places, (in).tree)
+#define IC_TREE_IN_FOREACH_ENTRY_SAFE(object, objects, in) IC_TREE_FOREACH_ENTRY_SAFE(object, objects, (in).table, (in).places, (in).tree)
+#define IC_TREE_IN_FOREACH_ENTRY_REVERSE_SAFE(object, objects, in) \
+    IC_TREE_FOREACH_ENTRY_REVERSE_SAFE(object, objects, (in).table, (in).places, (in).tree)
+#define IC_TREE_IN_FOREACH_FROM(place, at, in) IC_TREE_FOREACH_FROM(place, at, (in).table, (in).places, (in).tree)
+#define IC_TREE_IN_FOREACH_REVERSE_FROM(place, at, in) IC_TREE_FOREACH_REVERSE_FROM(place, at, (in).table, (in).places, (in).tree)
+
+/* to here */
+
+#ifdef __cplusplus
+}
+#endif
+
+#endif
