@@ -2098,7 +2098,7 @@ LBB31_2:
 _ic_raw.tree.nothing_found:
 	.cfi_startproc
 	mov	w8, #4
-	tst	w0, #0x1
+	tst	w0, #0xff
 	cinc	w0, w8, ne
 	ret
 	.cfi_endproc
@@ -6131,18 +6131,18 @@ _ic_tree_find:
 	cmp	x2, #0
 	csel	x10, x9, xzr, eq
 	cmp	x3, x1
-	b.lo	LBB90_16
+	b.lo	LBB90_17
 	ldr	x9, [x4]
 	and	x9, x9, #0xffffffff8
-	cbz	x9, LBB90_15
+	cbz	x9, LBB90_16
 	lsr	x11, x9, #3
 	cmp	x11, x1
-	b.hi	LBB90_16
+	b.hi	LBB90_17
 	mov	w12, #24
 	add	x8, x0, x8
 	madd	x11, x11, x12, x8
 	ldurb	w11, [x11, #-24]
-	tbz	w11, #0, LBB90_16
+	tbz	w11, #0, LBB90_17
 	lsl	x12, x1, #3
 	mov	x11, xzr
 	add	x10, x2, x10
@@ -6153,10 +6153,10 @@ LBB90_5:
 	and	x14, x9, #0xffffffff8
 	sub	x9, x14, #1
 	cmp	x9, x12
-	b.hs	LBB90_10
+	b.hs	LBB90_11
 	subs	w13, w13, #1
 	mov	x9, x14
-	b.eq	LBB90_15
+	b.eq	LBB90_10
 LBB90_7:
 	lsr	x14, x9, #3
 	mov	w15, #24
@@ -6169,35 +6169,37 @@ LBB90_7:
 	and	x14, x11, #0xffffffff8
 	sub	x11, x14, #1
 	cmp	x11, x12
-	b.hs	LBB90_12
+	b.hs	LBB90_13
 	mov	x11, x9
 	subs	w13, w13, #1
 	mov	x9, x14
 	b.ne	LBB90_7
-	b	LBB90_15
 LBB90_10:
-	cbz	x11, LBB90_15
+	mov	w0, #5
+	ret
+LBB90_11:
+	cbz	x11, LBB90_16
 	add	x9, x10, x11
 	ldur	x15, [x9, #-8]
 	mov	x9, x11
-LBB90_12:
+LBB90_13:
 	cmp	x5, x15
-	b.ne	LBB90_15
+	b.ne	LBB90_16
 	lsr	x10, x9, #3
 	mov	w11, #24
 	madd	x8, x10, x11, x8
 	ldurb	w8, [x8, #-24]
-	tbnz	w8, #0, LBB90_17
+	tbnz	w8, #0, LBB90_18
 	mov	w0, #5
 	ret
-LBB90_15:
+LBB90_16:
 	mov	w0, #4
 	ret
-LBB90_16:
+LBB90_17:
 	mov	x0, x1
 	mov	x1, x3
 	b	_ic_raw.search.refusal
-LBB90_17:
+LBB90_18:
 	mov	w8, #-1
 	mov	w0, wzr
 	add	x8, x8, x9, lsr #3
@@ -6502,18 +6504,18 @@ _ic_tree_lower_bound:
 	cmp	x2, #0
 	csel	x11, x9, xzr, eq
 	cmp	x3, x1
-	b.lo	LBB94_15
+	b.lo	LBB94_16
 	ldr	x9, [x4]
 	and	x9, x9, #0xffffffff8
-	cbz	x9, LBB94_14
+	cbz	x9, LBB94_15
 	lsr	x10, x9, #3
 	cmp	x10, x1
-	b.hi	LBB94_15
+	b.hi	LBB94_16
 	mov	w12, #24
 	add	x8, x0, x8
 	madd	x10, x10, x12, x8
 	ldurb	w10, [x10, #-24]
-	tbz	w10, #0, LBB94_15
+	tbz	w10, #0, LBB94_16
 	lsl	x10, x1, #3
 	mov	x13, xzr
 	add	x11, x2, x11
@@ -6524,11 +6526,11 @@ LBB94_5:
 	and	x15, x13, #0xffffffff8
 	sub	x16, x15, #1
 	cmp	x16, x10
-	b.hs	LBB94_12
+	b.hs	LBB94_13
 	subs	w12, w12, #1
 	mov	x13, x9
 	mov	x9, x15
-	b.eq	LBB94_14
+	b.eq	LBB94_10
 LBB94_7:
 	lsr	x14, x9, #3
 	mov	w15, #24
@@ -6541,29 +6543,31 @@ LBB94_7:
 	and	x15, x9, #0xffffffff8
 	sub	x9, x15, #1
 	cmp	x9, x10
-	b.hs	LBB94_10
+	b.hs	LBB94_11
 	subs	w12, w12, #1
 	mov	x9, x15
 	b.ne	LBB94_7
-	b	LBB94_14
 LBB94_10:
-	cbz	x13, LBB94_14
+	mov	w0, #5
+	ret
+LBB94_11:
+	cbz	x13, LBB94_15
 	lsr	x14, x13, #3
 	mov	w9, #24
 	madd	x8, x14, x9, x8
 	ldur	x13, [x8, #-24]
-LBB94_12:
-	tbnz	w13, #0, LBB94_16
+LBB94_13:
+	tbnz	w13, #0, LBB94_17
 	mov	w0, #5
 	ret
-LBB94_14:
+LBB94_15:
 	mov	w0, #4
 	ret
-LBB94_15:
+LBB94_16:
 	mov	x0, x1
 	mov	x1, x3
 	b	_ic_raw.search.refusal
-LBB94_16:
+LBB94_17:
 	mov	w0, wzr
 	sub	w8, w14, #1
 	str	w8, [x6]
@@ -7196,18 +7200,18 @@ _ic_tree_upper_bound:
 	cmp	x2, #0
 	csel	x11, x9, xzr, eq
 	cmp	x3, x1
-	b.lo	LBB99_15
+	b.lo	LBB99_16
 	ldr	x9, [x4]
 	and	x9, x9, #0xffffffff8
-	cbz	x9, LBB99_14
+	cbz	x9, LBB99_15
 	lsr	x10, x9, #3
 	cmp	x10, x1
-	b.hi	LBB99_15
+	b.hi	LBB99_16
 	mov	w12, #24
 	add	x8, x0, x8
 	madd	x10, x10, x12, x8
 	ldurb	w10, [x10, #-24]
-	tbz	w10, #0, LBB99_15
+	tbz	w10, #0, LBB99_16
 	lsl	x10, x1, #3
 	mov	x13, xzr
 	add	x11, x2, x11
@@ -7218,11 +7222,11 @@ LBB99_5:
 	and	x16, x13, #0xffffffff8
 	sub	x13, x16, #1
 	cmp	x13, x10
-	b.hs	LBB99_12
+	b.hs	LBB99_13
 	subs	w12, w12, #1
 	mov	x13, x9
 	mov	x9, x16
-	b.eq	LBB99_14
+	b.eq	LBB99_10
 LBB99_7:
 	lsr	x14, x9, #3
 	add	x15, x11, x9
@@ -7236,30 +7240,32 @@ LBB99_7:
 	and	x16, x9, #0xffffffff8
 	sub	x9, x16, #1
 	cmp	x9, x10
-	b.hs	LBB99_10
+	b.hs	LBB99_11
 	subs	w12, w12, #1
 	mov	x9, x16
 	b.ne	LBB99_7
-	b	LBB99_14
 LBB99_10:
-	cbz	x13, LBB99_14
+	mov	w0, #5
+	ret
+LBB99_11:
+	cbz	x13, LBB99_15
 	lsr	x14, x13, #3
 	add	x9, x14, x13, lsr #2
 	lsl	x15, x9, #3
-LBB99_12:
+LBB99_13:
 	add	x8, x8, x15
 	ldurb	w8, [x8, #-24]
-	tbnz	w8, #0, LBB99_16
+	tbnz	w8, #0, LBB99_17
 	mov	w0, #5
 	ret
-LBB99_14:
+LBB99_15:
 	mov	w0, #4
 	ret
-LBB99_15:
+LBB99_16:
 	mov	x0, x1
 	mov	x1, x3
 	b	_ic_raw.search.refusal
-LBB99_16:
+LBB99_17:
 	mov	w0, wzr
 	sub	w8, w14, #1
 	str	w8, [x6]

@@ -4872,8 +4872,9 @@ ic_raw.table.RawTable.refusal_of.19bacce014a8892a:
 	.type	ic_raw.tree.nothing_found,@function
 ic_raw.tree.nothing_found:
 	.cfi_startproc
-	andi	a0, a0, 1
-	addi	a0, a0, 4
+	zext.b	a0, a0
+	seqz	a0, a0
+	xori	a0, a0, 5
 	ret
 .Lfunc_end33:
 	.size	ic_raw.tree.nothing_found, .Lfunc_end33-ic_raw.tree.nothing_found
@@ -14431,10 +14432,10 @@ ic_tree_find:
 	beq	a5, a2, .LBB92_2
 	sltu	a0, a5, a2
 	beqz	a0, .LBB92_3
-	j	.LBB92_25
+	j	.LBB92_26
 .LBB92_2:
 	sltu	a0, a4, a1
-	bnez	a0, .LBB92_25
+	bnez	a0, .LBB92_26
 .LBB92_3:
 	lw	a0, 4(a6)
 	lw	s1, 0(a6)
@@ -14442,7 +14443,7 @@ ic_tree_find:
 	andi	t1, s1, -8
 	or	s1, t1, a6
 	li	a0, 4
-	beqz	s1, .LBB92_27
+	beqz	s1, .LBB92_25
 	srli	t2, t1, 3
 	slli	s1, a6, 29
 	srli	s0, a6, 3
@@ -14450,10 +14451,10 @@ ic_tree_find:
 	beq	s0, a2, .LBB92_6
 	sltu	s0, a2, s0
 	beqz	s0, .LBB92_7
-	j	.LBB92_25
+	j	.LBB92_26
 .LBB92_6:
 	sltu	s0, a1, s1
-	bnez	s0, .LBB92_25
+	bnez	s0, .LBB92_26
 .LBB92_7:
 	seqz	s0, t0
 	slli	s0, s0, 12
@@ -14464,7 +14465,7 @@ ic_tree_find:
 	add	s0, s0, t0
 	lbu	s1, -24(s0)
 	andi	s1, s1, 1
-	beqz	s1, .LBB92_25
+	beqz	s1, .LBB92_26
 	li	a5, 0
 	li	t6, 0
 	seqz	a4, a3
@@ -14490,7 +14491,7 @@ ic_tree_find:
 	mv	a5, t1
 	mv	t1, a3
 	mv	a6, a1
-	beqz	a4, .LBB92_27
+	beqz	a4, .LBB92_24
 .LBB92_11:
 	add	a1, s3, t1
 	lw	s0, -4(a1)
@@ -14538,12 +14539,14 @@ ic_tree_find:
 	sltu	s1, a2, s2
 	beqz	s1, .LBB92_20
 .LBB92_19:
-	mv	t1, a5
-	mv	a6, t6
-	j	.LBB92_10
+	addi	a4, a4, -1
+	mv	t1, a3
+	mv	a6, a1
+	bnez	a4, .LBB92_11
+	j	.LBB92_24
 .LBB92_20:
 	or	a1, a5, t6
-	beqz	a1, .LBB92_27
+	beqz	a1, .LBB92_25
 	add	s3, s3, a5
 	lw	s1, -8(s3)
 	lw	s0, -4(s3)
@@ -14553,7 +14556,7 @@ ic_tree_find:
 	xor	a1, a7, s1
 	xor	a2, t5, s0
 	or	a1, a1, a2
-	bnez	a1, .LBB92_27
+	bnez	a1, .LBB92_25
 	srli	a1, t1, 3
 	andi	a0, t1, -8
 	slli	a2, a1, 4
@@ -14561,10 +14564,26 @@ ic_tree_find:
 	add	a0, a0, t0
 	lbu	a0, -24(a0)
 	andi	a0, a0, 1
-	bnez	a0, .LBB92_26
+	bnez	a0, .LBB92_27
+.LBB92_24:
 	li	a0, 5
-	j	.LBB92_27
 .LBB92_25:
+	lw	s0, 28(sp)
+	lw	s1, 24(sp)
+	lw	s2, 20(sp)
+	lw	s3, 16(sp)
+	lw	s4, 12(sp)
+	.cfi_restore s0
+	.cfi_restore s1
+	.cfi_restore s2
+	.cfi_restore s3
+	.cfi_restore s4
+	addi	sp, sp, 32
+	.cfi_def_cfa_offset 0
+	ret
+.LBB92_26:
+	.cfi_restore_state
+	.cfi_remember_state
 	mv	a0, a1
 	mv	a1, a2
 	mv	a2, a4
@@ -14582,27 +14601,14 @@ ic_tree_find:
 	addi	sp, sp, 32
 	.cfi_def_cfa_offset 0
 	tail	ic_raw.search.refusal
-.LBB92_26:
+.LBB92_27:
 	.cfi_restore_state
 	li	a0, 0
 	slli	a6, a6, 29
 	or	a1, a1, a6
 	addi	a1, a1, -1
 	sw	a1, 0(t2)
-.LBB92_27:
-	lw	s0, 28(sp)
-	lw	s1, 24(sp)
-	lw	s2, 20(sp)
-	lw	s3, 16(sp)
-	lw	s4, 12(sp)
-	.cfi_restore s0
-	.cfi_restore s1
-	.cfi_restore s2
-	.cfi_restore s3
-	.cfi_restore s4
-	addi	sp, sp, 32
-	.cfi_def_cfa_offset 0
-	ret
+	j	.LBB92_25
 .Lfunc_end92:
 	.size	ic_tree_find, .Lfunc_end92-ic_tree_find
 	.cfi_endproc
@@ -14905,10 +14911,10 @@ ic_tree_lower_bound:
 	beq	a5, a2, .LBB96_2
 	sltu	a0, a5, a2
 	beqz	a0, .LBB96_3
-	j	.LBB96_26
+	j	.LBB96_27
 .LBB96_2:
 	sltu	a0, a4, a1
-	bnez	a0, .LBB96_26
+	bnez	a0, .LBB96_27
 .LBB96_3:
 	lw	a0, 4(a6)
 	lw	s1, 0(a6)
@@ -14916,7 +14922,7 @@ ic_tree_lower_bound:
 	andi	t1, s1, -8
 	or	s1, t1, a6
 	li	a0, 4
-	beqz	s1, .LBB96_20
+	beqz	s1, .LBB96_21
 	srli	t2, t1, 3
 	slli	s1, a6, 29
 	srli	s0, a6, 3
@@ -14924,10 +14930,10 @@ ic_tree_lower_bound:
 	beq	s0, a2, .LBB96_6
 	sltu	s0, a2, s0
 	beqz	s0, .LBB96_7
-	j	.LBB96_26
+	j	.LBB96_27
 .LBB96_6:
 	sltu	s0, a1, s1
-	bnez	s0, .LBB96_26
+	bnez	s0, .LBB96_27
 .LBB96_7:
 	seqz	s0, t0
 	slli	s0, s0, 12
@@ -14938,7 +14944,7 @@ ic_tree_lower_bound:
 	add	s0, s0, t0
 	lbu	s1, -24(s0)
 	andi	s1, s1, 1
-	beqz	s1, .LBB96_26
+	beqz	s1, .LBB96_27
 	li	a4, 0
 	li	t5, 0
 	seqz	a5, a3
@@ -14957,7 +14963,7 @@ ic_tree_lower_bound:
 .LBB96_9:
 	sltu	a3, a3, a2
 	bnez	a3, .LBB96_17
-	j	.LBB96_23
+	j	.LBB96_24
 .LBB96_10:
 	add	a3, s2, t1
 	lw	a5, -4(a3)
@@ -14979,7 +14985,7 @@ ic_tree_lower_bound:
 	beq	a5, a2, .LBB96_18
 	sltu	a5, a5, a2
 	bnez	a5, .LBB96_19
-	j	.LBB96_21
+	j	.LBB96_22
 .LBB96_14:
 	lw	a3, -8(a3)
 	sltu	s0, a3, a7
@@ -14999,7 +15005,7 @@ ic_tree_lower_bound:
 	bne	a3, a2, .LBB96_9
 	addi	a3, s1, -1
 	sltu	a3, a3, t6
-	beqz	a3, .LBB96_23
+	beqz	a3, .LBB96_24
 .LBB96_17:
 	addi	a1, a1, -1
 	mv	t1, s1
@@ -15009,7 +15015,7 @@ ic_tree_lower_bound:
 .LBB96_18:
 	addi	a5, s1, -1
 	sltu	a5, a5, t6
-	beqz	a5, .LBB96_21
+	beqz	a5, .LBB96_22
 .LBB96_19:
 	mv	a4, t1
 	mv	t5, a6
@@ -15018,6 +15024,8 @@ ic_tree_lower_bound:
 	mv	a6, s0
 	bnez	a1, .LBB96_10
 .LBB96_20:
+	li	a0, 5
+.LBB96_21:
 	lw	s0, 12(sp)
 	lw	s1, 8(sp)
 	lw	s2, 4(sp)
@@ -15029,14 +15037,14 @@ ic_tree_lower_bound:
 	addi	sp, sp, 16
 	.cfi_def_cfa_offset 0
 	ret
-.LBB96_21:
+.LBB96_22:
 	.cfi_restore_state
 	.cfi_remember_state
 	slli	a1, a6, 29
 	or	a1, a1, a3
 	andi	a4, a4, 1
-	bnez	a4, .LBB96_25
-.LBB96_22:
+	bnez	a4, .LBB96_26
+.LBB96_23:
 	li	a0, 5
 	lw	s0, 12(sp)
 	lw	s1, 8(sp)
@@ -15049,11 +15057,11 @@ ic_tree_lower_bound:
 	addi	sp, sp, 16
 	.cfi_def_cfa_offset 0
 	ret
-.LBB96_23:
+.LBB96_24:
 	.cfi_restore_state
 	.cfi_remember_state
 	or	a1, a4, t5
-	beqz	a1, .LBB96_20
+	beqz	a1, .LBB96_21
 	srli	a0, a4, 3
 	andi	a4, a4, -8
 	slli	a1, a0, 4
@@ -15063,8 +15071,8 @@ ic_tree_lower_bound:
 	slli	a1, t5, 29
 	or	a1, a1, a0
 	andi	a4, a4, 1
-	beqz	a4, .LBB96_22
-.LBB96_25:
+	beqz	a4, .LBB96_23
+.LBB96_26:
 	li	a0, 0
 	addi	a1, a1, -1
 	sw	a1, 0(t2)
@@ -15079,7 +15087,7 @@ ic_tree_lower_bound:
 	addi	sp, sp, 16
 	.cfi_def_cfa_offset 0
 	ret
-.LBB96_26:
+.LBB96_27:
 	.cfi_restore_state
 	mv	a0, a1
 	mv	a1, a2
@@ -16181,23 +16189,28 @@ ic_tree_upper_bound:
 	add	s3, a3, a4
 	slli	t6, a1, 3
 	li	a1, 66
-	j	.LBB101_10
+	j	.LBB101_11
 .LBB101_9:
-	sltu	a3, a3, a2
-	bnez	a3, .LBB101_17
-	j	.LBB101_22
+	addi	a3, s1, -1
+	sltu	a3, a3, t6
+	beqz	a3, .LBB101_22
 .LBB101_10:
+	addi	a1, a1, -1
+	mv	t1, s1
+	mv	a6, s0
+	beqz	a1, .LBB101_21
+.LBB101_11:
 	add	a3, s3, t1
 	lw	a4, -4(a3)
-	beq	s4, a4, .LBB101_14
+	beq	s4, a4, .LBB101_15
 	sltu	s0, s4, a4
 	srli	a3, t1, 3
 	andi	a4, t1, -8
 	slli	a5, a3, 4
 	add	a4, a4, a5
 	add	s1, t0, a4
-	bnez	s0, .LBB101_15
-.LBB101_12:
+	bnez	s0, .LBB101_16
+.LBB101_13:
 	lw	a5, -12(s1)
 	lw	s1, -16(s1)
 	and	s0, a5, t3
@@ -16208,7 +16221,7 @@ ic_tree_upper_bound:
 	sltu	a5, a5, a2
 	bnez	a5, .LBB101_19
 	j	.LBB101_20
-.LBB101_14:
+.LBB101_15:
 	lw	a3, -8(a3)
 	sltu	s0, a7, a3
 	srli	a3, t1, 3
@@ -16216,24 +16229,18 @@ ic_tree_upper_bound:
 	slli	a5, a3, 4
 	add	a4, a4, a5
 	add	s1, t0, a4
-	beqz	s0, .LBB101_12
-.LBB101_15:
+	beqz	s0, .LBB101_13
+.LBB101_16:
 	lw	a3, -20(s1)
 	lw	a4, -24(s1)
 	and	s0, a3, t3
 	and	s1, a4, t4
 	seqz	a3, s1
 	sub	a3, s0, a3
-	bne	a3, a2, .LBB101_9
-	addi	a3, s1, -1
-	sltu	a3, a3, t6
-	beqz	a3, .LBB101_22
-.LBB101_17:
-	addi	a1, a1, -1
-	mv	t1, s1
-	mv	a6, s0
-	bnez	a1, .LBB101_10
-	j	.LBB101_25
+	beq	a3, a2, .LBB101_9
+	sltu	a3, a3, a2
+	bnez	a3, .LBB101_10
+	j	.LBB101_22
 .LBB101_18:
 	addi	a5, s1, -1
 	sltu	a5, a5, t6
@@ -16244,8 +16251,8 @@ ic_tree_upper_bound:
 	addi	a1, a1, -1
 	mv	t1, s1
 	mv	a6, s0
-	bnez	a1, .LBB101_10
-	j	.LBB101_25
+	bnez	a1, .LBB101_11
+	j	.LBB101_21
 .LBB101_20:
 	slli	a1, a6, 29
 	or	a1, a1, a3

@@ -6332,12 +6332,12 @@ ic_raw.table.RawTable.refusal_of.19bacce014a8892a:
 	.thumb_func
 ic_raw.tree.nothing_found:
 	.cfi_startproc
-	lsls	r0, r0, #31
-	bne	.LBB32_2
-	movs	r0, #4
+	lsls	r0, r0, #24
+	beq	.LBB32_2
+	movs	r0, #5
 	bx	lr
 .LBB32_2:
-	movs	r0, #5
+	movs	r0, #4
 	bx	lr
 .Lfunc_end32:
 	.size	ic_raw.tree.nothing_found, .Lfunc_end32-ic_raw.tree.nothing_found
@@ -19640,7 +19640,7 @@ ic_tree_find:
 	blo	.LBB90_10
 	b	.LBB90_17
 .LBB90_13:
-	ldr	r7, [sp, #8]
+	movs	r7, #5
 .LBB90_14:
 	mov	r0, r7
 	add	sp, #60
@@ -20370,7 +20370,7 @@ ic_tree_lower_bound:
 	mov	r0, r1
 	sbcs	r0, r3
 	bhs	.LBB94_5
-	b	.LBB94_20
+	b	.LBB94_19
 .LBB94_5:
 	ldr	r0, [sp, #96]
 	ldm	r0!, {r1, r6}
@@ -20382,9 +20382,7 @@ ic_tree_lower_bound:
 	movs	r0, #4
 	mov	r5, r1
 	orrs	r5, r6
-	bne	.LBB94_6
-	b	.LBB94_19
-.LBB94_6:
+	beq	.LBB94_18
 	str	r7, [sp, #36]
 	str	r0, [sp, #4]
 	lsrs	r0, r1, #3
@@ -20394,7 +20392,7 @@ ic_tree_lower_bound:
 	subs	r5, r2, r7
 	mov	r5, r3
 	sbcs	r5, r0
-	blo	.LBB94_20
+	blo	.LBB94_19
 	movs	r0, #24
 	str	r0, [sp, #48]
 	muls	r7, r0, r7
@@ -20402,7 +20400,7 @@ ic_tree_lower_bound:
 	subs	r0, #24
 	ldrb	r0, [r0]
 	lsls	r0, r0, #31
-	beq	.LBB94_20
+	beq	.LBB94_19
 	ldr	r0, [sp, #36]
 	mvns	r0, r0
 	str	r0, [sp, #44]
@@ -20439,10 +20437,10 @@ ic_tree_lower_bound:
 	subs	r0, r2, r0
 	ldr	r0, [sp, #32]
 	sbcs	r3, r0
-	bhs	.LBB94_16
+	bhs	.LBB94_15
 .LBB94_10:
 	subs	r5, r5, #1
-	beq	.LBB94_15
+	beq	.LBB94_14
 .LBB94_11:
 	lsrs	r0, r1, #3
 	lsls	r2, r6, #29
@@ -20487,22 +20485,18 @@ ic_tree_lower_bound:
 	blo	.LBB94_10
 	ldr	r0, [sp, #8]
 	lsls	r0, r0, #31
-	bne	.LBB94_18
+	bne	.LBB94_17
 .LBB94_14:
 	movs	r0, #5
 	add	sp, #60
 	pop	{r4, r5, r6, r7, pc}
 .LBB94_15:
-	ldr	r0, [sp, #4]
-	add	sp, #60
-	pop	{r4, r5, r6, r7, pc}
-.LBB94_16:
 	ldr	r1, [sp, #20]
 	mov	r0, r1
 	ldr	r2, [sp, #16]
 	orrs	r0, r2
 	ldr	r0, [sp, #4]
-	beq	.LBB94_19
+	beq	.LBB94_18
 	lsrs	r0, r1, #3
 	lsls	r1, r2, #29
 	adds	r1, r0, r1
@@ -20516,16 +20510,16 @@ ic_tree_lower_bound:
 	ldr	r0, [sp, #8]
 	lsls	r0, r0, #31
 	beq	.LBB94_14
-.LBB94_18:
+.LBB94_17:
 	ldr	r0, [sp, #24]
 	subs	r0, r0, #1
 	ldr	r1, [sp]
 	str	r0, [r1]
 	movs	r0, #0
-.LBB94_19:
+.LBB94_18:
 	add	sp, #60
 	pop	{r4, r5, r6, r7, pc}
-.LBB94_20:
+.LBB94_19:
 	mov	r0, r2
 	mov	r1, r3
 	ldr	r2, [sp, #40]
@@ -22300,7 +22294,7 @@ ic_tree_upper_bound:
 	mov	r0, r1
 	sbcs	r0, r3
 	bhs	.LBB99_5
-	b	.LBB99_18
+	b	.LBB99_17
 .LBB99_5:
 	str	r3, [sp, #32]
 	ldr	r0, [sp, #96]
@@ -22314,7 +22308,7 @@ ic_tree_upper_bound:
 	mov	r3, r1
 	orrs	r3, r5
 	bne	.LBB99_6
-	b	.LBB99_20
+	b	.LBB99_19
 .LBB99_6:
 	str	r7, [sp, #36]
 	str	r0, [sp, #4]
@@ -22327,7 +22321,7 @@ ic_tree_upper_bound:
 	ldr	r3, [sp, #32]
 	mov	r5, r3
 	sbcs	r5, r0
-	blo	.LBB99_18
+	blo	.LBB99_17
 	movs	r0, #24
 	str	r0, [sp, #48]
 	muls	r7, r0, r7
@@ -22335,7 +22329,7 @@ ic_tree_upper_bound:
 	subs	r0, #24
 	ldrb	r0, [r0]
 	lsls	r0, r0, #31
-	beq	.LBB99_18
+	beq	.LBB99_17
 	ldr	r0, [sp, #36]
 	mvns	r0, r0
 	str	r0, [sp, #44]
@@ -22384,7 +22378,7 @@ ic_tree_upper_bound:
 .LBB99_10:
 	subs	r5, r5, #1
 	ldr	r6, [sp, #24]
-	beq	.LBB99_17
+	beq	.LBB99_16
 .LBB99_11:
 	str	r7, [sp, #56]
 	lsrs	r0, r1, #3
@@ -22423,7 +22417,7 @@ ic_tree_upper_bound:
 	ldr	r2, [sp, #12]
 	orrs	r0, r2
 	ldr	r0, [sp, #4]
-	beq	.LBB99_20
+	beq	.LBB99_19
 	lsrs	r0, r1, #3
 	lsls	r1, r2, #29
 	adds	r1, r0, r1
@@ -22435,15 +22429,12 @@ ic_tree_upper_bound:
 	subs	r0, #24
 	ldrb	r0, [r0]
 	lsls	r0, r0, #31
-	bne	.LBB99_19
+	bne	.LBB99_18
+.LBB99_16:
 	movs	r0, #5
 	add	sp, #60
 	pop	{r4, r5, r6, r7, pc}
 .LBB99_17:
-	ldr	r0, [sp, #4]
-	add	sp, #60
-	pop	{r4, r5, r6, r7, pc}
-.LBB99_18:
 	mov	r0, r2
 	mov	r1, r3
 	ldr	r2, [sp, #40]
@@ -22451,13 +22442,13 @@ ic_tree_upper_bound:
 	bl	ic_raw.search.refusal
 	add	sp, #60
 	pop	{r4, r5, r6, r7, pc}
-.LBB99_19:
+.LBB99_18:
 	ldr	r0, [sp, #20]
 	subs	r0, r0, #1
 	ldr	r1, [sp]
 	str	r0, [r1]
 	movs	r0, #0
-.LBB99_20:
+.LBB99_19:
 	add	sp, #60
 	pop	{r4, r5, r6, r7, pc}
 .Lfunc_end99:

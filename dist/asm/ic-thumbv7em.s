@@ -3831,10 +3831,10 @@ ic_raw.table.RawTable.refusal_of.19bacce014a8892a:
 	.thumb_func
 ic_raw.tree.nothing_found:
 	.cfi_startproc
-	lsls	r0, r0, #31
-	mov.w	r0, #4
-	it	ne
-	movne	r0, #5
+	lsls	r0, r0, #24
+	mov.w	r0, #5
+	it	eq
+	moveq	r0, #4
 	bx	lr
 .Lfunc_end32:
 	.size	ic_raw.tree.nothing_found, .Lfunc_end32-ic_raw.tree.nothing_found
@@ -11737,7 +11737,7 @@ ic_tree_find:
 	subs	r7, #1
 	mov	r6, r4
 	mov	r5, r1
-	beq	.LBB90_15
+	beq	.LBB90_14
 .LBB90_7:
 	add.w	r1, r9, r6
 	ldrd	r10, r12, [r1, #-8]
@@ -11762,7 +11762,7 @@ ic_tree_find:
 	mov	r6, r4
 	mov	r5, r1
 	bne	.LBB90_7
-	b	.LBB90_15
+	b	.LBB90_14
 	.p2align	2
 .LBB90_10:
 	mov	r3, r6
@@ -11789,6 +11789,7 @@ ic_tree_find:
 	ldrb	r0, [r0, #-24]
 	lsls	r0, r0, #31
 	bne	.LBB90_17
+.LBB90_14:
 	movs	r0, #5
 	add	sp, #12
 	pop.w	{r4, r5, r6, r7, r8, r9, r10, r11, pc}
@@ -12308,7 +12309,7 @@ ic_tree_lower_bound:
 	subs	r5, #1
 	mov	r1, r7
 	mov	r4, r6
-	beq	.LBB94_15
+	beq	.LBB94_11
 .LBB94_7:
 	add.w	r6, r11, r1
 	ldrd	r6, r7, [r6, #-8]
@@ -12336,7 +12337,7 @@ ic_tree_lower_bound:
 	mov	r1, r7
 	mov	r4, r6
 	bne	.LBB94_7
-	b	.LBB94_15
+	b	.LBB94_11
 	.p2align	2
 .LBB94_10:
 	orr.w	r0, r8, r4, lsl #29
@@ -13557,7 +13558,7 @@ ic_tree_upper_bound:
 	sbcs.w	r1, r4, lr
 	bhs	.LBB99_12
 	subs	r7, #1
-	beq	.LBB99_15
+	beq	.LBB99_11
 .LBB99_7:
 	add.w	r1, r11, r8
 	ldrd	r1, r4, [r1, #-8]
@@ -13591,7 +13592,7 @@ ic_tree_upper_bound:
 	mov	r11, r12
 	subs	r7, #1
 	bne	.LBB99_7
-	b	.LBB99_15
+	b	.LBB99_11
 	.p2align	2
 .LBB99_10:
 	orr.w	r1, r1, r2, lsl #29

@@ -2585,8 +2585,9 @@ ic_raw.table.RawTable.refusal_of.19bacce014a8892a:
 	.type	ic_raw.tree.nothing_found,@function
 ic_raw.tree.nothing_found:
 	.cfi_startproc
-	andl	$1, %edi
-	leal	4(%rdi), %eax
+	cmpb	$1, %dil
+	movl	$5, %eax
+	sbbl	$0, %eax
 	retq
 .Lfunc_end32:
 	.size	ic_raw.tree.nothing_found, .Lfunc_end32-ic_raw.tree.nothing_found
@@ -8084,22 +8085,22 @@ ic_tree_find:
 	testq	%rdx, %rdx
 	sete	%bl
 	cmpq	%rsi, %rcx
-	jb	.LBB90_16
+	jb	.LBB90_17
 	movabsq	$68719476728, %r10
 	movq	(%r8), %r8
 	movl	$4, %eax
 	andq	%r10, %r8
-	je	.LBB90_15
+	je	.LBB90_16
 	movq	%r8, %r15
 	shrq	$3, %r15
 	cmpq	%rsi, %r15
-	ja	.LBB90_16
+	ja	.LBB90_17
 	movb	%bpl, %r14b
 	shll	$12, %r14d
 	addq	%r14, %rdi
 	leaq	(%r15,%r15,2), %r14
 	testb	$1, -24(%rdi,%r14,8)
-	je	.LBB90_16
+	je	.LBB90_17
 	movq	40(%rsp), %rcx
 	movb	%bl, %r11b
 	shll	$12, %r11d
@@ -8114,12 +8115,11 @@ ic_tree_find:
 	andq	%r10, %r14
 	leaq	-1(%r14), %rbx
 	cmpq	%rsi, %rbx
-	jae	.LBB90_12
-.LBB90_9:
+	jae	.LBB90_13
 	movq	%r8, %rbx
 	movq	%r14, %r8
 	decl	%r11d
-	je	.LBB90_15
+	je	.LBB90_10
 .LBB90_5:
 	movq	-8(%rdx,%r8), %r15
 	leaq	(%r8,%r8,2), %r14
@@ -8129,26 +8129,32 @@ ic_tree_find:
 	andq	%r10, %r14
 	leaq	-1(%r14), %r8
 	cmpq	%rsi, %r8
-	jae	.LBB90_10
+	jae	.LBB90_11
 	movq	%rbx, %r8
-	jmp	.LBB90_9
+	movq	%r8, %rbx
+	movq	%r14, %r8
+	decl	%r11d
+	jne	.LBB90_5
 .LBB90_10:
+	movl	$5, %eax
+	jmp	.LBB90_16
+.LBB90_11:
 	testq	%rbx, %rbx
-	je	.LBB90_15
+	je	.LBB90_16
 	movq	-8(%rdx,%rbx), %r15
 	movq	%rbx, %r8
-.LBB90_12:
+.LBB90_13:
 	cmpq	%r15, %r9
-	jne	.LBB90_15
+	jne	.LBB90_16
 	shrq	$3, %r8
 	leaq	(%r8,%r8,2), %rdx
 	movl	$5, %eax
 	testb	$1, -24(%rdi,%rdx,8)
-	je	.LBB90_15
+	je	.LBB90_16
 	decl	%r8d
 	movl	%r8d, (%rcx)
 	xorl	%eax, %eax
-.LBB90_15:
+.LBB90_16:
 	popq	%rbx
 	.cfi_def_cfa_offset 32
 	popq	%r14
@@ -8158,7 +8164,7 @@ ic_tree_find:
 	popq	%rbp
 	.cfi_def_cfa_offset 8
 	retq
-.LBB90_16:
+.LBB90_17:
 	.cfi_def_cfa_offset 40
 	movq	%rsi, %rdi
 	movq	%rcx, %rsi
@@ -8563,22 +8569,22 @@ ic_tree_lower_bound:
 	testq	%rdx, %rdx
 	sete	%bl
 	cmpq	%rsi, %rcx
-	jb	.LBB94_16
+	jb	.LBB94_17
 	movabsq	$68719476728, %r10
 	movq	(%r8), %r8
 	movl	$4, %eax
 	andq	%r10, %r8
-	je	.LBB94_15
+	je	.LBB94_16
 	movq	%r8, %r15
 	shrq	$3, %r15
 	cmpq	%rsi, %r15
-	ja	.LBB94_16
+	ja	.LBB94_17
 	movb	%bpl, %r14b
 	shll	$12, %r14d
 	addq	%r14, %rdi
 	leaq	(%r15,%r15,2), %r14
 	testb	$1, -24(%rdi,%r14,8)
-	je	.LBB94_16
+	je	.LBB94_17
 	movq	40(%rsp), %rcx
 	movb	%bl, %r11b
 	shll	$12, %r11d
@@ -8593,10 +8599,10 @@ ic_tree_lower_bound:
 	andq	%r10, %r14
 	leaq	-1(%r14), %r8
 	cmpq	%rsi, %r8
-	jae	.LBB94_11
+	jae	.LBB94_12
 	movq	%r14, %r8
 	decl	%ebx
-	je	.LBB94_15
+	je	.LBB94_11
 .LBB94_5:
 	leaq	(%r8,%r8,2), %r14
 	cmpq	-8(%rdx,%r8), %r9
@@ -8611,28 +8617,30 @@ ic_tree_lower_bound:
 	movq	%r14, %r8
 	decl	%ebx
 	jne	.LBB94_5
-	jmp	.LBB94_15
+.LBB94_11:
+	movl	$5, %eax
+	jmp	.LBB94_16
 .LBB94_8:
 	shrq	$3, %r8
 	movl	$5, %eax
 	testb	$1, %r15b
-	jne	.LBB94_14
-	jmp	.LBB94_15
-.LBB94_11:
+	jne	.LBB94_15
+	jmp	.LBB94_16
+.LBB94_12:
 	testq	%r11, %r11
-	je	.LBB94_15
+	je	.LBB94_16
 	shrq	$3, %r11
 	leaq	(%r11,%r11,2), %rax
 	movq	-24(%rdi,%rax,8), %r15
 	movq	%r11, %r8
 	movl	$5, %eax
 	testb	$1, %r15b
-	je	.LBB94_15
-.LBB94_14:
+	je	.LBB94_16
+.LBB94_15:
 	decl	%r8d
 	movl	%r8d, (%rcx)
 	xorl	%eax, %eax
-.LBB94_15:
+.LBB94_16:
 	popq	%rbx
 	.cfi_def_cfa_offset 32
 	popq	%r14
@@ -8642,7 +8650,7 @@ ic_tree_lower_bound:
 	popq	%rbp
 	.cfi_def_cfa_offset 8
 	retq
-.LBB94_16:
+.LBB94_17:
 	.cfi_def_cfa_offset 40
 	movq	%rsi, %rdi
 	movq	%rcx, %rsi
@@ -9454,22 +9462,22 @@ ic_tree_upper_bound:
 	testq	%rdx, %rdx
 	sete	%bl
 	cmpq	%rsi, %rcx
-	jb	.LBB99_15
+	jb	.LBB99_16
 	movabsq	$68719476728, %r10
 	movq	(%r8), %r8
 	movl	$4, %eax
 	andq	%r10, %r8
-	je	.LBB99_14
+	je	.LBB99_15
 	movq	%r8, %r15
 	shrq	$3, %r15
 	cmpq	%rsi, %r15
-	ja	.LBB99_15
+	ja	.LBB99_16
 	movb	%bpl, %r14b
 	shll	$12, %r14d
 	addq	%r14, %rdi
 	leaq	(%r15,%r15,2), %r14
 	testb	$1, -24(%rdi,%r14,8)
-	je	.LBB99_15
+	je	.LBB99_16
 	movq	40(%rsp), %rcx
 	movb	%bl, %r11b
 	shll	$12, %r11d
@@ -9496,32 +9504,34 @@ ic_tree_upper_bound:
 	andq	%r10, %r15
 	leaq	-1(%r15), %r11
 	cmpq	%rsi, %r11
-	jae	.LBB99_16
+	jae	.LBB99_17
 	movq	%r8, %r11
 	movq	%r15, %r8
 	decl	%ebx
 	jne	.LBB99_5
-	jmp	.LBB99_14
-.LBB99_16:
+.LBB99_14:
+	movl	$5, %eax
+	jmp	.LBB99_15
+.LBB99_17:
 	shrq	$3, %r8
 	movl	$5, %eax
 	testb	$1, -24(%rdi,%r14)
 	jne	.LBB99_10
-	jmp	.LBB99_14
+	jmp	.LBB99_15
 .LBB99_7:
 	testq	%r11, %r11
-	je	.LBB99_14
+	je	.LBB99_15
 	leaq	(%r11,%r11,2), %r14
 	shrq	$3, %r11
 	movq	%r11, %r8
 	movl	$5, %eax
 	testb	$1, -24(%rdi,%r14)
-	je	.LBB99_14
+	je	.LBB99_15
 .LBB99_10:
 	decl	%r8d
 	movl	%r8d, (%rcx)
 	xorl	%eax, %eax
-.LBB99_14:
+.LBB99_15:
 	popq	%rbx
 	.cfi_def_cfa_offset 32
 	popq	%r14
@@ -9531,7 +9541,7 @@ ic_tree_upper_bound:
 	popq	%rbp
 	.cfi_def_cfa_offset 8
 	retq
-.LBB99_15:
+.LBB99_16:
 	.cfi_def_cfa_offset 40
 	movq	%rsi, %rdi
 	movq	%rcx, %rsi

@@ -2366,8 +2366,9 @@ ic_raw.table.RawTable.refusal_of.19bacce014a8892a:
 	.endef
 	.p2align	4
 ic_raw.tree.nothing_found:
-	movzbl	%cl, %eax
-	orl	$4, %eax
+	cmpb	$1, %cl
+	movl	$5, %eax
+	sbbl	$0, %eax
 	retq
 	.def	ic_rbtree.repair.removal.delete_fixup.51cd7b77618bceda;
 	.scl	3;
@@ -7429,23 +7430,23 @@ ic_tree_find:
 	testq	%r8, %r8
 	sete	%bl
 	cmpq	%rdx, %r9
-	jb	.LBB90_16
+	jb	.LBB90_17
 	movq	88(%rsp), %rax
 	movabsq	$68719476728, %r11
 	movq	(%rax), %r10
 	movl	$4, %eax
 	andq	%r11, %r10
-	je	.LBB90_15
+	je	.LBB90_16
 	movq	%r10, %r14
 	shrq	$3, %r14
 	cmpq	%rdx, %r14
-	ja	.LBB90_16
+	ja	.LBB90_17
 	movb	%bpl, %sil
 	shll	$12, %esi
 	addq	%rsi, %rcx
 	leaq	(%r14,%r14,2), %rsi
 	testb	$1, -24(%rcx,%rsi,8)
-	je	.LBB90_16
+	je	.LBB90_17
 	movq	104(%rsp), %r9
 	movq	96(%rsp), %rsi
 	movb	%bl, %dil
@@ -7461,12 +7462,11 @@ ic_tree_find:
 	andq	%r11, %r14
 	leaq	-1(%r14), %rbx
 	cmpq	%rdx, %rbx
-	jae	.LBB90_12
-.LBB90_9:
+	jae	.LBB90_13
 	movq	%r10, %rbx
 	movq	%r14, %r10
 	decl	%edi
-	je	.LBB90_15
+	je	.LBB90_10
 .LBB90_5:
 	movq	-8(%r8,%r10), %r15
 	leaq	(%r10,%r10,2), %r14
@@ -7476,26 +7476,32 @@ ic_tree_find:
 	andq	%r11, %r14
 	leaq	-1(%r14), %r10
 	cmpq	%rdx, %r10
-	jae	.LBB90_10
+	jae	.LBB90_11
 	movq	%rbx, %r10
-	jmp	.LBB90_9
+	movq	%r10, %rbx
+	movq	%r14, %r10
+	decl	%edi
+	jne	.LBB90_5
 .LBB90_10:
+	movl	$5, %eax
+	jmp	.LBB90_16
+.LBB90_11:
 	testq	%rbx, %rbx
-	je	.LBB90_15
+	je	.LBB90_16
 	movq	-8(%r8,%rbx), %r15
 	movq	%rbx, %r10
-.LBB90_12:
+.LBB90_13:
 	cmpq	%r15, %rsi
-	jne	.LBB90_15
+	jne	.LBB90_16
 	shrq	$3, %r10
 	leaq	(%r10,%r10,2), %rdx
 	movl	$5, %eax
 	testb	$1, -24(%rcx,%rdx,8)
-	je	.LBB90_15
+	je	.LBB90_16
 	decl	%r10d
 	movl	%r10d, (%r9)
 	xorl	%eax, %eax
-.LBB90_15:
+.LBB90_16:
 	popq	%rbx
 	popq	%rbp
 	popq	%rdi
@@ -7503,7 +7509,7 @@ ic_tree_find:
 	popq	%r14
 	popq	%r15
 	retq
-.LBB90_16:
+.LBB90_17:
 	movq	%rdx, %rcx
 	movq	%r9, %rdx
 	popq	%rbx
@@ -7840,23 +7846,23 @@ ic_tree_lower_bound:
 	testq	%r8, %r8
 	sete	%bl
 	cmpq	%rdx, %r9
-	jb	.LBB94_16
+	jb	.LBB94_17
 	movq	88(%rsp), %rax
 	movabsq	$68719476728, %r10
 	movq	(%rax), %r11
 	movl	$4, %eax
 	andq	%r10, %r11
-	je	.LBB94_15
+	je	.LBB94_16
 	movq	%r11, %r14
 	shrq	$3, %r14
 	cmpq	%rdx, %r14
-	ja	.LBB94_16
+	ja	.LBB94_17
 	movb	%bpl, %sil
 	shll	$12, %esi
 	addq	%rsi, %rcx
 	leaq	(%r14,%r14,2), %rsi
 	testb	$1, -24(%rcx,%rsi,8)
-	je	.LBB94_16
+	je	.LBB94_17
 	movq	104(%rsp), %r9
 	movq	96(%rsp), %rsi
 	movb	%bl, %dil
@@ -7872,10 +7878,10 @@ ic_tree_lower_bound:
 	andq	%r10, %r14
 	leaq	-1(%r14), %r11
 	cmpq	%rdx, %r11
-	jae	.LBB94_11
+	jae	.LBB94_12
 	movq	%r14, %r11
 	decl	%ebx
-	je	.LBB94_15
+	je	.LBB94_11
 .LBB94_5:
 	leaq	(%r11,%r11,2), %r14
 	cmpq	-8(%r8,%r11), %rsi
@@ -7890,28 +7896,30 @@ ic_tree_lower_bound:
 	movq	%r14, %r11
 	decl	%ebx
 	jne	.LBB94_5
-	jmp	.LBB94_15
+.LBB94_11:
+	movl	$5, %eax
+	jmp	.LBB94_16
 .LBB94_8:
 	shrq	$3, %r11
 	movl	$5, %eax
 	testb	$1, %r15b
-	jne	.LBB94_14
-	jmp	.LBB94_15
-.LBB94_11:
+	jne	.LBB94_15
+	jmp	.LBB94_16
+.LBB94_12:
 	testq	%rdi, %rdi
-	je	.LBB94_15
+	je	.LBB94_16
 	shrq	$3, %rdi
 	leaq	(%rdi,%rdi,2), %rax
 	movq	-24(%rcx,%rax,8), %r15
 	movq	%rdi, %r11
 	movl	$5, %eax
 	testb	$1, %r15b
-	je	.LBB94_15
-.LBB94_14:
+	je	.LBB94_16
+.LBB94_15:
 	decl	%r11d
 	movl	%r11d, (%r9)
 	xorl	%eax, %eax
-.LBB94_15:
+.LBB94_16:
 	popq	%rbx
 	popq	%rbp
 	popq	%rdi
@@ -7919,7 +7927,7 @@ ic_tree_lower_bound:
 	popq	%r14
 	popq	%r15
 	retq
-.LBB94_16:
+.LBB94_17:
 	movq	%rdx, %rcx
 	movq	%r9, %rdx
 	popq	%rbx
@@ -8694,23 +8702,23 @@ ic_tree_upper_bound:
 	testq	%r8, %r8
 	sete	%bl
 	cmpq	%rdx, %r9
-	jb	.LBB99_15
+	jb	.LBB99_16
 	movq	88(%rsp), %rax
 	movabsq	$68719476728, %r10
 	movq	(%rax), %r11
 	movl	$4, %eax
 	andq	%r10, %r11
-	je	.LBB99_14
+	je	.LBB99_15
 	movq	%r11, %r14
 	shrq	$3, %r14
 	cmpq	%rdx, %r14
-	ja	.LBB99_15
+	ja	.LBB99_16
 	movb	%bpl, %sil
 	shll	$12, %esi
 	addq	%rsi, %rcx
 	leaq	(%r14,%r14,2), %rsi
 	testb	$1, -24(%rcx,%rsi,8)
-	je	.LBB99_15
+	je	.LBB99_16
 	movq	104(%rsp), %r9
 	movq	96(%rsp), %rsi
 	movb	%bl, %dil
@@ -8738,32 +8746,34 @@ ic_tree_upper_bound:
 	andq	%r10, %r15
 	leaq	-1(%r15), %rdi
 	cmpq	%rdx, %rdi
-	jae	.LBB99_16
+	jae	.LBB99_17
 	movq	%r11, %rdi
 	movq	%r15, %r11
 	decl	%ebx
 	jne	.LBB99_5
-	jmp	.LBB99_14
-.LBB99_16:
+.LBB99_14:
+	movl	$5, %eax
+	jmp	.LBB99_15
+.LBB99_17:
 	shrq	$3, %r11
 	movl	$5, %eax
 	testb	$1, -24(%rcx,%r14)
 	jne	.LBB99_10
-	jmp	.LBB99_14
+	jmp	.LBB99_15
 .LBB99_7:
 	testq	%rdi, %rdi
-	je	.LBB99_14
+	je	.LBB99_15
 	leaq	(%rdi,%rdi,2), %r14
 	shrq	$3, %rdi
 	movq	%rdi, %r11
 	movl	$5, %eax
 	testb	$1, -24(%rcx,%r14)
-	je	.LBB99_14
+	je	.LBB99_15
 .LBB99_10:
 	decl	%r11d
 	movl	%r11d, (%r9)
 	xorl	%eax, %eax
-.LBB99_14:
+.LBB99_15:
 	popq	%rbx
 	popq	%rbp
 	popq	%rdi
@@ -8771,7 +8781,7 @@ ic_tree_upper_bound:
 	popq	%r14
 	popq	%r15
 	retq
-.LBB99_15:
+.LBB99_16:
 	movq	%rdx, %rcx
 	movq	%r9, %rdx
 	popq	%rbx

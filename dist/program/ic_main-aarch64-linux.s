@@ -2416,8 +2416,8 @@ ic_main.run.fd625e2fe7ce0436:
 	mov	w1, #65536
 	bl	pthread_attr_setguardsize
 	cbnz	w0, .LBB0_468
-	adrp	x2, core.scope.entry.7e1ed12227098c65.thread.called.by.C.0
-	add	x2, x2, :lo12:core.scope.entry.7e1ed12227098c65.thread.called.by.C.0
+	adrp	x2, core.scope.entry.df3fbde12518f1f6.thread.called.by.C.0
+	add	x2, x2, :lo12:core.scope.entry.df3fbde12518f1f6.thread.called.by.C.0
 	sub	x1, x29, #160
 	mov	x0, x25
 	mov	x3, x25
@@ -28222,10 +28222,10 @@ main:
 	b	.LBB84_7
 .Lfunc_end84:
 	.size	main, .Lfunc_end84-main
-	.section	.text.core.scope.entry.7e1ed12227098c65.thread.called.by.C.0,"ax",@progbits
+	.section	.text.core.scope.entry.df3fbde12518f1f6.thread.called.by.C.0,"ax",@progbits
 	.p2align	2
-	.type	core.scope.entry.7e1ed12227098c65.thread.called.by.C.0,@function
-core.scope.entry.7e1ed12227098c65.thread.called.by.C.0:
+	.type	core.scope.entry.df3fbde12518f1f6.thread.called.by.C.0,@function
+core.scope.entry.df3fbde12518f1f6.thread.called.by.C.0:
 	sub	sp, sp, #144
 	stp	x20, x19, [sp, #128]
 	mov	x20, x0
@@ -28340,7 +28340,7 @@ core.scope.entry.7e1ed12227098c65.thread.called.by.C.0:
 	add	sp, sp, #144
 	ret
 .Lfunc_end85:
-	.size	core.scope.entry.7e1ed12227098c65.thread.called.by.C.0, .Lfunc_end85-core.scope.entry.7e1ed12227098c65.thread.called.by.C.0
+	.size	core.scope.entry.df3fbde12518f1f6.thread.called.by.C.0, .Lfunc_end85-core.scope.entry.df3fbde12518f1f6.thread.called.by.C.0
 	.type	.Lstatic.0,@object
 	.section	.bss..Lstatic.0,"aw",@nobits
 	.p2align	2, 0x0

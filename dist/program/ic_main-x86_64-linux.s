@@ -2520,7 +2520,7 @@ ic_main.run.fd625e2fe7ce0436:
 	callq	pthread_attr_setguardsize@PLT
 	testl	%eax, %eax
 	jne	.LBB0_509
-	leaq	core.scope.entry.7e1ed12227098c65.thread.called.by.C.0(%rip), %rdx
+	leaq	core.scope.entry.df3fbde12518f1f6.thread.called.by.C.0(%rip), %rdx
 	leaq	144(%rsp), %rbp
 	movq	%r15, %rdi
 	movq	%rbp, %rsi
@@ -29934,10 +29934,10 @@ main:
 	jmp	.LBB83_9
 .Lfunc_end83:
 	.size	main, .Lfunc_end83-main
-	.section	.text.core.scope.entry.7e1ed12227098c65.thread.called.by.C.0,"ax",@progbits
+	.section	.text.core.scope.entry.df3fbde12518f1f6.thread.called.by.C.0,"ax",@progbits
 	.p2align	4
-	.type	core.scope.entry.7e1ed12227098c65.thread.called.by.C.0,@function
-core.scope.entry.7e1ed12227098c65.thread.called.by.C.0:
+	.type	core.scope.entry.df3fbde12518f1f6.thread.called.by.C.0,@function
+core.scope.entry.df3fbde12518f1f6.thread.called.by.C.0:
 	pushq	%r15
 	pushq	%r14
 	pushq	%r13
@@ -30049,7 +30049,7 @@ core.scope.entry.7e1ed12227098c65.thread.called.by.C.0:
 	popq	%r15
 	retq
 .Lfunc_end84:
-	.size	core.scope.entry.7e1ed12227098c65.thread.called.by.C.0, .Lfunc_end84-core.scope.entry.7e1ed12227098c65.thread.called.by.C.0
+	.size	core.scope.entry.df3fbde12518f1f6.thread.called.by.C.0, .Lfunc_end84-core.scope.entry.df3fbde12518f1f6.thread.called.by.C.0
 	.type	.Lstatic.0,@object
 	.section	.bss..Lstatic.0,"aw",@nobits
 .Lstatic.0:
