@@ -8,6 +8,7 @@ import re
 
 import call_table
 from call_table import OUT
+from call_handles import renamed
 from call_texts import SELF, STRUCTS, c_arguments, camel, outcome, short
 
 # How many places each table of links has. Rings share that of the lists, and hash tables that of the singly linked lists.
@@ -79,6 +80,54 @@ def c_walk(of):
     return f"IC_{of.upper()}_FOREACH(place, {', '.join(c_links(of))}, {head}) see(place);"
 
 
+# ---- C by handles ----
+
+
+def handle(of, index):
+    """A handle as a compound literal."""
+    head = {"ring": "", "hash": "&buckets[bucket_from[n[0]]], bucket_count[n[0]], {keys, key_count(n[0])}"}.get(of)
+    head = f"&{HEADS[of]}[n[{index}]]" if head is None else head
+    keys = ", {keys, key_count(n[0])}" if of == "tree" else ""
+    return f"((struct ic_{of}_in){{{', '.join(filter(None, [*c_links(of), head]))}{keys}}})"
+
+
+def handle_call(call):
+    """The call of ic_in.h, whose arguments are those of the line."""
+    at, types = arguments(call), {arg.name: arg.type for arg in call.args}
+    kind = next((STRUCTS[arg.type] for arg in call.args if arg.name == "rest"), "")
+    rest = f"((struct ic_{call.family}_in){{{', '.join(c_links(call.family))}, &rest}})"
+    fixed = {"members": "&out.members", "rest": rest * bool(kind), "keys": "((struct ic_keys){keys, key_count(n[0])})" * (call.family == "list")}
+    fixed.update({name: "&out.place" for name in OUT if name != "members"})
+    of = lambda name: handle(call.family, at[name]) if name == "given" else "(uint32_t)" * (types[name] == "u32") + f"n[{at[name]}]"
+    left = {"table", "buckets", *SELF, *({"keys"} if call.family != "list" else ())}
+    words = [fixed.get(arg.name) or of(arg.name) for arg in call.args if arg.name not in left]
+    return f"{renamed(call.name)}({', '.join([handle(call.family, 0), *words])})"
+
+
+def handle_body(call):
+    made, out = handle_call(call), outcome(call)
+    if out == "rest":
+        return c_split(call, made)
+    return f"HANDED_OUT({made}, out.{'members' if out == 'members' else 'place'});" if out else f"answer({made});"
+
+
+def handle_read(name, places):
+    kind = "is" if "_is_" in name else "place"
+    words = [handle_of_table(family(name)), *(f"(uint32_t)n[{at}]" for at in range(len(places)))]
+    return f"answer_{kind}({renamed(name)}({', '.join(words)}));"
+
+
+def handle_of_table(of):
+    """A handle whose list nobody reads."""
+    return f"((struct ic_{of}_in){{{', '.join(c_links(of))}{'' if of == 'ring' else ', 0'}{', 0, {0, 0}' if of == 'hash' else ', {0, 0}' if of == 'tree' else ''}}})"
+
+
+def handle_walk(of):
+    head = {"ring": ", (uint32_t)n[0]", "hash": ", n[1]"}.get(of, "")
+    made = f"struct ic_{of}_in in = {handle(of, 0)};"
+    return f"{{ {made} IC_{of.upper()}_IN_FOREACH(place, in{head}) see(place); }}"
+
+
 # ---- C++ ----
 
 
@@ -113,6 +162,7 @@ def cpp_walk(of):
     return f"for (uint32_t place : {view(of, f'{HEADS.get(of)}[n[0]]')}{made}) see(place);"
 
 
+HANDLE_HEAD = '#include "ic_in.h"\n'
 CPP_HEAD = """#include "ic.hpp"
 static inline void answer(ic::status status) { answer(static_cast<uint32_t>(status)); }
 template <class Number>
@@ -120,14 +170,15 @@ static inline void answer(std::optional<Number> number) { answer_number(number ?
 """
 
 
-def c_file(calls, is_cpp):
-    """The header made.h."""
-    body, walk = (cpp_body, cpp_walk) if is_cpp else (c_body, c_walk)
+def c_file(calls, language):
+    """The header made.h, for C, for C by handles, or for C++, whose views are not asked for the reads."""
+    body, read, walk, begin = {"C": (c_body, c_read, c_walk, ""), "C by handles": (handle_body, handle_read, handle_walk, HANDLE_HEAD),
+                               "C++": (cpp_body, c_read, cpp_walk, CPP_HEAD)}[language]
     cases = {call.name: body(call) for call in calls}
-    cases.update({name: c_read(name, places) for name, places in reads().items()})
+    cases.update({name: read(name, places) for name, places in reads().items()})
     cases.update({f"walk_{of}": f'{walk(of)} puts("");' for of in TABLES})
     lines = [f'    if (strcmp(name, "{name}") == 0) {{ {line} return 1; }}\n' for name, line in cases.items()]
-    return CPP_HEAD * is_cpp + f"static int play(const char *name, const uint64_t *n) {{\n{''.join(lines)}    return 0;\n}}\n"
+    return begin + f"static int play(const char *name, const uint64_t *n) {{\n{''.join(lines)}    return 0;\n}}\n"
 
 
 # ---- Rust ----

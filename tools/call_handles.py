@@ -1,0 +1,75 @@
+"""What include/ic_in.h has: each call, read and loop of include/ic.h over a handle in place of the table, its length and the list."""
+
+import re
+import textwrap
+
+from languages import HEADER, c_family, c_items
+
+# What a handle has of the arguments of a call, by the name of the argument. A ring's head is a place, and is handed as before.
+PARTS = {"table": "table", "places": "places", "list": "list", "tree": "tree", "buckets": "buckets", "bucket_count": "bucket_count",
+         "keys": "keys.keys", "key_count": "keys.count"}
+OTHERS = ("given", "rest")
+SIGNATURE = re.compile(r"(\w+) (ic_\w+)\((.*)\);")
+WIDTH = 142
+
+
+def renamed(name):
+    return re.sub(r"^((?:ic|IC)_[A-Za-z]+_)", lambda it: it[1] + ("in_" if it[1].islower() else "IN_"), name)
+
+
+def handed(family, arguments):
+    """The parameters of a function over a handle, and what it hands to the call: `keys` of a list are an argument of their own."""
+    params, words = [f"struct ic_{family}_in in"], []
+    for argument in arguments:
+        kind, name = re.match(r"(.*?[ *])(\w+)$", argument).groups()
+        if name in OTHERS:
+            params.append(f"struct ic_{family}_in {name}")
+            words.append(f"{name}.list")
+        elif name in ("keys", "key_count") and family == "list":
+            params += ["struct ic_keys keys"] * (name == "keys")
+            words.append(PARTS[name])
+        elif name in PARTS:
+            words.append(f"in.{PARTS[name]}")
+        else:
+            params.append(f"{kind}{name}")
+            words.append(name)
+    return params, words
+
+
+def function(family, item, is_refused):
+    """The function of a call or a read. A second list has to be another one of the same table."""
+    result, name, arguments = SIGNATURE.match(item.signature).groups()
+    params, words = handed(family, re.split(r", ", arguments))
+    other = next((it for it in OTHERS if f"struct ic_{family}_in {it}" in params), None)
+    head = f"static inline {result} {renamed(name)}("
+    lines = textwrap.wrap(", ".join(params), WIDTH - len(head) - 3)
+    text = "IC_NODISCARD\n" * is_refused + head + ("\n" + " " * len(head)).join(lines) + ") {\n"
+    if other:
+        text += f"    if ({other}.table != in.table || {other}.list == in.list)\n        return IC_BROKEN;\n"
+    return text + f"    return {name}({', '.join(words)});\n}}\n"
+
+
+def loop(item):
+    """The macro of a loop."""
+    name, arguments = re.match(r"(\w+)\((.*)\)", item.signature).groups()
+    names = arguments.split(", ")
+    own = [it for it in names if it not in PARTS]
+    at = next(at for at, it in enumerate(names) if it in PARTS)
+    before = [it for it in names[:at] if it in own]
+    params = [*before, "in", *(it for it in names[at:] if it in own)]
+    words = [f"(in).{PARTS[it]}" if it in PARTS else it for it in names]
+    line = f"#define {renamed(name)}({', '.join(params)})"
+    body = f"{name}({', '.join(words)})"
+    return f"{line} {body}\n" if len(line) + len(body) < WIDTH else f"{line} \\\n    {body}\n"
+
+
+def handles(family):
+    """All of a family, in the order of the header."""
+    marked = set(re.findall(r"^IC_NODISCARD\n(?:static inline )?\w+ (ic_\w+)\(", HEADER.read_text(), re.M))
+    functions, loops = [], []
+    for item in c_family(family, c_items()):
+        if item.name.startswith("IC_"):
+            loops += [loop(item)] * ("_FOREACH" in item.name)
+        elif not item.name.endswith("_go_on"):
+            functions.append(function(family, item, item.name in marked))
+    return "\n".join([*functions, "".join(loops)])
