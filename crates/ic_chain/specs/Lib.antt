@@ -2,5 +2,6 @@ pub mod IntoIter
 pub mod Iter
 pub mod Laws
 pub mod LentLists
+pub mod SplitEnds
 pub mod Standing
 pub mod Walk

@@ -13,6 +13,7 @@ ghost use Rattle.ic_link_ops.specs.Tables.{IsCovered, IsLinked, IsNameable, Keep
 ghost use Rattle.ic_link_ops.specs.LinkSteps.{acquires, releases};
 ghost use Rattle.ic_link_ops.specs.Edits.{Inserts, Splices, Splits};
 ghost use Rattle.ic_link_ops.specs.Chains.{list_head, empty_list, ShowsChain, ShowsSomeChain, TurnsEnds};
+ghost use Rattle.ic_chain.specs.SplitEnds.{SplitsEnds};
 ghost use Rattle.ic_chain.specs.Walk.{IsTold};
 
 use crate::kind::{BidirectionalLinks, DoubleEnded, ForwardLinks, ListKind, SingleEnded};
@@ -487,6 +488,7 @@ impl<K: ListKind, T> Chain<K, T> {
             → IsTold K.keeps_last end behind (last t) → IsDisjoint t (join gap) → Splices (ShowsChain K.Between K.kept)
             (L.table links.old) (L.table links.new) self.new gap t }
         ensures nothing { given.head ≡ None → (self.new ≡ self.old) × (links.new ≡ links.old) }
+        ensures ends { (first : Place) → given.head ≡ Some first → TurnsEnds K.kept self.old self.new before behind (Some first) end }
         ensures no_step { L.Does links.old links.new [] }
         ensures extent { (L.table links.new).extent ≡ (L.table links.old).extent }
         ensures others { (q : Place) → before ≢ Some q → (K.NamesPrev → behind ≢ Some q) → (K.NamesPrev → given.head ≢ Some q)
@@ -522,6 +524,7 @@ impl<K: ListKind, T> Chain<K, T> {
         ensures split { (gap : Cut) → ShowsChain K.Between K.kept (L.table links.old) self.old (join gap)
             → IsAfter gap before → IsBefore gap behind → Splits (ShowsChain K.Between K.kept)
             (L.table links.old) (L.table links.new) self.new result gap.front gap.back }
+        ensures ends { SplitsEnds K.kept self.old self.new result before behind }
         ensures no_step { L.Does links.old links.new [] }
         ensures extent { (L.table links.new).extent ≡ (L.table links.old).extent }
         ensures others { (q : Place) → before ≢ Some q → (K.NamesPrev → behind ≢ Some q)

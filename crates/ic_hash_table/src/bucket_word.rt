@@ -10,7 +10,7 @@ ghost use Rattle.ic_unsafe_ref.specs.Places.{place_at, word_of};
 ghost use Rattle.ic_link_ops.specs.Tables.{IsNameable};
 ghost use Rattle.ic_link_ops.specs.Widths.{HasRoom, narrow};
 
-use ic_link_ops::{NarrowPlaceWord, PlaceWord};
+use ic_link_ops::{LinkOps, NarrowPlaceWord, PlaceWord};
 use ic_unsafe_ref::Place;
 
 /// A word that keeps the first member of a chain, or none: a bucket.
@@ -42,9 +42,9 @@ pub trait BucketWord: Drop {
     ghost word_names: { (front : Option Place) → IsNameable CanKeep front → front_of (word_for front) ≡ front };
 }
 
-/// A word that has room for every place.
-pub trait WideBucketWord: BucketWord {
-    ghost keeps_all: { (place : Place) → Self.CanKeep place };
+/// A word that has room for each place that links of this type can name.
+pub trait BucketWordFor<L: LinkOps>: BucketWord {
+    ghost keeps_named: { (place : Place) → L.CanName place → Self.CanKeep place };
 }
 
 impl BucketWord for PlaceWord {
@@ -74,8 +74,8 @@ impl BucketWord for PlaceWord {
     ghost word_names = { λ front room. refl };
 }
 
-impl WideBucketWord for PlaceWord {
-    ghost keeps_all = { λ place. tt };
+impl<L: LinkOps> BucketWordFor<L> for PlaceWord {
+    ghost keeps_named = { λ place named. tt };
 }
 
 impl BucketWord for NarrowPlaceWord {
@@ -148,8 +148,8 @@ impl BucketWord for u64 {
     ghost word_names = { λ front room. place_at_word front };
 }
 
-impl WideBucketWord for u64 {
-    ghost keeps_all = { λ place. tt };
+impl<L: LinkOps> BucketWordFor<L> for u64 {
+    ghost keeps_named = { λ place named. tt };
 }
 
 /// A plain word of 4 bytes, with the numbers of one of 8.

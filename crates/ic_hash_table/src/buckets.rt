@@ -9,7 +9,7 @@ ghost use Rattle.std.specs.Prelude.{◌≡◌, ◌<◌, None, Option, List, leng
 ghost use Rattle.ic_unsafe_ref.specs.declared.place.Place.{Place};
 ghost use Rattle.ic_link_ops.specs.Tables.{IsNameable};
 
-use crate::bucket_word::{BucketWord, WideBucketWord};
+use crate::bucket_word::{BucketWord, BucketWordFor};
 use ic_link_ops::LinkOps;
 use ic_unsafe_ref::Place;
 use std::alloc::Allocator;
@@ -50,18 +50,10 @@ pub trait BucketRow {
     ghost rewrites_count: { (a b : Self) → Rewrites a b → length (fronts b) ≡ length (fronts a) };
 }
 
-/// Buckets with room for every place.
-pub trait Buckets: BucketRow {
-    ghost keeps_all: { (place : Place) → Self.CanKeep place };
-}
-
-/// Buckets with room for each place that links of this type can name.
+/// Buckets with room for each place that links of this type can name: those of 8 bytes for any links, and those of 4 bytes for links whose
+/// words have 4 bytes.
 pub trait BucketsFor<L: LinkOps>: BucketRow {
     ghost keeps_named: { (place : Place) → L.CanName place → Self.CanKeep place };
-}
-
-impl<B: Buckets, L: LinkOps> BucketsFor<L> for B {
-    ghost keeps_named = { λ place named. B.keeps_all place };
 }
 
 impl<W: BucketWord, A: Allocator> BucketRow for Vec<W, A> {
@@ -96,8 +88,8 @@ impl<W: BucketWord, A: Allocator> BucketRow for Vec<W, A> {
     ghost rewrites_count = { λ a b r. fronts_alike W.fronts_are _ _ (rewritten_count W.front_of W.word_for a.items b.items r) };
 }
 
-impl<W: WideBucketWord, A: Allocator> Buckets for Vec<W, A> {
-    ghost keeps_all = { W.keeps_all };
+impl<L: LinkOps, W: BucketWordFor<L>, A: Allocator> BucketsFor<L> for Vec<W, A> {
+    ghost keeps_named = { W.keeps_named };
 }
 
 impl<W: BucketWord, const N: usize> BucketRow for [W; N] {
@@ -132,8 +124,8 @@ impl<W: BucketWord, const N: usize> BucketRow for [W; N] {
     ghost rewrites_count = { λ a b r. fronts_alike W.fronts_are _ _ (rewritten_count W.front_of W.word_for a b r) };
 }
 
-impl<W: WideBucketWord, const N: usize> Buckets for [W; N] {
-    ghost keeps_all = { W.keeps_all };
+impl<L: LinkOps, W: BucketWordFor<L>, const N: usize> BucketsFor<L> for [W; N] {
+    ghost keeps_named = { W.keeps_named };
 }
 
 /// Buckets that stand elsewhere, in memory that is lent, as of a file that is mapped. Whoever lends them has them back when the table is
@@ -172,6 +164,6 @@ impl<W: BucketWord> BucketRow for &mut [W] {
     ghost rewrites_count = { λ a b r. fronts_alike W.fronts_are _ _ (rewritten_count W.front_of W.word_for a.now b.now r.1) };
 }
 
-impl<W: WideBucketWord> Buckets for &mut [W] {
-    ghost keeps_all = { W.keeps_all };
+impl<L: LinkOps, W: BucketWordFor<L>> BucketsFor<L> for &mut [W] {
+    ghost keeps_named = { W.keeps_named };
 }

@@ -35,8 +35,8 @@ mod table;
 mod whole;
 
 pub use adapter::HashAdapter;
-pub use bucket_word::{BucketWord, WideBucketWord};
-pub use buckets::{BucketRow, Buckets, BucketsFor};
+pub use bucket_word::{BucketWord, BucketWordFor};
+pub use buckets::{BucketRow, BucketsFor};
 pub use entry::{Entry, OccupiedEntry, RefusedInsert, VacantEntry};
 pub use iter::Iter;
 pub use narrow_buckets::{NarrowLinks, NarrowWords};

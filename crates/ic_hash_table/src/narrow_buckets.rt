@@ -4,7 +4,7 @@ ghost use Rattle.std.specs.Prelude.{◌≡◌};
 ghost use Rattle.ic_unsafe_ref.specs.declared.place.Place.{Place};
 ghost use Rattle.ic_link_ops.specs.Widths.{HasRoom, narrow};
 
-use crate::buckets::BucketsFor;
+use crate::bucket_word::BucketWordFor;
 use ic_link_ops::{
     LentTable, LinkOps, LinkValue, NarrowPlaceWord, OneNarrowWord, PlainTable, ThreeNarrowWords,
     TwoNarrowWords, Words,
@@ -51,18 +51,10 @@ impl<W: NarrowWords, V: LinkValue> NarrowLinks for LentTable<'_, W, V> {
     ghost named_has_room = { λ place named. subst (λ w. HasRoom w place) W.is_narrow named };
 }
 
-impl<L: NarrowLinks, A: Allocator> BucketsFor<L> for Vec<NarrowPlaceWord, A> {
+impl<L: NarrowLinks> BucketWordFor<L> for NarrowPlaceWord {
     ghost keeps_named = { L.named_has_room };
 }
 
-impl<L: NarrowLinks, const N: usize> BucketsFor<L> for [NarrowPlaceWord; N] {
-    ghost keeps_named = { L.named_has_room };
-}
-
-impl<L: NarrowLinks> BucketsFor<L> for &mut [NarrowPlaceWord] {
-    ghost keeps_named = { L.named_has_room };
-}
-
-impl<L: NarrowLinks> BucketsFor<L> for &mut [u32] {
+impl<L: NarrowLinks> BucketWordFor<L> for u32 {
     ghost keeps_named = { L.named_has_room };
 }

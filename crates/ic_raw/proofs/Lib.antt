@@ -4,6 +4,7 @@ pub mod Gaps
 pub mod Faults
 pub mod Views
 pub mod Lists
+pub mod Touches
 pub mod Own
 pub mod Doubly
 pub mod Moves

@@ -6,6 +6,7 @@ pub mod Calls
 pub mod Doubly
 pub mod Singly
 pub mod Xor
+pub mod Touches
 pub mod Tree
 pub mod Seen
 pub mod Keys

@@ -3,7 +3,7 @@
 use crate::unique_keys::calls::{Answer, Call, Page, are, make};
 use ic_hash_index::{HashIndex, NarrowHashIndex};
 use ic_keyed::{Index, Keyed, NarrowTreeKeyed};
-use ic_link_ops::PlaceWord;
+use ic_link_ops::{NarrowPlaceWord, PlaceWord};
 use ic_test_support::rationed::Rationed;
 use std::alloc::{Allocator, Global};
 
@@ -114,7 +114,7 @@ fn play_new(by: By, memory: &Rationed, rows: &[Row]) -> Option<usize> {
             play(&mut pages, rows)
         }
         By::NarrowHashTable => {
-            let buckets = [PlaceWord::of(None), PlaceWord::of(None)];
+            let buckets = [NarrowPlaceWord::of(None), NarrowPlaceWord::of(None)];
             let mut pages = Keyed::with_index(memory, NarrowHashIndex::with_words(buckets));
             play(&mut pages, rows)
         }

@@ -3,7 +3,7 @@
 use crate::cache::calls::{Answer, Call, make};
 use ic_hash_index::{HashIndex, NarrowHashIndex};
 use ic_indexed::Index;
-use ic_link_ops::PlaceWord;
+use ic_link_ops::{NarrowPlaceWord, PlaceWord};
 use ic_test_support::rationed::Rationed;
 use lru_cache::{Entry, LruCache, NarrowTreeLruCache};
 use std::alloc::{Allocator, Global};
@@ -114,7 +114,7 @@ fn play_new(by: By, memory: &Rationed, capacity: usize, rows: &[Row]) -> Option<
             play(&mut cache, rows)
         }
         By::NarrowHashTable => {
-            let buckets = [PlaceWord::of(None), PlaceWord::of(None)];
+            let buckets = [NarrowPlaceWord::of(None), NarrowPlaceWord::of(None)];
             let index = NarrowHashIndex::with_words(buckets);
             let mut cache = LruCache::with_index(memory, capacity, index);
             play(&mut cache, rows)

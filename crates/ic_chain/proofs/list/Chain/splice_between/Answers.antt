@@ -1,10 +1,16 @@
-use Rattle.std.proofs.Common.{[], ◌∷◌, Some, ◌++◌, ◌∙◌, sym, ap, refl, drop, ◌≡◌}
-use Rattle.ic_link_ops.specs.Chains.{ListHead, list_head, ShowsChain}
+use Rattle.std.proofs.Common.{[], ◌∷◌, Option, Some, ◌++◌, ◌∙◌, sym, ap, refl, drop, ◌≡◌}
+use Rattle.ic_unsafe_ref.specs.declared.place.Place.{Place}
+use Rattle.ic_link_ops.specs.Chains.{ListHead, list_head, ShowsChain, TurnsEnds, end_of}
 use Rattle.ic_link_ops.proofs.SequenceLemmas.{gap_not, absent_left, absent_right, absent_both}
 use Rattle.ic_link_ops.proofs.ShownLists.{shows_splice, shows_first, ends_not}
 use Rattle.ic_link_ops.proofs.Naming.{end_named}
 use Rattle.ic_chain.proofs.Walking.{told_some, told_none, turned_nowhere, turned_to_none}
 use Rattle.ic_chain.proofs.list.Chain.splice_between.Goals as goal
+
+-- a list's own words, by the first member that was spliced in
+begins_alike : {W : Type 0} {kept : Option Place → W} {old new : ListHead W} {before behind begins first end : Option Place} → begins ≡ first
+    → TurnsEnds kept old new before behind begins end → TurnsEnds kept old new before behind first end
+begins_alike {old = old} {before = before} same turns = record { head = turns.head ∙ ap (λ f. end_of before f old.head) same; tail = turns.tail }
 
 pub set_prev_or_tail-requires-clause-linked : goal.set_prev_or_tail-requires-clause-linked
 set_prev_or_tail-requires-clause-linked g c names q e = g.met.L.LinkOps.does_replay _ _ [] c.set_next_or_head.ensures.no_step q ∙ c.requires.behind names q e
@@ -60,6 +66,10 @@ returns-in-Some-end-clause-no_step g c =
     L.does_on _ _ _ _ _ (L.does_on _ _ _ _ _ (L.does_on _ _ _ _ _ c.set_next_or_head.ensures.no_step c.set_prev_or_tail.ensures.no_step) c.set_prev.ensures.no_step)
     c.set_next.ensures.no_step
 
+pub returns-in-Some-end-clause-ends : goal.returns-in-Some-end-clause-ends
+returns-in-Some-end-clause-ends g c first is =
+    begins_alike (sym c.in-Some.is ∙ c.first.ensures ∙ is) (rw (← c.self.view_is) (record { head = c.set_next_or_head.ensures.head; tail = c.set_prev_or_tail.ensures.tail }))
+
 -- no last member is told: the kind keeps none, and nothing stands behind
 pub returns-clause-spliced : goal.returns-clause-spliced
 returns-clause-spliced g c gap t shown before behind other told apart =
@@ -90,3 +100,7 @@ pub returns-clause-no_step : goal.returns-clause-no_step
 returns-clause-no_step g c =
     let L = g.met.L.LinkOps in
     L.does_on _ _ _ _ _ (L.does_on _ _ _ _ _ c.set_next_or_head.ensures.no_step c.set_prev_or_tail.ensures.no_step) c.set_prev.ensures.no_step
+
+pub returns-clause-ends : goal.returns-clause-ends
+returns-clause-ends g c first is =
+    begins_alike (sym c.in-Some.is ∙ c.first.ensures ∙ is) (rw (← c.self.view_is) (record { head = c.set_next_or_head.ensures.head; tail = c.set_prev_or_tail.ensures.tail }))

@@ -31,3 +31,12 @@ returns-clause-split g c gap shown before behind =
 
 pub returns-clause-no_step : goal.returns-clause-no_step
 returns-clause-no_step g c = g.met.L.LinkOps.does_on _ _ _ _ _ c.set_next_or_head.ensures.no_step c.set_prev_or_tail.ensures.no_step
+
+pub returns-clause-ends : goal.returns-clause-ends
+returns-clause-ends g c =
+    rw (← c.self.view_is) (record {
+      head = c.set_next_or_head.ensures.head;
+      tail = c.replace.ensures.after ∙ c.keep.ensures;
+      rest_head = c.of.ensures;
+      rest_tail = λ last is. c.replace.ensures.value ∙ c.set_prev_or_tail.ensures.tail last is;
+    })

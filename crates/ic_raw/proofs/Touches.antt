@@ -1,0 +1,86 @@
+-- What an edit touches follows of what its parts change: the link that is acquired or released, and the neighbors that are turned.
+use Rattle.std.proofs.Common.{◌≡◌, ◌≢◌, Bool, Option, Some, List, [], ◌∷◌, ◌++◌, sym, ap, ◌∙◌}
+use Rattle.ic_unsafe_ref.specs.declared.place.Place.{Place}
+use Rattle.ic_link_ops.specs.Tables.{Table, ChangesOnly, IsLinked, KeepsLinked, LinksAlso, Unlinks}
+use Rattle.ic_link_ops.specs.LinkSteps.{LinkStep, acquires, releases}
+use Rattle.ic_link_ops.specs.StepLaws.{replays_within}
+use Rattle.ic_link_ops.specs.PlainTables.{table_of}
+use Rattle.ic_raw.specs.declared.table.RawTable.{RawTable}
+use Rattle.ic_raw.specs.Tables.{IsFree, raw_entries, raw_table}
+use Rattle.ic_raw.specs.Touches.{IsNoneOf, Touches}
+
+-- two places differ where their ends do
+other_place : {p q : Place} → (Some p ≢ Some q) → q ≢ p
+other_place away same = away (ap (λ x. Some x) (sym same))
+
+module _ {E : Type 0} {linked : E → Bool} where
+  -- a place is linked, and then entries change that say the same of links
+  pub links_first : {old mid new : Table E} {p : Place} → IsFree linked old p → IsLinked linked mid p → ChangesOnly old mid p → KeepsLinked linked mid new
+      → LinksAlso linked old new p
+  links_first free is only keeps = record { was = free.unlinked; is = keeps _ ∙ is; others = λ q n. keeps q ∙ ap linked (only.others q n) }
+
+  -- entries change that say the same of links, and then a place is unlinked
+  pub unlinks_last : {old mid new : Table E} {p : Place} → KeepsLinked linked old mid → Unlinks linked mid new p → Unlinks linked old new p
+  unlinks_last keeps off = record { was = sym (keeps _) ∙ off.was; is = off.is; others = λ q n. off.others q n ∙ keeps q }
+
+  -- `Names`: entries of the kind say what stands in front of their places
+  module _ {Names : Type 0} {old mid new : Table E} {before behind : Option Place} where
+    -- INSERT: p is linked, and then put between its neighbors
+    pub touches_insert : {p : Place} → IsFree linked old p → IsLinked linked mid p → ChangesOnly old mid p → KeepsLinked linked mid new
+        → ((q : Place) → before ≢ Some q → q ≢ p → (Names → behind ≢ Some q) → new.entry q ≡ mid.entry q)
+        → Touches linked old new (acquires p ∷ []) (Some p ∷ before ∷ behind ∷ [])
+    touches_insert free is only keeps others = record {
+      steps_are = links_first free is only keeps;
+      others = λ q out. let away = other_place out.0 in others q out.1.0 away (λ _. out.1.1.0) ∙ only.others q away;
+    }
+
+    -- REMOVE: the neighbors of p are turned to each other, and then p is unlinked
+    pub touches_remove : {p : Place} → KeepsLinked linked old mid → ((q : Place) → before ≢ Some q → (Names → behind ≢ Some q) → mid.entry q ≡ old.entry q)
+        → Unlinks linked mid new p → ChangesOnly mid new p → Touches linked old new (releases p ∷ []) (Some p ∷ before ∷ behind ∷ [])
+    touches_remove keeps others off only = record {
+      steps_are = unlinks_last keeps off;
+      others = λ q out. only.others q (other_place out.0) ∙ others q out.1.0 (λ _. out.1.1.0);
+    }
+
+    -- SPLIT: both sides of a gap are turned to none
+    pub touches_split : KeepsLinked linked old new → ((q : Place) → before ≢ Some q → (Names → behind ≢ Some q) → new.entry q ≡ old.entry q)
+        → Touches linked old new [] (before ∷ behind ∷ [])
+    touches_split keeps others = record { steps_are = keeps; others = λ q out. others q out.0 (λ _. out.1.0) }
+
+    -- SPLICE: both sides of a gap, and both ends of what goes in, are turned to each other
+    pub touches_splice : {head end : Option Place} → KeepsLinked linked old new
+        → ((q : Place) → before ≢ Some q → (Names → behind ≢ Some q) → (Names → head ≢ Some q) → end ≢ Some q → new.entry q ≡ old.entry q)
+        → Touches linked old new [] (before ∷ behind ∷ head ∷ end ∷ [])
+    touches_splice keeps others = record { steps_are = keeps; others = λ q out. others q out.0 (λ _. out.1.0) (λ _. out.1.1.0) out.1.1.1.0 }
+
+    -- MOVE: the neighbors of p are turned to each other, and then p is put between two others
+    pub touches_move : {p : Place} {ahead after : Option Place} → KeepsLinked linked old mid → KeepsLinked linked mid new
+        → ((q : Place) → before ≢ Some q → (Names → behind ≢ Some q) → mid.entry q ≡ old.entry q)
+        → ((q : Place) → ahead ≢ Some q → q ≢ p → (Names → after ≢ Some q) → new.entry q ≡ mid.entry q)
+        → Touches linked old new [] (Some p ∷ before ∷ behind ∷ ahead ∷ after ∷ [])
+    touches_move off on others others' = record {
+      steps_are = λ q. on q ∙ off q;
+      others = λ q out. others' q out.1.1.1.0 (other_place out.0) (λ _. out.1.1.1.1.0) ∙ others q out.1.0 (λ _. out.1.1.0);
+    }
+
+  -- REPLACE: p is linked, put between the neighbors of `gone`, and that one is unlinked
+  pub touches_replace : {Names : Type 0} {old mid turned new : Table E} {before behind : Option Place} {p gone : Place} → IsFree linked old p → IsLinked linked mid p
+      → ChangesOnly old mid p → KeepsLinked linked mid turned
+      → ((q : Place) → before ≢ Some q → q ≢ p → (Names → behind ≢ Some q) → turned.entry q ≡ mid.entry q)
+      → Unlinks linked turned new gone → ChangesOnly turned new gone
+      → Touches linked old new (acquires p ∷ releases gone ∷ []) (Some p ∷ Some gone ∷ before ∷ behind ∷ [])
+  touches_replace {turned} free is only keeps others off gone_only = record {
+    steps_are = (turned, links_first free is only keeps, off);
+    others = λ q out.
+        let away = other_place out.0 in
+        gone_only.others q (other_place out.1.0) ∙ others q out.1.1.0 away (λ _. out.1.1.1.0) ∙ only.others q away;
+  }
+
+  -- what a view of words touches is touched among the words
+  pub touched_back : {unlinked : E} (a b : RawTable E) {es fs : List E} {steps : List LinkStep} {places places' : List (Option Place)} → raw_entries a ≡ es → fs ≡ raw_entries b
+      → places' ≡ places → Touches linked (raw_table unlinked a) (raw_table unlinked b) steps places
+      → Touches linked (table_of unlinked es) (table_of unlinked fs) steps places'
+  touched_back {unlinked} a b {steps} {places} e f same touched =
+      let back : Touches linked (table_of unlinked (raw_entries a)) (table_of unlinked (raw_entries b)) steps places =
+      record { steps_are = replays_within linked _ _ steps _ _ touched.steps_are; others = touched.others } in
+      rw (← e, f, same) back
