@@ -165,9 +165,9 @@ impl Way {
     }
 }
 
-// Goes down from the root to the gap to which the key sends, past equal ones to this side. [`RBTree::search`](ic_rbtree::RBTree::search) does
-// so for any probe, and keeps the last equal member as well, which takes more instructions a look. It is `None` if the way is longer than that of
-// any tree.
+// Goes down from the root to the gap to which the key sends, past equal ones to this side. [`RBTree::descend`](ic_rbtree::RBTree::descend)
+// does so for any probe in a table that shows the tree, and keeps the last equal member as well, which takes more instructions a look. It is `None`
+// if the way is longer than that of any tree.
 #[inline]
 fn descend(
     links: &RawTable<'_, RawThree>,

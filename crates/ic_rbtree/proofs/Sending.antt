@@ -24,7 +24,6 @@ use Rattle.ic_rbtree.specs.declared.keys.descent.Descent.{Descent}
 use Rattle.ic_rbtree.specs.declared.keys.key_adapter.Bound.{Bound}
 use Rattle.ic_rbtree.specs.declared.keys.key_adapter.Bound.TheVariants.{Included, Excluded, Unbounded}
 use Rattle.ic_rbtree.specs.Borders.{IsBorder, equal_at, at_most_at, if_passes, Finds, IsLowerBorder, IsUpperBorder}
-use Rattle.ic_rbtree.specs.Closed.{IsIn}
 use Rattle.ic_rbtree.specs.Comparing.{Looks, compared, goes_left, meets_lower, is_beyond, order_of}
 use Rattle.ic_rbtree.specs.Descents.{side_of, gap_in, SendsPast, passed, at_root, last_equal, is_last, is_equal, equal_there, EndsAt}
 use Rattle.ic_rbtree.specs.declared.keys.entry.InsertCursor.{InsertCursor}
@@ -41,15 +40,6 @@ use Rattle.ic_rbtree.proofs.Gaps.{gap_join, gap_border, gap_same, gap_all, gap_n
 use Rattle.ic_rbtree.proofs.Heights.{looks_few, looks_fewer}
 use Rattle.ic_rbtree.proofs.Nearest.{nearest_frame}
 use Rattle.ic_rbtree.proofs.Removing.{order_around, stands_of}
-
--- past a member, the descent is on the side that the comparison tells, below the member
-pub passed_side : {A : Type 0} (d : Descent) {d' : Descent} (p : Place) (left : Bool) (equal : Bool) (f : Side → A) → d' ≡ passed d p left equal → f d'.side ≡ f (side_of left)
-passed_side d p true equal f is = ap (λ (z : Descent). f z.side) is
-passed_side d p false equal f is = ap (λ (z : Descent). f z.side) is
-
-pub passed_parent : (S : Place → Bool) (d : Descent) {d' : Descent} {p : Place} (equal : Bool) → S p ≡ true → (left : Bool) → d' ≡ passed d p left equal → IsIn S d'.parent
-passed_parent S d equal here true is = subst (λ (z : Descent). IsIn S z.parent) (sym is) here
-passed_parent S d equal here false is = subst (λ (z : Descent). IsIn S z.parent) (sym is) here
 
 -- a gap of a subtree, seen from above the frames
 abbrev pub gap_around : List Frame → Cut → Cut

@@ -1,7 +1,6 @@
 -- Links that lead out of no set of places: what an edit's safety asks, whatever the words say else.
 use Rattle.std.specs.Prelude.{◌≡◌, Bool, true, Option, Some, None, List, [], ◌∷◌}
 use Rattle.ic_unsafe_ref.specs.declared.place.Place.{Place}
-use Rattle.ic_unsafe_ref.specs.Objects.{Objects, is_placed}
 use Rattle.ic_link_ops.specs.Tables.{Table}
 use Rattle.ic_link_ops.specs.RedBlackTree.{Node}
 
@@ -43,10 +42,6 @@ module _ {E : Type 0} (n : E → Node) where
   -- some closed set has these ends
   abbrev pub IsSafe : Table E → Option Place → List (Option Place) → Type 0
   IsSafe v root ends = (S : Place → Bool) × IsClosed v root S × AreIn S ends
-
-  -- some closed set has a value at each of its places
-  abbrev pub IsSafeWith : {V : Type 0} → Table E → Option Place → Objects V → Type 0
-  IsSafeWith v root values = (S : Place → Bool) × IsClosed v root S × ((p : Place) → S p ≡ true → is_placed values p ≡ true)
 
   -- some set that is closed but at p has them
   abbrev pub IsSafeBut : Table E → Option Place → Place → List (Option Place) → Type 0

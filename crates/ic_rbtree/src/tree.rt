@@ -11,7 +11,7 @@ ghost use Rattle.ic_link_ops.specs.Frames.{across};
 ghost use Rattle.ic_link_ops.specs.PlacedObjects.{ShowsPlaced};
 ghost use Rattle.ic_link_ops.specs.RedBlackTree.{Shows, ShowsSome};
 ghost use Rattle.ic_link_ops.specs.Sequences.{Cut, join, insert, IsDistinct};
-ghost use Rattle.ic_rbtree.specs.Closed.{IsIn, IsClosed, IsSafe, IsSafeBut, IsSafeWith, StaysClosed, ClosesAt, KeepsNodes};
+ghost use Rattle.ic_rbtree.specs.Closed.{IsIn, IsClosed, IsSafe, IsSafeBut, StaysClosed, ClosesAt, KeepsNodes};
 ghost use Rattle.ic_rbtree.specs.Comparing.{compared, HasRoom, Looks};
 ghost use Rattle.ic_rbtree.specs.Descents.{EndsAt};
 ghost use Rattle.ic_rbtree.specs.Insertion.{Attaches};
@@ -24,7 +24,7 @@ use crate::Probe;
 use crate::head::{Root, TreeHead, WithEnds};
 use crate::keys::descent::{Descent, descend};
 use crate::nodes::Nodes;
-use crate::within::{descend_within, step_within};
+use crate::within::step_within;
 use ic_link_ops::Side;
 use ic_link_ops::rbtree::RBTreeOps;
 use ic_unsafe_ref::{Place, Values};
@@ -236,29 +236,6 @@ impl<A, E: TreeHead> RBTree<A, E> {
 
     /// Goes down from the root to the gap to which a probe sends: behind the members that are less than what is searched, in front of
     /// those that are greater, and past equal ones to the side `equals`.
-    ///
-    /// It requires a closed set with a value at each of its places, and that the probe's count is at most `u64::MAX - 66`. It ends
-    /// whatever the words say. O(log n): v looks in a tree of n members, where `2^v <= (n + 1)^2`.
-    #[inline]
-    pub fn search<N: Nodes, V, P: Probe<V>, O: Values<V>>(
-        &self,
-        nodes: &N,
-        values: &O,
-        probe: &mut P,
-        equals: Side,
-    ) -> Descent
-        requires safe { IsSafeWith N.node (N.table nodes.now) (root_in E.kept self.now) (O.values values.now) }
-        requires room { HasRoom (P.count probe.old) }
-        ensures ends { (s : List Place) (h : Shows N.node (N.table nodes.now) (root_in E.kept self.now) s)
-            → EndsAt N.node (N.table nodes.now) (compared (P.order probe.old) (O.values values.now)) equals h.tree result }
-        ensures looks { (s : List Place) → Shows N.node (N.table nodes.now) (root_in E.kept self.now) s
-            → Looks P.order P.count probe.old probe.new s }
-        ensures safe { (S : Place → Bool) → IsClosed N.node (N.table nodes.now) (root_in E.kept self.now) S → IsIn S result.parent }
-    {
-        descend_within(nodes, self.head.root(), values, probe, equals)
-    }
-
-    /// As [`search`](Self::search), in a table that shows a sequence for the tree: it counts no turns, and so is faster.
     ///
     /// It requires that an object stands at each member, and that the probe's count is at most `u64::MAX - 66`. O(log n): v looks in a
     /// tree of n members, where `2^v <= (n + 1)^2`, and `2^(v + 1) <= (n + 1)^2` where n is at least 1.

@@ -1,4 +1,4 @@
-use Rattle.std.proofs.Common.{sym, ◌∙◌, arith}
+use Rattle.std.proofs.Common.{[], ◌∷◌, sym, ◌∙◌, arith}
 use Rattle.ic_link_ops.proofs.Walks.{is_end_yes, is_end_no}
 use Rattle.ic_rbtree.proofs.Closed.{in_there, in_parent}
 use Rattle.ic_rbtree.proofs.Outermost.{up_starts, up_ends, step_up, no_more_up}
@@ -12,6 +12,7 @@ pub loop-parent-init : goal.loop-parent-init
 loop-parent-init g c = record {
   parent = c.parent-parent.ensures;
   each = λ base root fs t ps s e. (fs, t, up_starts g.N.Nodes.node fs t s e, omega arith);
+  ended = λ e. e;
   safe = λ root S h i. i;
 }
 
@@ -46,6 +47,10 @@ returns-then-turns-eq0-clause-nearest g c base root fs t ps s e low =
     let i = c.loop-parent.invariant.each base root fs t ps s e in
     absurd (omega (arith, i.3, length_frames_height fs t, low, c.if-turns-eq0.true))
 
+pub returns-then-turns-eq0-clause-safe : goal.returns-then-turns-eq0-clause-safe
+returns-then-turns-eq0-clause-safe g c root S h i =
+    (h, (in_there S (in_parent g.N.Nodes.node h c.loop-parent.place (c.loop-parent.invariant.safe root S h i.0) c.loop-parent.invariant.parent) c.in-Some.is, tt))
+
 pub loop-parent-preserved : goal.loop-parent-preserved
 loop-parent-preserved g c = record {
   parent = c.parent-parent-in-Some.ensures;
@@ -53,6 +58,10 @@ loop-parent-preserved g c = record {
       let i = c.loop-parent.invariant.each base root fs t ps s e in
       let u = step_up g.N.Nodes.node fs i.0 i.1 i.2 (sym c.loop-parent.invariant.parent ∙ c.in-Some.is) (is_end_yes _ c.loop-parent.place (sym c.if-not-is_child.ensures)) in
       (u.0, u.1, u.2, omega (arith, u.3, i.3, c.if-turns-eq0.false));
+  ended = λ e. c.loop-parent.invariant.ended (
+    c.in-Some.above ∷ e.0,
+    (sym c.loop-parent.invariant.parent ∙ c.in-Some.is, is_end_yes _ c.loop-parent.place (sym c.if-not-is_child.ensures), e.1),
+  );
   safe = λ root S h i. in_there S (in_parent g.N.Nodes.node h c.loop-parent.place (c.loop-parent.invariant.safe root S h i) c.loop-parent.invariant.parent) c.in-Some.is;
 }
 
@@ -60,3 +69,6 @@ pub returns-clause-nearest : goal.returns-clause-nearest
 returns-clause-nearest g c base root fs t ps s e low =
     let i = c.loop-parent.invariant.each base root fs t ps s e in
     no_more_up g.N.Nodes.node fs i.0 i.1 i.2 (sym c.loop-parent.invariant.parent ∙ c.in_default.is)
+
+pub returns-clause-ended : goal.returns-clause-ended
+returns-clause-ended g c none = c.loop-parent.invariant.ended ([], sym c.loop-parent.invariant.parent ∙ c.in_default.is)

@@ -4,6 +4,7 @@ use Rattle.ic_link_ops.specs.RedBlackTree.{node_at}
 use Rattle.ic_link_ops.proofs.SequenceLemmas.{none_not, some_same}
 use Rattle.ic_rbtree.specs.Sides.{IsBeside}
 use Rattle.ic_rbtree.specs.Closed.{IsIn}
+use Rattle.ic_rbtree.specs.StepEnds.{StepEnds}
 use Rattle.ic_rbtree.proofs.Beside.{null_alone, null_end, member_end, member_above}
 use Rattle.ic_rbtree.proofs.Closed.{in_there, in_child}
 use Rattle.ic_rbtree.proofs.within.step_within.Goals as goal
@@ -37,6 +38,24 @@ returns-in_ok-current-in-None-below-clause-leads g c gap shown here = elim c.mat
       member_above g.N.Nodes.node c.args.side gap shown c.in_ok-current-in-None-below.field-0 (subst (λ o. IsBeside c.args.side gap o) (w.in-Some.is ∙ (sym w.current-is ∙ c.in_ok-current-in-None-below.was)) here)
       (sym (ap (λ q. child_on c.args.side (node_at g.N.Nodes.node (g.N.Nodes.table c.args.nodes.now) q)) same) ∙ (sym w.child-below.ensures ∙ (sym w.below-is ∙ c.in-None-below.is)))
       c.above_within.ensures.nearest
+]
+
+pub returns-in_err-current-in-None-below-clause-ended : goal.returns-in_err-current-in-None-below-clause-ended
+returns-in_err-current-in-None-below-clause-ended g c none = elim c.match-current.branch [
+  | in-None w ↦
+      subst (λ o. StepEnds g.N.Nodes.node (g.N.Nodes.table c.args.nodes.now) c.args.root o c.args.side) (sym w.in-None.is) (sym w.below-is ∙ c.in-None-below.is)
+  | in-Some w ↦ absurd (none_not w.in-Some.place (sym c.in_err-current-in-None-below.was ∙ w.current-is))
+]
+
+pub returns-in_ok-current-in-None-below-clause-ended : goal.returns-in_ok-current-in-None-below-clause-ended
+returns-in_ok-current-in-None-below-clause-ended g c none = elim c.match-current.branch [
+  | in-None w ↦ absurd (none_not c.in_ok-current-in-None-below.field-0 (sym (w.current-is ∙ w.in-None.is) ∙ c.in_ok-current-in-None-below.was))
+  | in-Some w ↦
+      let same = some_same (sym w.current-is ∙ c.in_ok-current-in-None-below.was) in
+      subst (λ o. StepEnds g.N.Nodes.node (g.N.Nodes.table c.args.nodes.now) c.args.root o c.args.side) (sym (w.in-Some.is ∙ (sym w.current-is ∙ c.in_ok-current-in-None-below.was))) (
+        sym (ap (λ q. child_on c.args.side (node_at g.N.Nodes.node (g.N.Nodes.table c.args.nodes.now) q)) same) ∙ (sym w.child-below.ensures ∙ (sym w.below-is ∙ c.in-None-below.is)),
+        c.above_within.ensures.ended none,
+      )
 ]
 
 pub returns-in_err-current-in-None-below-clause-safe : goal.returns-in_err-current-in-None-below-clause-safe
