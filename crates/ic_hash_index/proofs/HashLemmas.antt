@@ -1,5 +1,5 @@
 -- A hash table that has each object, after each kind of step, and what a search of it finds.
-use Rattle.std.proofs.Common.{◌≡◌, ◌≢◌, ℕ, suc, ◌+◌, ◌≤◌, ◌<◌, Bool, true, false, Option, None, Some, IsSome, is_some, List, [], ◌∷◌, ◌++◌, cond, count_by, eq-eqb, filter, nat_eq, length, refl, sym, ap, ◌∙◌, subst, arith, true≢false}
+use Rattle.std.proofs.Common.{◌≡◌, ◌≢◌, ℕ, suc, ◌+◌, ◌≤◌, ◌<◌, Bool, true, false, Option, None, Some, IsSome, is_some, List, [], ◌∷◌, ◌++◌, cond, count_by, eq-eqb, eqb-true, filter, nat_eq, length, refl, sym, ap, ◌∙◌, subst, arith, true≢false}
 use Rattle.std.proofs.lemmas.Bool.{false_from_ne_true}
 use Rattle.std.proofs.lemmas.List.Sums.{sum_by-cons}
 use Rattle.std.specs.Bool.{⊤, OnTrue}
@@ -18,17 +18,18 @@ use Rattle.ic_link_ops.specs.SinglyLinkedList.{Successor}
 use Rattle.ic_link_ops.specs.Tables.{Table, IsCovered, IsLinked, IsUnlinked, LinksAlso, Unlinks}
 use Rattle.ic_link_ops.specs.Widths.{Width, nameable}
 use Rattle.ic_link_ops.proofs.LinkedSets.{everywhere}
-use Rattle.ic_link_ops.proofs.PlacedValues.{all_beside}
+use Rattle.ic_link_ops.proofs.PlacedValues.{all_beside, vacant_absent}
 use Rattle.ic_link_ops.proofs.SequenceLemmas.{absent_left, absent_right, absent_with, absent_without, distinct_left, distinct_middle, distinct_right, member_split, none_not, split_member}
 use Rattle.ic_hash_table.specs.declared.slots.Slots.{Slots}
 use Rattle.ic_hash_table.specs.declared.table.HashTable.{HashTable}
 use Rattle.ic_hash_table.specs.Chains.{AreChained, ShowsFrom}
 use Rattle.ic_hash_table.specs.HashTable.{front_at, BelongsIn, Holds, HoldsWith, IsNew}
-use Rattle.ic_hash_table.specs.Searches.{matches, passes, Finds}
+use Rattle.ic_hash_table.specs.Searches.{matches, passes, Finds, StopsAt}
 use Rattle.ic_hash_table.specs.Slots.{slot_of}
 use Rattle.ic_hash_table.proofs.Callers.{new_held}
 use Rattle.ic_hash_table.proofs.Chains.{chains_free}
-use Rattle.ic_hash_table.proofs.FoundMembers.{chain_of}
+use Rattle.ic_hash_table.proofs.ChainParts.{of_members}
+use Rattle.ic_hash_table.proofs.FoundMembers.{chain_of, finds, none_elsewhere}
 use Rattle.ic_hash_table.proofs.SlotLemmas.{slot_used}
 use Rattle.ic_container.specs.Trees.{IsFound}
 use Rattle.ic_container.proofs.ValueLemmas.{member_placed, no_more, there_is}
@@ -65,6 +66,11 @@ absent_filtered test q passed (x ∷ s) out = by (test x) refl (absent_filtered 
 
 member_filtered : (test : Place → Bool) (q : Place) → test q ≡ true → (s : List Place) → IsMember q s → IsMember q (filter test s)
 member_filtered test q passed s member = λ out. member (absent_filtered test q passed s out)
+
+-- none is left of places of which none passes
+filter_none : (test : Place → Bool) (s : List Place) → AllByRecursion (λ q. test q ≡ false) s → length (filter test s) ≡ 0
+filter_none test [] none = refl
+filter_none test (x ∷ s) none = rw none.0 (filter_none test s none.1)
 
 -- as many objects pass as values do
 values_counted : {T : Type 0} (test : T → Bool) (objects : Objects T) (s : List Place) → length (filter (matches test objects) s) ≡ count_by test (values_at objects s)
@@ -157,13 +163,37 @@ module _ {E A B T : Type 0} {succ : E → Successor} {linked : E → Bool} (alik
         member_filtered (matches test objects) q passed order (whole.all q is)) in
         omega (arith, few, values_counted test objects order)
 
+    -- what stands at no member is nothing
+    vacant_beside : (q : Place) → IsAbsent q a.members → object_at objects q ≡ None
+    vacant_beside q out = by (object_at objects q) refl where
+      by : (o : Option T) → object_at objects q ≡ o → object_at objects q ≡ None
+      by None e = e
+      by (Some v) e = absurd (a.all q (ap is_some e) out)
+
+    -- A CHAIN HAS A MEMBER where a value belongs there
+    hash_some : (k : ℕ) (used : k < table.slots.used) (order : List Place) → IsOrderOf objects order
+        → 1 ≤ count_by (λ v. nat_eq (slot_of table.slots (hash table.adapter v)) k) (values_at objects order) → 1 ≤ length (chain_of a.held k used).chain
+    hash_some k used order whole one = by (chain_of a.held k used).chain refl where
+      test : T → Bool
+      test v = nat_eq (slot_of table.slots (hash table.adapter v)) k
+
+      by : (chain : List Place) → (chain_of a.held k used).chain ≡ chain → 1 ≤ length (chain_of a.held k used).chain
+      by (x ∷ rest) is = rw is (omega arith)
+      by [] is =
+          let c = chain_of a.held k used in
+          let stop : StopsAt (matches test objects) c.chain None None = record { gap = record { front = []; back = [] }; whole = sym is; after = refl; here = refl; passed = tt; stops = tt } in
+          let none = finds {is = matches test objects} c (none_elsewhere table.slots (hash table.adapter) objects {equal = test} (λ v same. eqb-true _ _ same)) None stop in
+          let beside = of_members (λ q. matches test objects q ≡ false) a.members order (λ q out. vacant_absent objects q (vacant_beside q out) order whole.placed) none in
+          absurd (omega (arith, one, values_counted test objects order, filter_none (matches test objects) order beside))
+
     -- the chain where a hash belongs
     pub hash_chain : (h : ℕ) → (chain : List Place) × ShowsFrom succ t (front_at fronts table (slot_of table.slots h)) chain
         × ((order : List Place) → IsOrderOf objects order → length chain ≤ count_by (λ v. nat_eq (slot_of table.slots (hash table.adapter v)) (slot_of table.slots h)) (values_at objects order))
+        × ((order : List Place) → IsOrderOf objects order → 1 ≤ count_by (λ v. nat_eq (slot_of table.slots (hash table.adapter v)) (slot_of table.slots h)) (values_at objects order) → 1 ≤ length chain)
     hash_chain h =
         let used = slot_used table.slots.used table.slots.mask (omega (arith, a.held.well_formed.half)) h in
         let c = chain_of a.held (slot_of table.slots h) used in
-        (c.chain, c.shown, λ order whole. hash_few (slot_of table.slots h) used order whole)
+        (c.chain, c.shown, hash_few (slot_of table.slots h) used, hash_some (slot_of table.slots h) used)
 
     -- AN OBJECT IS A MEMBER,
     module _ (p : Place) (is : is_placed objects p ≡ true) where

@@ -9,7 +9,7 @@ use Rattle.ic_link_ops.specs.Tables.{Table}
 use Rattle.ic_link_ops.specs.Chains.{IsChain}
 use Rattle.ic_link_ops.proofs.Clearing.{Releases, releases_none, releases_more}
 use Rattle.ic_link_ops.proofs.Each.{all_back, all_both}
-use Rattle.ic_link_ops.proofs.SequenceLemmas.{last_of_push, first_is}
+use Rattle.ic_link_ops.proofs.SequenceLemmas.{last_of_push, first_is, nothing_first}
 use Rattle.ic_hash_table.specs.Searches.{StopsAt}
 
 module _ {E : Type 0} (between : E → Option Place → Option Place → Type 0) (is : Place → Bool) where
@@ -67,6 +67,10 @@ module _ {E : Type 0} {between : E → Option Place → Option Place → Type 0}
 
   pub done_fewer : {t : Table E} {s : List Place} {before : Option Place} {p : Place} (k : HasPassed between is t s before (Some p)) → length k.walk.done + 1 ≤ length s
   done_fewer {p = p} k = omega (arith, ap length k.walk.parts, length-append k.walk.done k.walk.rest, ap length (first_is k.walk.rest k.walk.at))
+
+  -- all are done where none is left
+  pub done_all : {t : Table E} {s : List Place} {before current : Option Place} (k : HasPassed between is t s before current) → current ≡ None → length s ≤ length k.walk.done
+  done_all k over = omega (arith, ap length k.walk.parts, length-append k.walk.done k.walk.rest, ap length (nothing_first k.walk.rest (sym over ∙ k.walk.at)))
 
 -- the one that is left is placed
 pub rest_placed : {E V : Type 0} {between : E → Option Place → Option Place → Type 0} {is : Place → Bool} {t : Table E} {s : List Place} {before : Option Place} {p : Place} (objects : Objects V)

@@ -46,10 +46,11 @@ module _ (is : Place → Bool) where
 abbrev pub HasRoom : ℕ → Type 0
 HasRoom count = count + 8589934591 ≤ 18446744073709551615
 
--- THE LOOKS OF ONE SEARCH in a chain: no more than its members. The probe compares as before
+-- THE LOOKS OF ONE SEARCH in a chain: no more than its members, and one at least if there is one. The probe compares as before
 module _ {P V : Type 0} (equal : P → V → Bool) (count : P → ℕ) where
   pub record Looks (old new : P) (chain : List Place) : Type 0 where
     pub looks : ℕ
     pub counted : count new ≡ count old + looks
     pub few : looks ≤ length chain
+    pub some : 1 ≤ length chain → 1 ≤ looks
     pub same : equal new ≡ equal old

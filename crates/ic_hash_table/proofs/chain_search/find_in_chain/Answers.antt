@@ -3,7 +3,7 @@ use Rattle.ic_link_ops.proofs.Clearing.{next_between, releases_fewer}
 use Rattle.ic_link_ops.proofs.SinglyLists.{successors_covered, members_uncleared}
 use Rattle.ic_link_ops.proofs.Walks.{few_places}
 use Rattle.ic_hash_table.specs.Searches.{matches}
-use Rattle.ic_hash_table.proofs.ChainWalks.{passed_none, passed_more, stops_there, stops_last, done_length, done_fewer, rest_placed}
+use Rattle.ic_hash_table.proofs.ChainWalks.{passed_none, passed_more, stops_there, stops_last, done_all, done_length, done_fewer, rest_placed}
 use Rattle.ic_hash_table.proofs.chain_search.find_in_chain.Goals as goal
 
 pub loop-current-init : goal.loop-current-init
@@ -37,6 +37,7 @@ returns-then-is_match-clause-looks g c s shown =
       looks = length k.0.walk.done + 1;
       counted = omega (arith, c.is_match.ensures.counted, k.1);
       few = done_fewer k.0;
+      some = λ one. omega arith;
       same = c.is_match.ensures.same ∙ c.loop-current.invariant.same;
     }
 
@@ -69,4 +70,4 @@ returns-clause-stops g c s shown = stops_last (c.loop-current.invariant.passed s
 pub returns-clause-looks : goal.returns-clause-looks
 returns-clause-looks g c s shown =
     let k = c.loop-current.invariant.passed s shown in
-    record { looks = length k.0.walk.done; counted = k.1; few = done_length k.0; same = c.loop-current.invariant.same }
+    record { looks = length k.0.walk.done; counted = k.1; few = done_length k.0; some = λ one. omega (arith, one, done_all k.0 c.in_default.is); same = c.loop-current.invariant.same }

@@ -25,10 +25,10 @@ pub returns-in-Some-clause-looks : goal.returns-in-Some-clause-looks
 returns-in-Some-clause-looks g c order whole =
     let chain = hash_chain (λ e. refl) c.requires.all (mixed c.args.key) in
     let l = (rw c.new-probe.ensures.key at c.in-Some.ensures.looks) chain.0 chain.1 in
-    record { slots = c.args.self.now.table.slots; used = refl; well_formed = c.requires.all.held.well_formed; few = omega (arith, l.counted, l.few, c.looks.ensures, c.new-probe.ensures.none, chain.2 order whole) }
+    record { slots = c.args.self.now.table.slots; used = refl; well_formed = c.requires.all.held.well_formed; few = omega (arith, l.counted, l.few, c.looks.ensures, c.new-probe.ensures.none, chain.2 order whole); some = λ one. omega (arith, l.counted, l.some (chain.3 order whole one), c.looks.ensures, c.new-probe.ensures.none) }
 
 pub returns-in-None-clause-looks : goal.returns-in-None-clause-looks
 returns-in-None-clause-looks g c order whole =
     let chain = hash_chain (λ e. refl) c.requires.all (mixed c.args.key) in
     let l = (rw c.new-probe.ensures.key at c.in-None.ensures.looks) chain.0 chain.1 in
-    record { slots = c.args.self.now.table.slots; used = refl; well_formed = c.requires.all.held.well_formed; few = omega (arith, l.counted, l.few, c.looks-in-None.ensures, c.new-probe.ensures.none, chain.2 order whole) }
+    record { slots = c.args.self.now.table.slots; used = refl; well_formed = c.requires.all.held.well_formed; few = omega (arith, l.counted, l.few, c.looks-in-None.ensures, c.new-probe.ensures.none, chain.2 order whole); some = λ one. omega (arith, l.counted, l.some (chain.3 order whole one), c.looks-in-None.ensures, c.new-probe.ensures.none) }
