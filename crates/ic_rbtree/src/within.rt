@@ -11,7 +11,7 @@ ghost use Rattle.ic_link_ops.specs.RedBlackTree.{Shows};
 ghost use Rattle.ic_link_ops.specs.Sequences.{Cut, join};
 ghost use Rattle.ic_rbtree.specs.Closed.{IsIn, IsClosed, IsSafe, StaysClosed};
 ghost use Rattle.ic_rbtree.specs.Sides.{IsBeside, IsOutermostWithin, IsNearestAboveWithin};
-ghost use Rattle.ic_rbtree.specs.StepEnds.{EndsAbove, StepEnds};
+ghost use Rattle.ic_rbtree.specs.StepsTo.{ComesUpTo, IsBelow, StepEnds, StepsTo};
 
 use crate::nodes::Nodes;
 use crate::readings::{child, other};
@@ -24,6 +24,7 @@ use ic_unsafe_ref::Place;
 pub(crate) fn outermost_within<N: Nodes>(nodes: &N, place: Place, side: Side) -> Place
     requires { (root : Option Place) × IsSafe N.node (N.table nodes.now) root (Some place ∷ []) }
     ensures outermost { IsOutermostWithin N.node (N.table nodes.now) place side result }
+    ensures below { IsBelow N.node (N.table nodes.now) side place result }
     ensures safe { (root : Option Place) → StaysClosed N.node (N.table nodes.now) (N.table nodes.now) root root (Some place ∷ []) (Some result ∷ []) }
 {
     let mut place = place;
@@ -43,7 +44,7 @@ pub(crate) fn outermost_within<N: Nodes>(nodes: &N, place: Place, side: Side) ->
 fn above_within<N: Nodes>(nodes: &N, place: Place, side: Side) -> Option<Place>
     requires { (root : Option Place) × IsSafe N.node (N.table nodes.now) root (Some place ∷ []) }
     ensures nearest { IsNearestAboveWithin N.node (N.table nodes.now) place side result }
-    ensures ended { result ≡ None → EndsAbove N.node (N.table nodes.now) side place }
+    ensures up { ComesUpTo N.node (N.table nodes.now) side place result }
     ensures safe { (root : Option Place) → StaysClosed N.node (N.table nodes.now) (N.table nodes.now) root root (Some place ∷ []) (result ∷ []) }
 {
     let mut place = place;
@@ -66,8 +67,8 @@ fn above_within<N: Nodes>(nodes: &N, place: Place, side: Side) -> Option<Place>
 /// Where a step to a side leads from a position in the tree with this root: to the member beside it, from null to the end on the other
 /// side, from that end to null.
 ///
-/// It requires a closed set that has the position, and leads out of none. It ends whatever the words say, and gives `None` only where the links
-/// lead to an end. O(log n), and O(1) on average over a walk. [`RBTree::step`](crate::RBTree::step) is the same of a tree.
+/// It requires a closed set that has the position, and leads out of none. It ends whatever the words say, comes only to a place to which the links
+/// lead, and gives `None` only where they come to an end. O(log n), and O(1) on average over a walk. [`RBTree::step`](crate::RBTree::step) is the same of a tree.
 #[inline]
 pub fn step_within<N: Nodes>(
     nodes: &N,
@@ -78,7 +79,8 @@ pub fn step_within<N: Nodes>(
     requires { IsSafe N.node (N.table nodes.now) root (current ∷ []) }
     ensures leads { (gap : Cut) → Shows N.node (N.table nodes.now) root (join gap) → IsBeside side gap current
         → IsBeside (across side) gap result }
-    ensures ended { result ≡ None → StepEnds N.node (N.table nodes.now) root current side }
+    ensures reached { (y : Place) → result ≡ Some y → StepsTo N.node (N.table nodes.now) root side current y }
+    ensures ended { result ≡ None → StepEnds N.node (N.table nodes.now) root side current }
     ensures safe { (S : Place → Bool) → IsClosed N.node (N.table nodes.now) root S → IsIn S current → IsIn S result }
 {
     let below = match current {

@@ -12,7 +12,7 @@ pub loop-parent-init : goal.loop-parent-init
 loop-parent-init g c = record {
   parent = c.parent-parent.ensures;
   each = λ base root fs t ps s e. (fs, t, up_starts g.N.Nodes.node fs t s e, omega arith);
-  ended = λ e. e;
+  up = λ end e. e;
   safe = λ root S h i. i;
 }
 
@@ -58,7 +58,7 @@ loop-parent-preserved g c = record {
       let i = c.loop-parent.invariant.each base root fs t ps s e in
       let u = step_up g.N.Nodes.node fs i.0 i.1 i.2 (sym c.loop-parent.invariant.parent ∙ c.in-Some.is) (is_end_yes _ c.loop-parent.place (sym c.if-not-is_child.ensures)) in
       (u.0, u.1, u.2, omega (arith, u.3, i.3, c.if-turns-eq0.false));
-  ended = λ e. c.loop-parent.invariant.ended (
+  up = λ end e. c.loop-parent.invariant.up end (
     c.in-Some.above ∷ e.0,
     (sym c.loop-parent.invariant.parent ∙ c.in-Some.is, is_end_yes _ c.loop-parent.place (sym c.if-not-is_child.ensures), e.1),
   );
@@ -70,5 +70,11 @@ returns-clause-nearest g c base root fs t ps s e low =
     let i = c.loop-parent.invariant.each base root fs t ps s e in
     no_more_up g.N.Nodes.node fs i.0 i.1 i.2 (sym c.loop-parent.invariant.parent ∙ c.in_default.is)
 
-pub returns-clause-ended : goal.returns-clause-ended
-returns-clause-ended g c none = c.loop-parent.invariant.ended ([], sym c.loop-parent.invariant.parent ∙ c.in_default.is)
+pub returns-then-not-is_child-clause-up : goal.returns-then-not-is_child-clause-up
+returns-then-not-is_child-clause-up g c = c.loop-parent.invariant.up _ ([], sym c.loop-parent.invariant.parent ∙ c.in-Some.is)
+
+pub returns-then-turns-eq0-clause-up : goal.returns-then-turns-eq0-clause-up
+returns-then-turns-eq0-clause-up g c = c.loop-parent.invariant.up _ ([], sym c.loop-parent.invariant.parent ∙ c.in-Some.is)
+
+pub returns-clause-up : goal.returns-clause-up
+returns-clause-up g c = c.loop-parent.invariant.up _ ([], sym c.loop-parent.invariant.parent ∙ c.in_default.is)

@@ -6,7 +6,7 @@ use Rattle.ic_link_ops.specs.Frames.{Frame}
 use Rattle.ic_rbtree.specs.Closed.{IsClosed}
 use Rattle.ic_rbtree.specs.Height.{turns}
 use Rattle.ic_rbtree.specs.Pieces.{Piece, Stands}
-use Rattle.ic_rbtree.specs.StepEnds.{EndsAbove}
+use Rattle.ic_rbtree.specs.StepsTo.{ComesUpTo}
 use Rattle.ic_rbtree.proofs.Outermost.{Up}
 use Rattle.ic_rbtree.proofs.within.above_within.Given as goal
 
@@ -18,7 +18,7 @@ invariant-loop-parent g l =
       parent : l.parent ≡ (n (v.entry l.place)).parent;
       each : (base : Table g.row.N-Entry.Denot) (root : Option Place) (fs : List Frame) (t : Tree) (ps : List Piece) → Stands n base v root fs t ps → top t ≡ Some l.fn.place
           → (gs : List Frame) × (u : Tree) × Up n base v root l.side l.place fs ps gs u × (length gs + turns ≡ length fs + l.turns);
-      ended : EndsAbove n v l.side l.place → EndsAbove n v l.side l.fn.place;
+      up : (end : Option Place) → ComesUpTo n v l.side l.place end → ComesUpTo n v l.side l.fn.place end;
       safe : (root : Option Place) (S : Place → Bool) → IsClosed n v root S → S l.fn.place ≡ true → S l.place ≡ true;
     }
 

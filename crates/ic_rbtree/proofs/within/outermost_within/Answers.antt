@@ -1,4 +1,4 @@
-use Rattle.std.proofs.Common.{sym, ap, ◌∙◌, arith}
+use Rattle.std.proofs.Common.{[], ◌∷◌, refl, sym, ap, ◌∙◌, arith}
 use Rattle.ic_rbtree.specs.Height.{height}
 use Rattle.ic_rbtree.proofs.Closed.{in_there, in_child}
 use Rattle.ic_rbtree.proofs.Outermost.{down_starts, step_down, down_ends}
@@ -8,6 +8,7 @@ use Rattle.ic_rbtree.proofs.within.outermost_within.Goals as goal
 pub loop-init : goal.loop-init
 loop-init g c = record {
   each = λ base root fs t ps s e. (fs, t, down_starts g.N.Nodes.node fs t s e, omega arith);
+  below = λ y b. b;
   safe = λ root S h i. i;
 }
 
@@ -20,6 +21,7 @@ loop-preserved g c = record {
       let i = c.loop.invariant.each base root fs t ps s e in
       let d = step_down g.N.Nodes.node fs t i.0 i.1 i.2 (sym c.in-Some.ensures) in
       (d.0, d.1, d.2, omega (arith, d.3, i.3));
+  below = λ y b. c.loop.invariant.below y (c.in-Some.below ∷ b.0, (sym c.child.ensures ∙ c.in-Some.is, b.1));
   safe = λ root S h i. in_there S (in_child g.N.Nodes.node h _ c.loop.place (c.loop.invariant.safe root S h i) c.child.ensures) c.in-Some.is;
 }
 
@@ -27,6 +29,9 @@ pub returns-in_default-clause-outermost : goal.returns-in_default-clause-outermo
 returns-in_default-clause-outermost g c base root fs t ps s e low =
     let i = c.loop.invariant.each base root fs t ps s e in
     down_ends g.N.Nodes.node fs t i.0 i.1 i.2 (sym c.child.ensures ∙ c.in_default.is)
+
+pub returns-in_default-clause-below : goal.returns-in_default-clause-below
+returns-in_default-clause-below g c = c.loop.invariant.below c.loop.place ([], refl)
 
 pub returns-in_default-clause-safe : goal.returns-in_default-clause-safe
 returns-in_default-clause-safe g c root S h i = (h, (c.loop.invariant.safe root S h i.0, tt))
@@ -38,3 +43,6 @@ returns-clause-outermost g c base root fs t ps s e low =
 
 pub returns-clause-safe : goal.returns-clause-safe
 returns-clause-safe g c root S h i = (h, (c.loop.invariant.safe root S h i.0, tt))
+
+pub returns-clause-below : goal.returns-clause-below
+returns-clause-below g c = c.loop.invariant.below c.loop.place ([], refl)

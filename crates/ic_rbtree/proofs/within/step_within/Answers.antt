@@ -1,10 +1,10 @@
-use Rattle.std.proofs.Common.{Some, sym, ap, ◌∙◌, subst}
+use Rattle.std.proofs.Common.{Some, inl, inr, sym, ap, ◌∙◌, subst}
 use Rattle.ic_link_ops.specs.Frames.{across, child_on}
 use Rattle.ic_link_ops.specs.RedBlackTree.{node_at}
 use Rattle.ic_link_ops.proofs.SequenceLemmas.{none_not, some_same}
 use Rattle.ic_rbtree.specs.Sides.{IsBeside}
 use Rattle.ic_rbtree.specs.Closed.{IsIn}
-use Rattle.ic_rbtree.specs.StepEnds.{StepEnds}
+use Rattle.ic_rbtree.specs.StepsTo.{ComesUpTo, IsBelow, StepEnds, StepsTo}
 use Rattle.ic_rbtree.proofs.Beside.{null_alone, null_end, member_end, member_above}
 use Rattle.ic_rbtree.proofs.Closed.{in_there, in_child}
 use Rattle.ic_rbtree.proofs.within.step_within.Goals as goal
@@ -42,9 +42,33 @@ returns-in_ok-current-in-None-below-clause-leads g c gap shown here = elim c.mat
 
 pub returns-in_err-current-in-None-below-clause-ended : goal.returns-in_err-current-in-None-below-clause-ended
 returns-in_err-current-in-None-below-clause-ended g c none = elim c.match-current.branch [
-  | in-None w ↦
-      subst (λ o. StepEnds g.N.Nodes.node (g.N.Nodes.table c.args.nodes.now) c.args.root o c.args.side) (sym w.in-None.is) (sym w.below-is ∙ c.in-None-below.is)
+  | in-None w ↦ subst (StepEnds g.N.Nodes.node (g.N.Nodes.table c.args.nodes.now) c.args.root c.args.side) (sym w.in-None.is) (sym w.below-is ∙ c.in-None-below.is)
   | in-Some w ↦ absurd (none_not w.in-Some.place (sym c.in_err-current-in-None-below.was ∙ w.current-is))
+]
+
+pub returns-in-Some-below-clause-reached : goal.returns-in-Some-below-clause-reached
+returns-in-Some-below-clause-reached g c y is =
+    let down : IsBelow g.N.Nodes.node (g.N.Nodes.table c.args.nodes.now) (across c.args.side) c.in-Some-below.below y =
+    subst (IsBelow g.N.Nodes.node (g.N.Nodes.table c.args.nodes.now) (across c.args.side) c.in-Some-below.below) (some_same is)
+    (subst (λ k. IsBelow g.N.Nodes.node (g.N.Nodes.table c.args.nodes.now) k c.in-Some-below.below c.outermost_within.result) c.other.ensures c.outermost_within.ensures.below) in
+    elim c.match-current.branch [
+      | in-None w ↦ subst (λ o. StepsTo g.N.Nodes.node (g.N.Nodes.table c.args.nodes.now) c.args.root c.args.side o y) (sym w.in-None.is) (c.in-Some-below.below, sym w.below-is ∙ c.in-Some-below.is, down)
+      | in-Some w ↦
+          subst (λ o. StepsTo g.N.Nodes.node (g.N.Nodes.table c.args.nodes.now) c.args.root c.args.side o y) (sym w.in-Some.is)
+          (inl (c.in-Some-below.below, sym w.child-below.ensures ∙ (sym w.below-is ∙ c.in-Some-below.is), down))
+    ]
+
+-- a place without a child on that side, from which the way up comes to an end
+pub returns-in_ok-current-in-None-below-clause-reached : goal.returns-in_ok-current-in-None-below-clause-reached
+returns-in_ok-current-in-None-below-clause-reached g c y is = elim c.match-current.branch [
+  | in-None w ↦ absurd (none_not c.in_ok-current-in-None-below.field-0 (sym (w.current-is ∙ w.in-None.is) ∙ c.in_ok-current-in-None-below.was))
+  | in-Some w ↦
+      let same = some_same (sym w.current-is ∙ c.in_ok-current-in-None-below.was) in
+      subst (λ o. StepsTo g.N.Nodes.node (g.N.Nodes.table c.args.nodes.now) c.args.root c.args.side o y) (sym (w.in-Some.is ∙ (sym w.current-is ∙ c.in_ok-current-in-None-below.was)))
+      (inr (
+        sym (ap (λ q. child_on c.args.side (node_at g.N.Nodes.node (g.N.Nodes.table c.args.nodes.now) q)) same) ∙ (sym w.child-below.ensures ∙ (sym w.below-is ∙ c.in-None-below.is)),
+        subst (ComesUpTo g.N.Nodes.node (g.N.Nodes.table c.args.nodes.now) c.args.side c.in_ok-current-in-None-below.field-0) is c.above_within.ensures.up,
+      ))
 ]
 
 pub returns-in_ok-current-in-None-below-clause-ended : goal.returns-in_ok-current-in-None-below-clause-ended
@@ -52,9 +76,9 @@ returns-in_ok-current-in-None-below-clause-ended g c none = elim c.match-current
   | in-None w ↦ absurd (none_not c.in_ok-current-in-None-below.field-0 (sym (w.current-is ∙ w.in-None.is) ∙ c.in_ok-current-in-None-below.was))
   | in-Some w ↦
       let same = some_same (sym w.current-is ∙ c.in_ok-current-in-None-below.was) in
-      subst (λ o. StepEnds g.N.Nodes.node (g.N.Nodes.table c.args.nodes.now) c.args.root o c.args.side) (sym (w.in-Some.is ∙ (sym w.current-is ∙ c.in_ok-current-in-None-below.was))) (
+      subst (StepEnds g.N.Nodes.node (g.N.Nodes.table c.args.nodes.now) c.args.root c.args.side) (sym (w.in-Some.is ∙ (sym w.current-is ∙ c.in_ok-current-in-None-below.was))) (
         sym (ap (λ q. child_on c.args.side (node_at g.N.Nodes.node (g.N.Nodes.table c.args.nodes.now) q)) same) ∙ (sym w.child-below.ensures ∙ (sym w.below-is ∙ c.in-None-below.is)),
-        c.above_within.ensures.ended none,
+        subst (ComesUpTo g.N.Nodes.node (g.N.Nodes.table c.args.nodes.now) c.args.side c.in_ok-current-in-None-below.field-0) none c.above_within.ensures.up,
       )
 ]
 
