@@ -1,10 +1,11 @@
 -- Edits of a tree keep each fresh summary right.
 use Rattle.std.specs.declared.cmp.Ordering.{Ordering}
-use Rattle.std.proofs.Common.{◌≡◌, ◌≢◌, ◌≤◌, ◌+◌, Bool, true, false, Option, Some, None, List, [], ◌∷◌, refl, sym, ap, ◌∙◌, subst, arith, inl, inr}
+use Rattle.std.proofs.Common.{◌≡◌, ◌≢◌, ◌≤◌, ◌+◌, Bool, true, false, Option, Some, None, List, [], ◌∷◌, ◌++◌, refl, sym, ap, ◌∙◌, subst, arith, inl, inr}
 use Rattle.ic_unsafe_ref.specs.declared.place.Place.{Place}
 use Rattle.ic_unsafe_ref.specs.Objects.{Objects}
 use Rattle.ic_unsafe_ref.proofs.PlaceLemmas.{same_or_not}
 use Rattle.ic_link_ops.specs.declared.side.Side.{Side}
+use Rattle.ic_link_ops.specs.Edits.{Removes}
 use Rattle.ic_link_ops.specs.Sequences.{Cut, join, insert, IsAbsent, IsDisjoint}
 use Rattle.ic_link_ops.specs.Tables.{Table, ChangesOnly}
 use Rattle.ic_link_ops.specs.Trees.{top, in_order}
@@ -13,22 +14,27 @@ use Rattle.ic_link_ops.specs.Times.{one_at, times, times_in}
 use Rattle.ic_link_ops.proofs.Times.{one_at_self, one_at_other, times_append, times_order, absent_times}
 use Rattle.ic_link_ops.proofs.SequenceLemmas.{disjoint_cons}
 use Rattle.ic_link_ops.proofs.ShownTrees.{holds_once, shows_beside, shows_frame, free_absent, one_sequence}
-use Rattle.ic_rbtree.specs.Closed.{AreIn, IsNode, IsClosedBut}
+use Rattle.ic_rbtree.specs.Closed.{AreIn, IsNode, IsClosed, IsClosedBut}
 use Rattle.ic_rbtree.specs.Comparing.{compared, own_order}
 use Rattle.ic_rbtree.specs.Height.{height}
 use Rattle.ic_rbtree.specs.Insertion.{IsHole, Attaches}
 use Rattle.ic_rbtree.specs.Ordered.{InsertsInOrder}
 use Rattle.ic_rbtree.specs.Pieces.{loose, Shown}
+use Rattle.ic_rbtree.specs.Transplants.{TakesAway}
 use Rattle.ic_rbtree.proofs.Attaching.{inserts}
-use Rattle.ic_rbtree.proofs.Removing.{shows_of}
+use Rattle.ic_rbtree.proofs.Removing.{removes, loose_absent, shown_of, shows_of}
 use Rattle.ic_rbtree.proofs.Climbed.{path_few}
-use Rattle.ic_rbtree.proofs.ShownClosed.{with_itself, shown_closed_but, hole_in}
+use Rattle.ic_rbtree.proofs.ShownClosed.{among_there, with_itself, shown_closed, shown_closed_but, hole_in}
 use Rattle.ic_augmented.specs.Sums.{Sums, is_fresh}
 use Rattle.ic_augmented.specs.Consistent.{IsSameAt, IsConsistent, IsConsistentTree, KeepsConsistent, ShowsConsistent, ShowsSummed, Refreshes, IsJoined}
-use Rattle.ic_augmented.proofs.FenceLemmas.{fence_of, fence_is}
+use Rattle.ic_augmented.proofs.FenceLemmas.{fence_of, fence_is, members_of, members_are}
 use Rattle.ic_augmented.proofs.ConsistencyLemmas.{not_stale, times_top, summed_top, fresh_summed, consistent_tree, tree_consistent, consistent_kept, summed_consistent_tree}
 
 module _ {E : Type 0} (n : E → Node) where
+  -- no change is one of a place alone
+  pub unchanged : (v : Table E) (p : Place) → ChangesOnly v v p
+  unchanged v p = record { extent = refl; others = λ q other. refl }
+
   -- a linked place beside the tree
   loose_shown : (v : Table E) (root : Option Place) (s : List Place) (p : Place) → Shows n v root s → IsAbsent p s → (n (v.entry p)).linked ≡ true → Shown n v v root s (loose p ∷ [])
   loose_shown v root s p h out linked = record {
@@ -73,12 +79,25 @@ module _ {E : Type 0} (n : E → Node) where
       subst (λ (S : Place → Bool). IsClosedBut n v root (Some p) S × AreIn S (Some p ∷ parent ∷ [])) (sym (fence_is n p h))
       (shown_closed_but n there, (with_itself n there, (hole_in n v p parent d gap hole, tt)))
 
+  -- of a member that is taken out: the tree is closed, and has it
+  pub unlink_closed : (v : Table E) (root : Option Place) (front : List Place) (p : Place) (back : List Place) → Shows n v root (front ++ p ∷ back)
+      → IsClosed n v root (members_of n v root) × (members_of n v root p ≡ true)
+  unlink_closed v root front p back h =
+      subst (λ (S : Place → Bool). IsClosed n v root S × (S p ≡ true)) (sym (members_are n h)) (shown_closed n (shown_of n h), among_there p front back)
+
+  module _ (v w : Table E) (root new_root : Option Place) (front : List Place) (p : Place) (back : List Place) (taken : TakesAway n v w root new_root p) (h : Shows n v root (front ++ p ∷ back)) where
+    pub unlinked_absent : IsAbsent p (front ++ back)
+    unlinked_absent = loose_absent n (taken v front back [] (shown_of n h))
+
+    -- the others are shown then, and nothing but entries of members is changed
+    pub unlinked : {z : Table E} → ChangesOnly w z p → Removes (Shows n) v z new_root (record { front = front; back = p ∷ back })
+    unlinked {z} only = removes n v w z root new_root p (record { front = front; back = p ∷ back }) back refl (shown_of n h) (taken v front back [] (shown_of n h)) only
+
   -- and a tree that shares no place with it is as it was
   pub attached_others : (v w : Table E) (root new_root parent other : Option Place) (d : Side) (p : Place) (gap : Cut) (t : List Place) → Attaches n v w root new_root parent d p
       → IsNode n v p → IsAbsent p (join gap) → Shows n v root (join gap) → IsHole n v parent d gap → IsDisjoint t (join gap) → IsAbsent p t → Shows n v other t → Shows n w other t
   attached_others v w root new_root parent other d p gap t done linked out h hole apart absent k =
-      let only : ChangesOnly v v p = record { extent = refl; others = λ q other. refl } in
-      let put = inserts n v v w root new_root p gap only (done v gap [] (loose_shown v root (join gap) p h out linked) hole) in
+      let put = inserts n v v w root new_root p gap (unchanged v p) (done v gap [] (loose_shown v root (join gap) p h out linked) hole) in
       shows_frame k (disjoint_cons p t (join gap) absent apart) put.frame
 
 -- an insert in order, by the object's own key among the values that stood before
@@ -93,6 +112,10 @@ own_searched {V = V} {Shows = Shows} {old} {w} {head} {s} cmp key_of {before = b
 module _ {E S : Type 0} (n : E → Node) where
   fewer_consistent : (v : Table E) (z : Sums S) (s t : List Place) → ((q : Place) → times_in q t ≤ times_in q s) → IsConsistent n v z s → IsConsistent n v z t
   fewer_consistent v z s t k h q m but x e = h q (omega (arith, m, k q)) but x e
+
+  -- without a member it is so too
+  pub without_member : (v : Table E) (z : Sums S) (front : List Place) (p : Place) (back : List Place) → IsConsistent n v z (front ++ p ∷ back) → IsConsistent n v z (front ++ back)
+  without_member v z front p back h = fewer_consistent v z (front ++ p ∷ back) (front ++ back) (λ q. omega (arith, times_append q front back, times_append q front (p ∷ back))) h
 
   stale_more : (v : Table E) (z : Sums S) (s : List Place) (p : Place) → z.fresh p ≡ None → IsConsistent n v z s → IsConsistent n v z (p ∷ s)
   stale_more v z s p none h q m but x e = h q (omega (arith, m, one_at_other q p (not_stale z p q x none e))) but x e
@@ -153,6 +176,9 @@ module _ {E S : Type 0} (n : E → Node) where
 
   pub beside_shows : (v w : Table E) (z : Sums S) (root : Option Place) (s : List Place) (p : Place) → IsAbsent p s → ChangesOnly v w p → ShowsConsistent n z v root s → ShowsConsistent n z w root s
   beside_shows v w z root s p out only h = (shows_beside h.0 out only.others, beside_consistent v w z s p out only h.1)
+
+  pub beside_summed : (v w : Table E) (z : Sums S) (root : Option Place) (s : List Place) (p : Place) → IsAbsent p s → ChangesOnly v w p → ShowsSummed n z v root s → ShowsSummed n z w root s
+  beside_summed v w z root s p out only h = still_summed v w z z root s (λ q m. record { fresh = refl; upper = refl }) h (beside_shows v w z root s p out only (still_consistent v z root s h))
 
   pub acquired_consistent : (old v : Table E) (z : Sums S) (root : Option Place) (s t : List Place) (p : Place) → t ≡ s → (n (old.entry p)).linked ≡ false → ChangesOnly old v p
       → ShowsConsistent n z old root s → ShowsConsistent n z v root t

@@ -1,4 +1,4 @@
--- What an edit does behind a fence it does in the table: a place is put in.
+-- What an edit does behind a fence it does in the table: a place is put in, or taken out.
 use Rattle.std.proofs.Common.{◌≡◌, ◌≢◌, ◌≤◌, ◌+◌, ℕ, zero, suc, Bool, true, false, ◌&&◌, Option, Some, None, List, [], ◌∷◌, ◌++◌, refl, sym, ap, ◌∙◌, subst, arith, inl, inr}
 use Rattle.std.proofs.lemmas.Bool.{and_from}
 use Rattle.std.proofs.Math.Nat.{le-max_left, le-max_right}
@@ -13,14 +13,16 @@ use Rattle.ic_link_ops.specs.Tables.{Table}
 use Rattle.ic_link_ops.specs.Times.{one_at, times, times_in}
 use Rattle.ic_link_ops.specs.Trees.{Tree, leaf, fork, top, in_order}
 use Rattle.ic_link_ops.proofs.Frames.{tree_same, side_same, around_same}
-use Rattle.ic_link_ops.proofs.SequenceLemmas.{some_same}
+use Rattle.ic_link_ops.proofs.SequenceLemmas.{none_not, some_same}
 use Rattle.ic_link_ops.proofs.Times.{one_at_self, one_at_other, times_append, times_order}
-use Rattle.ic_rbtree.specs.Closed.{IsIn, AreIn, IsNode, IsNamed, IsClosedBut, IsSafeBut, KeepsNodes}
+use Rattle.ic_rbtree.specs.Closed.{IsIn, AreIn, IsNode, IsNamed, IsClosedBut, IsClosed, IsSafe, IsSafeBut, KeepsNodes}
 use Rattle.ic_rbtree.specs.Height.{height}
 use Rattle.ic_rbtree.specs.Insertion.{IsHole, Attaches}
 use Rattle.ic_rbtree.specs.Pieces.{Piece, cell, loose, below, around, times_all, times_piece, IsPiece, ArePieces, Shown}
+use Rattle.ic_rbtree.specs.Transplants.{TakesAway}
 use Rattle.ic_rbtree.proofs.Climbed.{path_few}
-use Rattle.ic_rbtree.proofs.ShownClosed.{with_place, with_itself, shown_closed_but, hole_in}
+use Rattle.ic_rbtree.proofs.Removing.{shown_of, shows_of}
+use Rattle.ic_rbtree.proofs.ShownClosed.{among, with_place, with_itself, shown_closed_but, hole_in}
 use Rattle.ic_augmented.specs.Fences.{fenced, fenced_node}
 use Rattle.ic_augmented.proofs.ConsistencyLemmas.{where_is}
 
@@ -32,6 +34,19 @@ and_left false b e = e
 pub and_right : (a b : Bool) → a && b ≡ true → b ≡ true
 and_right true b e = e
 and_right false b e = cc
+
+some_of : (k : ℕ) → (k ≡ 0 → ⊥) → 1 ≤ k
+some_of zero m = absurd (m refl)
+some_of (suc k) m = omega arith
+
+times_on : (q : Place) (xs ps : List Piece) → times_all q (xs ++ ps) ≡ times_all q xs + times_all q ps
+times_on q [] ps = omega arith
+times_on q (x ∷ xs) ps = omega (arith, times_on q xs ps)
+
+-- a tree with one member more
+counted : (q : Place) (front : List Place) (p : Place) (back : List Place) (t : Tree) → in_order t ≡ front ++ back → (u : Tree) → in_order u ≡ front ++ p ∷ back
+    → times q u + 0 ≡ times q t + (one_at q p + 0)
+counted q front p back t e u f = omega (arith, times_order q u, ap (times_in q) f, times_append q front (p ∷ back), times_order q t, ap (times_in q) e, times_append q front back)
 
 module _ {E : Type 0} (n : E → Node) where
   -- the members at this end and below, as the entries lead, no more than so many steps down
@@ -59,7 +74,15 @@ module _ {E : Type 0} (n : E → Node) where
       let low : height h.tree ≤ 66 = path_few n h [] h.tree (height h.tree) refl (omega arith) in
       listed_tree v.entry None h.tree 67 root h.held.entries h.starts (omega (arith, low)) ∙ h.held.order
 
-  -- THE FENCE of an insert: the place, and what stands at the root and below
+  -- THE FENCE of a removal: what stands at the root and below
+  pub members_of : (v : Table E) (root : Option Place) → Place → Bool
+  members_of v root q = among q (listed v.entry 67 root)
+
+  pub members_are : {v : Table E} {root : Option Place} {s : List Place} → Shows n v root s → members_of v root ≡ λ q. among q s
+  unfolding members_of
+  members_are {v} {root} {s} h = ap {B = Place → Bool} (λ (z : List Place). λ (q : Place). among q z) (listed_shown h)
+
+  -- THE FENCE of an insert: the place too
   pub fence_of : (v : Table E) (root : Option Place) (p : Place) → Place → Bool
   fence_of v root p = with_place p (listed v.entry 67 root)
 
@@ -78,6 +101,15 @@ module _ {E : Type 0} (n : E → Node) where
   pieces_same old new [] same h = tt
   pieces_same old new (x ∷ ps) same h =
       (piece_same old new x (λ q m. same q (λ e. m (omega (arith, e)))) h.0, pieces_same old new ps (λ q m. same q (λ e. m (omega (arith, e)))) h.1)
+
+  -- and those of two lists are pieces together
+  pieces_on : (entry : Place → E) (xs ps : List Piece) → ArePieces n entry xs → ArePieces n entry ps → ArePieces n entry (xs ++ ps)
+  pieces_on entry [] ps h k = k
+  pieces_on entry (x ∷ xs) ps h k = (h.0, pieces_on entry xs ps h.1 k)
+
+  pieces_behind : (entry : Place → E) (xs ps : List Piece) → ArePieces n entry (xs ++ ps) → ArePieces n entry ps
+  pieces_behind entry [] ps h = h
+  pieces_behind entry (x ∷ xs) ps h = pieces_behind entry xs ps h.1
 
   module _ (inside : Place → Bool) where
     -- INTO THE FENCE, where all members stand inside, and out of it
@@ -102,38 +134,32 @@ module _ {E : Type 0} (n : E → Node) where
     hole_behind v (Some q) Left gap h = h
     hole_behind v (Some q) Right gap h = h
 
-    module _ {v : Table E} {root : Option Place} {p : Place} (closed : IsClosedBut n v root (Some p) inside) (here : inside p ≡ true) where
+    module _ {v : Table E} {root but : Option Place} (closed : IsClosedBut n v root but inside) where
+      -- closed here, and so behind the fence
+      closed_behind : IsClosedBut (fenced_node n) (fenced inside v) root but inside
+      closed_behind = record { linked = λ q m. and_from _ _ m (closed.linked q m); left = closed.left; right = closed.right; parent = closed.parent; starts = closed.starts }
+
       -- what is closed has the whole tree
-      members_inside : (up : Option Place) (t : Tree) → IsTree n v.entry up t → IsIn inside (top t) → times p t ≡ 0 → (q : Place) → 1 ≤ times q t → inside q ≡ true
+      members_inside : (up : Option Place) (t : Tree) → IsTree n v.entry up t → IsIn inside (top t) → ((x : Place) → 1 ≤ times x t → but ≡ Some x → ⊥) → (q : Place) → 1 ≤ times q t → inside q ≡ true
       members_inside up leaf h i out q m = absurd (omega (arith, m))
       members_inside up (fork c a x b) h i out q m =
-          let other : Some p ≡ Some x → ⊥ = λ e. let k : one_at p x ≡ 1 = subst (λ (y : Place). one_at p y ≡ 1) (some_same e) (one_at_self p) in omega (arith, out, k) in
+          let other = out x (omega (arith, one_at_self x)) in
           elim (where_is (times q a) (one_at q x + times q b) (omega (arith, m))) [
-            | inl k ↦ members_inside (Some x) a h.1 (subst (λ (o : Option Place). IsIn inside o) h.0.left (closed.left x i other)) (omega (arith, out)) q k
+            | inl k ↦ members_inside (Some x) a h.1 (subst (λ (o : Option Place). IsIn inside o) h.0.left (closed.left x i other)) (λ y j. out y (omega (arith, j))) q k
             | inr k ↦ elim (same_or_not q x) [
               | inl e ↦ subst (λ (y : Place). inside y ≡ true) (sym e) i
-              | inr apart ↦ members_inside (Some x) b h.2 (subst (λ (o : Option Place). IsIn inside o) h.0.right (closed.right x i other)) (omega (arith, out)) q (omega (arith, k, one_at_other q x apart))
+              | inr apart ↦ members_inside (Some x) b h.2 (subst (λ (o : Option Place). IsIn inside o) h.0.right (closed.right x i other)) (λ y j. out y (omega (arith, j))) q (omega (arith, k, one_at_other q x apart))
             ]
           ]
 
-      -- closed here, and so behind the fence
-      pub safe_behind : (parent : Option Place) → IsIn inside parent → IsSafeBut (fenced_node n) (fenced inside v) root p (Some p ∷ parent ∷ [])
-      safe_behind parent i = (
-        inside,
-        record { linked = λ q m. and_from _ _ m (closed.linked q m); left = closed.left; right = closed.right; parent = closed.parent; starts = closed.starts },
-        (here, (i, tt)),
-      )
-
-      module _ {base : Table E} (front back : List Place) {ps : List Piece} (h : Shown n base v root (front ++ back) (loose p ∷ ps)) where
-        all_inside : (q : Place) → 1 ≤ times q h.tree → inside q ≡ true
-        all_inside = members_inside None h.tree h.stands.are.1.0 (subst (λ (o : Option Place). IsIn inside o) h.stands.are.0.1 closed.starts) (omega (arith, h.stands.once p, one_at_self p))
-
-        shown_behind : Shown (fenced_node n) (fenced inside v) (fenced inside v) root (front ++ back) (loose p ∷ [])
-        shown_behind = record {
+      -- A SHOWN TREE BEHIND THE FENCE, with the first of the pieces beside it
+      module _ {base : Table E} {s : List Place} (xs ps : List Piece) (h : Shown n base v root s (xs ++ ps)) (out : (x : Place) → 1 ≤ times x h.tree → but ≡ Some x → ⊥) where
+        shown_behind : ArePieces (fenced_node n) (λ q. (inside q, v.entry q)) xs → Shown (fenced_node n) (fenced inside v) (fenced inside v) root s xs
+        shown_behind here = record {
           tree = h.tree;
           stands = record {
-            are = ((tt, h.stands.are.0.1), (tree_in v.entry None h.tree all_inside h.stands.are.1.0, (and_from _ _ here h.stands.are.1.1.0, tt)));
-            once = λ q. omega (arith, h.stands.once q);
+            are = ((tt, h.stands.are.0.1), (tree_in v.entry None h.tree (members_inside None h.tree h.stands.are.1.0 (subst (λ (o : Option Place). IsIn inside o) h.stands.are.0.1 closed.starts) out) h.stands.are.1.0, here));
+            once = λ q. omega (arith, h.stands.once q, times_on q xs ps);
             beside = λ q none. refl;
             linked = λ q. refl;
             extent = refl;
@@ -142,15 +168,13 @@ module _ {E : Type 0} (n : E → Node) where
           shape = h.shape;
         }
 
-        module _ {w : Table E} {new_root : Option Place} (linked : KeepsNodes n v w) (r : Shown (fenced_node n) (fenced inside v) (fenced inside w) new_root (front ++ p ∷ back) []) where
-          counted : (q : Place) → times q r.tree ≡ times q h.tree + one_at q p
-          counted q =
-              omega (arith, times_order q r.tree, ap (times_in q) r.order, times_append q front (p ∷ back), times_order q h.tree, ap (times_in q) h.order, times_append q front back)
-
-          kept : (q : Place) → times q r.tree ≡ 0 → w.entry q ≡ v.entry q
+        -- and what an edit makes of it is so in the table, beside the other pieces
+        module _ {w : Table E} {new_root : Option Place} {u : List Place} (ys : List Piece) (linked : KeepsNodes n v w) (r : Shown (fenced_node n) (fenced inside v) (fenced inside w) new_root u ys)
+            (count : (q : Place) → times q r.tree + times_all q ys ≡ times q h.tree + times_all q xs) (are : ArePieces n w.entry ys) where
+          kept : (q : Place) → times q r.tree + times_all q ys ≡ 0 → w.entry q ≡ v.entry q
           kept q none = ap (λ (e : Bool × E). e.1) (r.stands.beside q (omega (arith, none)))
 
-          shown_before : Shown n base w new_root (front ++ p ∷ back) ps
+          shown_before : Shown n base w new_root u (ys ++ ps)
           shown_before = record {
             tree = r.tree;
             stands = record {
@@ -158,26 +182,43 @@ module _ {E : Type 0} (n : E → Node) where
                 (tt, r.stands.are.0.1),
                 (
                   tree_out w.entry None r.tree r.stands.are.1.0,
-                  pieces_same v.entry w.entry ps (λ q m. kept q (omega (arith, h.stands.once q, counted q, some q m))) h.stands.are.1.1.1,
+                  pieces_on w.entry ys ps are (pieces_same v.entry w.entry ps (λ q m. kept q (omega (arith, h.stands.once q, count q, times_on q xs ps, some_of (times_all q ps) m))) (pieces_behind v.entry xs ps h.stands.are.1.1)),
                 ),
               );
-              once = λ q. omega (arith, h.stands.once q, counted q);
-              beside = λ q none. kept q (omega (arith, none)) ∙ h.stands.beside q (omega (arith, none, counted q));
+              once = λ q. omega (arith, h.stands.once q, count q, times_on q xs ps, times_on q ys ps);
+              beside = λ q none. kept q (omega (arith, none, times_on q ys ps)) ∙ h.stands.beside q (omega (arith, none, count q, times_on q xs ps, times_on q ys ps));
               linked = λ q. linked q ∙ h.stands.linked q;
               extent = r.stands.extent ∙ h.stands.extent;
             };
             order = r.order;
             shape = r.shape;
-          } where
-            some_of : (k : ℕ) → (k ≡ 0 → ⊥) → 1 ≤ k
-            some_of zero m = absurd (m refl)
-            some_of (suc k) m = omega arith
+          }
 
-            some : (q : Place) → (times_all q ps ≡ 0 → ⊥) → 1 ≤ times_all q ps
-            some q m = some_of (times_all q ps) m
+    -- A PLACE THAT COMES IN
+    module _ {v : Table E} {root : Option Place} {p : Place} (closed : IsClosedBut n v root (Some p) inside) (here : inside p ≡ true) where
+      pub safe_behind : (parent : Option Place) → IsIn inside parent → IsSafeBut (fenced_node n) (fenced inside v) root p (Some p ∷ parent ∷ [])
+      safe_behind parent i = (inside, closed_behind closed, (here, (i, tt)))
 
       -- PUT IN behind the fence, and so in the table
       pub attached_before : {w : Table E} {new_root : Option Place} (parent : Option Place) (d : Side) → KeepsNodes n v w
           → Attaches (fenced_node n) (fenced inside v) (fenced inside w) root new_root parent d p → Attaches n v w root new_root parent d p
       attached_before {w} {new_root} parent d linked done base gap ps h hole =
-          shown_before gap.front gap.back h linked (done (fenced inside v) gap [] (shown_behind gap.front gap.back h) (hole_behind v parent d gap hole))
+          let out : (x : Place) → 1 ≤ times x h.tree → Some p ≡ Some x → ⊥ =
+          λ x m e. let k : times x h.tree + one_at x p ≤ 1 = omega (arith, h.stands.once x) in let one : one_at x p ≡ 1 = subst (λ (y : Place). one_at y p ≡ 1) (some_same e) (one_at_self p) in omega (arith, m, k, one) in
+          let r = done (fenced inside v) gap [] (shown_behind closed (loose p ∷ []) ps h out (and_from _ _ here h.stands.are.1.1.0, tt)) (hole_behind v parent d gap hole) in
+          shown_before closed (loose p ∷ []) ps h out [] linked r (λ q. counted q gap.front p gap.back h.tree h.order r.tree r.order) tt
+
+    -- A MEMBER THAT GOES
+    module _ {v : Table E} {root : Option Place} (closed : IsClosed n v root inside) where
+      pub safe_within : {p : Place} → inside p ≡ true → IsSafe (fenced_node n) (fenced inside v) root (Some p ∷ [])
+      safe_within here = (inside, closed_behind closed, (here, tt))
+
+      pub shows_behind : {s : List Place} → Shows n v root s → Shows (fenced_node n) (fenced inside v) root s
+      shows_behind h = shows_of (fenced_node n) (shown_behind closed [] [] (shown_of n h) (λ x m e. none_not x e) tt)
+
+      -- TAKEN OUT behind the fence, and so in the table
+      pub taken_before : {p : Place} {w : Table E} {new_root : Option Place} → KeepsNodes n v w → TakesAway (fenced_node n) (fenced inside v) (fenced inside w) root new_root p → TakesAway n v w root new_root p
+      taken_before {p} {w} {new_root} linked done base front back ps h =
+          let out : (x : Place) → 1 ≤ times x h.tree → None ≡ Some x → ⊥ = λ x m e. none_not x e in
+          let r = done (fenced inside v) front back [] (shown_behind closed [] ps h out tt) in
+          shown_before closed [] ps h out (loose p ∷ []) linked r (λ q. let k = counted q front p back r.tree r.order h.tree h.order in omega (arith, k)) (and_right _ _ r.stands.are.1.1.0, tt)

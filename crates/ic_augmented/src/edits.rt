@@ -7,7 +7,7 @@
 //! refresh(&tree, &mut summed);
 //! ```
 
-ghost use Rattle.std.specs.Prelude.{◌≡◌, Option, Some, List, [], ◌∷◌, ◌++◌};
+ghost use Rattle.std.specs.Prelude.{◌≡◌, Option, Some, None, List, [], ◌∷◌, ◌++◌};
 ghost use Rattle.ic_unsafe_ref.specs.declared.place.Place.{Place};
 ghost use Rattle.ic_link_ops.specs.Sequences.{Cut, join, insert, IsAbsent, IsDisjoint, IsDistinct};
 ghost use Rattle.ic_link_ops.specs.Positions.{HasMember};
@@ -15,14 +15,15 @@ ghost use Rattle.ic_link_ops.specs.RedBlackTree.{Shows};
 ghost use Rattle.ic_rbtree.specs.Closed.{IsNode, IsSafeBut, KeepsNodes};
 ghost use Rattle.ic_rbtree.specs.Insertion.{IsHole, Attaches};
 ghost use Rattle.ic_rbtree.specs.Kept.{TellsEnds, IsBelow};
+ghost use Rattle.ic_rbtree.specs.Transplants.{TakesAway};
 ghost use Rattle.ic_rbtree.specs.Tree.{head_of, root_in, adapter_of};
 ghost use Rattle.ic_augmented.specs.Summed.{links_of, sums_of};
 ghost use Rattle.ic_augmented.specs.Beside.{IsWrittenWithin};
 ghost use Rattle.ic_augmented.specs.Consistent.{IsSameAt, ShowsConsistent, ShowsSummed};
 
 use crate::climb::settle;
-use crate::marking::attach_marking;
-use crate::stale::{invalidate_up, refresh_below, refresh_path};
+use crate::marking::{attach_marking, unlink_marking};
+use crate::stale::{invalidate_edge, invalidate_up, refresh_below, refresh_path};
 use crate::summed::Summed;
 use crate::sums::RenewSums;
 use ic_link_ops::Side;
@@ -73,6 +74,44 @@ pub fn attach_fresh<A, E: TreeHead, N: Nodes, M: RenewSums>(
     invalidate_up(&summed.links, &mut summed.sums, place);
     let edge = attach_marking::<Brand, _, _, _, _>(tree, summed, parent, side, place);
     settle(&summed.links, &mut summed.sums, place, edge);
+    let top = tree.root();
+    let _ = refresh_below(&summed.links, &mut summed.sums, top, None, 67);
+}
+
+/// Takes the member at `place` out, as [`RBTree::unlink`] does, and renews the stale summaries of the tree: then it is summed. The place stays
+/// linked, and its summary is stale.
+///
+/// Each fresh summary of another tree in the table stays right, and it stays fresh where those of this tree were written below its own members,
+/// as they are in a tree that is summed. It requires that the place is that of a member, and that there is room for a summary at each linked
+/// place. O(log n + v) for v summaries that were stale before.
+pub fn unlink_fresh<A, E: TreeHead, N: Nodes, M: RenewSums>(
+    tree: &mut RBTree<A, E>,
+    summed: &mut Summed<N, M>,
+    place: Place,
+)
+    requires member { HasMember (Shows N.node (N.table (links_of summed.old)) (root_in E.kept tree.old)) place }
+    requires covered { (q : Place) → IsNode N.node (N.table (links_of summed.old)) q → M.Covers (sums_of summed.old) q }
+    ensures summed { (front back : List Place)
+        → ShowsConsistent N.node (M.sums (sums_of summed.old)) (N.table (links_of summed.old)) (root_in E.kept tree.old) (front ++ place ∷ back)
+        → ShowsSummed N.node (M.sums (sums_of summed.new)) (N.table (links_of summed.new)) (root_in E.kept tree.new) (front ++ back) }
+    ensures others { (s t : List Place) (other : Option Place) → Shows N.node (N.table (links_of summed.old)) (root_in E.kept tree.old) s → IsDisjoint t s
+        → ShowsConsistent N.node (M.sums (sums_of summed.old)) (N.table (links_of summed.old)) other t
+        → ShowsConsistent N.node (M.sums (sums_of summed.new)) (N.table (links_of summed.new)) other t }
+    ensures same { (s : List Place) → Shows N.node (N.table (links_of summed.old)) (root_in E.kept tree.old) s
+        → IsWrittenWithin (M.sums (sums_of summed.old)) s → (q : Place) → IsAbsent q s
+        → IsSameAt (M.sums (sums_of summed.old)) (M.sums (sums_of summed.new)) q }
+    ensures stale { (M.sums (sums_of summed.new)).fresh place ≡ None }
+    ensures taken { TakesAway N.node (N.table (links_of summed.old)) (N.table (links_of summed.new)) (root_in E.kept tree.old) (root_in E.kept tree.new) place }
+    ensures ends { (front back : List Place) → Shows N.node (N.table (links_of summed.old)) (root_in E.kept tree.old) (front ++ place ∷ back)
+        → TellsEnds (E.kept (head_of tree.old)) (front ++ place ∷ back) → TellsEnds (E.kept (head_of tree.new)) (front ++ back) }
+    ensures quiet { N.Quiet (links_of summed.old) (links_of summed.new) }
+    ensures join { (M.sums (sums_of summed.new)).join ≡ (M.sums (sums_of summed.old)).join }
+    ensures covers { (q : Place) → M.Covers (sums_of summed.old) q → M.Covers (sums_of summed.new) q }
+    ensures adapter { adapter_of tree.new ≡ adapter_of tree.old }
+{
+    invalidate_up(&summed.links, &mut summed.sums, place);
+    let edge = unlink_marking::<Brand, _, _, _, _>(tree, summed, place);
+    invalidate_edge(&summed.links, &mut summed.sums, edge);
     let top = tree.root();
     let _ = refresh_below(&summed.links, &mut summed.sums, top, None, 67);
 }

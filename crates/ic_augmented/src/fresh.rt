@@ -1,16 +1,19 @@
-//! Members that come with their summaries fresh.
+//! Members that come and leave with all summaries fresh.
 //!
 //! ```text
 //! insert_fresh(&mut tree, &mut summed, object)?;
 //! len(&tree, &summed) // no call renews the counts in between
+//! remove_fresh(&mut tree, &mut summed, &object);
+//! len(&other, &summed) // nor those of another tree in the table
 //! ```
 
-ghost use Rattle.std.specs.Prelude.{◌≡◌, Option, OnOk, OnErr, IfErr, List, [], ◌∷◌};
+ghost use Rattle.std.specs.Prelude.{◌≡◌, Option, None, OnOk, OnErr, IfErr, List, [], ◌∷◌, ◌++◌};
 ghost use Rattle.ic_unsafe_ref.specs.declared.place.Place.{Place};
-ghost use Rattle.ic_link_ops.specs.LinkSteps.{acquires};
+ghost use Rattle.ic_link_ops.specs.LinkSteps.{acquires, releases};
+ghost use Rattle.ic_link_ops.specs.Positions.{HasMember};
 ghost use Rattle.ic_link_ops.specs.RedBlackTree.{Shows};
 ghost use Rattle.ic_link_ops.specs.Sequences.{IsAbsent, IsDisjoint};
-ghost use Rattle.ic_link_ops.specs.Tables.{IsCovered};
+ghost use Rattle.ic_link_ops.specs.Tables.{IsCovered, KeepsBeside};
 ghost use Rattle.ic_rbtree.specs.Comparing.{compared, own_order};
 ghost use Rattle.ic_rbtree.specs.Kept.{ShowsKept};
 ghost use Rattle.ic_rbtree.specs.Ordered.{InsertsInOrder};
@@ -19,7 +22,7 @@ ghost use Rattle.ic_augmented.specs.Summed.{links_of, sums_of};
 ghost use Rattle.ic_augmented.specs.Beside.{IsWrittenWithin};
 ghost use Rattle.ic_augmented.specs.Consistent.{IsSameAt, ShowsConsistent, ShowsSummed};
 
-use crate::edits::attach_fresh;
+use crate::edits::{attach_fresh, unlink_fresh};
 use crate::summed::Summed;
 use crate::sums::RenewSums;
 use ic_link_ops::rbtree::RBTreeOps;
@@ -79,4 +82,41 @@ pub fn insert_fresh<A: KeyAdapter, E: TreeHead, L: RBTreeOps + LinkValues<A::Val
     let hole = tree.descend(links, links, &mut probe, Side::Right);
     attach_fresh(tree, summed, hole.parent.get(), hole.side, place);
     Ok(())
+}
+
+/// Takes the object, which has to be a member, off the tree, as [`RBTree::remove`] does, and renews the stale summaries of the tree: then it is
+/// summed. The summary that the object's place had is stale.
+///
+/// It does what `remove` and [`refresh`](crate::refresh) do. Each fresh summary of another tree in the table stays right, and it stays fresh where
+/// those of this tree were written below its own members, as they are in a tree that is summed. It requires that there is room for a summary at each
+/// covered place. O(log n + v) for v summaries that were stale before.
+pub fn remove_fresh<A: KeyAdapter, E: TreeHead, L: RBTreeOps, M: RenewSums>(
+    tree: &mut RBTree<A, E>,
+    summed: &mut Summed<L, M>,
+    object: &UnsafeRef<A::Value>,
+)
+    requires member { HasMember (Shows L.node (L.table (links_of summed.old)) (root_in E.kept tree.old)) object.now }
+    requires room { (q : Place) → IsCovered (L.table (links_of summed.old)) q → M.Covers (sums_of summed.old) q }
+    ensures removed { (front back : List Place)
+        → ShowsConsistent L.node (M.sums (sums_of summed.old)) (L.table (links_of summed.old)) (root_in E.kept tree.old) (front ++ object.now ∷ back)
+        → ShowsSummed L.node (M.sums (sums_of summed.new)) (L.table (links_of summed.new)) (root_in E.kept tree.new) (front ++ back) }
+    ensures kept { (front back : List Place) → ShowsKept E.kept L.node (L.table (links_of summed.old)) (head_of tree.old) (front ++ object.now ∷ back)
+        → ShowsKept E.kept L.node (L.table (links_of summed.new)) (head_of tree.new) (front ++ back) }
+    ensures others { (s t : List Place) (other : Option Place) → Shows L.node (L.table (links_of summed.old)) (root_in E.kept tree.old) s → IsDisjoint t s
+        → ShowsConsistent L.node (M.sums (sums_of summed.old)) (L.table (links_of summed.old)) other t
+        → ShowsConsistent L.node (M.sums (sums_of summed.new)) (L.table (links_of summed.new)) other t }
+    ensures same { (s : List Place) → Shows L.node (L.table (links_of summed.old)) (root_in E.kept tree.old) s
+        → IsWrittenWithin (M.sums (sums_of summed.old)) s → (q : Place) → IsAbsent q s
+        → IsSameAt (M.sums (sums_of summed.old)) (M.sums (sums_of summed.new)) q }
+    ensures stale { (M.sums (sums_of summed.new)).fresh object.now ≡ None }
+    ensures released { L.Does (links_of summed.old) (links_of summed.new) (releases object.now ∷ []) }
+    ensures frame { (s : List Place) → Shows L.node (L.table (links_of summed.old)) (root_in E.kept tree.old) s
+        → KeepsBeside (L.table (links_of summed.old)) (L.table (links_of summed.new)) s }
+    ensures join { (M.sums (sums_of summed.new)).join ≡ (M.sums (sums_of summed.old)).join }
+    ensures covers { (q : Place) → M.Covers (sums_of summed.old) q → M.Covers (sums_of summed.new) q }
+    ensures adapter { adapter_of tree.new ≡ adapter_of tree.old }
+{
+    let place = object.place();
+    unlink_fresh(tree, summed, place);
+    summed.links.release_link(place);
 }

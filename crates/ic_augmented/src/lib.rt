@@ -27,9 +27,9 @@ mod summed;
 mod sums;
 
 pub use counts::Counts;
-pub use edits::{attach_fresh, propagate, refresh};
+pub use edits::{attach_fresh, propagate, refresh, unlink_fresh};
 pub use exceeding::first_greater;
-pub use fresh::insert_fresh;
+pub use fresh::{insert_fresh, remove_fresh};
 pub use greatest::Greatest;
 pub use no_sums::NoSums;
 pub use overlaps::{first_overlap, next_overlap};

@@ -1,15 +1,19 @@
-//! Links and summaries while one place is put in: what the surgery of a tree writes to, if the place above the stale summaries is to be told.
+//! Links and summaries while one place is put in or taken out: what the surgery of a tree writes to, if the place above the stale summaries is to be
+//! told.
 //!
 //! ```text
 //! let edge = attach_marking(&mut tree, &mut summed, parent, side, place); // its summary is as it was
+//! let edge = unlink_marking(&mut tree, &mut summed, place);
 //! ```
 
-ghost use Rattle.std.specs.Prelude.{◌≡◌, ◌⊎◌, Bool, true, Some, None, List, [], ◌∷◌};
+ghost use Rattle.std.specs.Prelude.{◌≡◌, ◌⊎◌, Bool, true, Some, None, List, [], ◌∷◌, ◌++◌};
 ghost use Rattle.ic_unsafe_ref.specs.declared.place.Place.{Place};
+ghost use Rattle.ic_link_ops.specs.RedBlackTree.{Shows};
 ghost use Rattle.ic_link_ops.specs.Sequences.{Cut, join, insert, IsDistinct};
-ghost use Rattle.ic_rbtree.specs.Closed.{AreIn, IsIn, IsClosedBut, KeepsNodes};
+ghost use Rattle.ic_rbtree.specs.Closed.{AreIn, IsIn, IsClosed, IsClosedBut, KeepsNodes};
 ghost use Rattle.ic_rbtree.specs.Insertion.{Attaches};
 ghost use Rattle.ic_rbtree.specs.Kept.{TellsEnds, IsBelow};
+ghost use Rattle.ic_rbtree.specs.Transplants.{TakesAway};
 ghost use Rattle.ic_rbtree.specs.Tree.{head_of, root_in, adapter_of};
 ghost use Rattle.ic_augmented.specs.Beside.{IsWrittenIn, IsSameBeside, StaysInside};
 ghost use Rattle.ic_augmented.specs.Consistent.{IsConsistent, IsConsistentBut, KeepsEdge};
@@ -192,6 +196,56 @@ pub(crate) fn attach_marking<F: Fence, A, E: TreeHead, N: Nodes, M: Sums>(
 {
     let mut marking: Marking<'_, N, M, F> = Marking::new(summed);
     attach_inside(tree, &mut marking, parent, side, place);
+    let Marking {
+        summed: _,
+        edge,
+        fence: _,
+    } = marking;
+    edge
+}
+
+// Takes the member out, as `RBTree::unlink` does. Inside the fence stands the tree, and nothing outside it is written.
+fn unlink_inside<F: Fence, A, E: TreeHead, N: Nodes, M: Sums>(
+    tree: &mut RBTree<A, E>,
+    marking: &mut Marking<'_, N, M, F>,
+    place: Place,
+)
+    requires closed { IsClosed N.node (N.table (links_in marking.old)) (root_in E.kept tree.old) F.inside }
+    requires inside { F.inside place ≡ true }
+    ensures taken { TakesAway N.node (N.table (links_in marking.old)) (N.table (links_in marking.new)) (root_in E.kept tree.old) (root_in E.kept tree.new) place }
+    ensures ends { (front back : List Place) → Shows N.node (N.table (links_in marking.old)) (root_in E.kept tree.old) (front ++ place ∷ back)
+        → TellsEnds (E.kept (head_of tree.old)) (front ++ place ∷ back) → TellsEnds (E.kept (head_of tree.new)) (front ++ back) }
+    ensures quiet { QuietlyMarks N.Quiet N.node N.table M.sums M.Covers F.inside marking.old marking.new }
+    ensures adapter { adapter_of tree.new ≡ adapter_of tree.old }
+{
+    tree.unlink(marking, place);
+}
+
+// Takes the member out, as `RBTree::unlink` does, and tells the edge: above the stale summaries, with one that is as it was and may be wrong.
+// What no place inside the fence leads to stays the same.
+pub(crate) fn unlink_marking<F: Fence, A, E: TreeHead, N: Nodes, M: Sums>(
+    tree: &mut RBTree<A, E>,
+    summed: &mut Summed<N, M>,
+    place: Place,
+) -> Option<Place>
+    requires closed { IsClosed N.node (N.table (links_of summed.old)) (root_in E.kept tree.old) F.inside }
+    requires inside { F.inside place ≡ true }
+    ensures taken { TakesAway N.node (N.table (links_of summed.old)) (N.table (links_of summed.new)) (root_in E.kept tree.old) (root_in E.kept tree.new) place }
+    ensures ends { (front back : List Place) → Shows N.node (N.table (links_of summed.old)) (root_in E.kept tree.old) (front ++ place ∷ back)
+        → TellsEnds (E.kept (head_of tree.old)) (front ++ place ∷ back) → TellsEnds (E.kept (head_of tree.new)) (front ++ back) }
+    ensures linked { KeepsNodes N.node (N.table (links_of summed.old)) (N.table (links_of summed.new)) }
+    ensures quiet { N.Quiet (links_of summed.old) (links_of summed.new) }
+    ensures consistent { (s : List Place) → IsConsistent N.node (N.table (links_of summed.old)) (M.sums (sums_of summed.old)) s
+        → IsConsistentBut N.node (N.table (links_of summed.new)) (M.sums (sums_of summed.new)) s result }
+    ensures marks { MarksAlone (M.sums (sums_of summed.old)) (M.sums (sums_of summed.new)) }
+    ensures beside { IsWrittenIn (M.sums (sums_of summed.old)) F.inside
+        → IsIn F.inside result × IsSameBeside (M.sums (sums_of summed.old)) (M.sums (sums_of summed.new)) F.inside }
+    ensures join { (M.sums (sums_of summed.new)).join ≡ (M.sums (sums_of summed.old)).join }
+    ensures covers { (q : Place) → M.Covers (sums_of summed.old) q → M.Covers (sums_of summed.new) q }
+    ensures adapter { adapter_of tree.new ≡ adapter_of tree.old }
+{
+    let mut marking: Marking<'_, N, M, F> = Marking::new(summed);
+    unlink_inside(tree, &mut marking, place);
     let Marking {
         summed: _,
         edge,
