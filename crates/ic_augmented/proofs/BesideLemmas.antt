@@ -11,7 +11,7 @@ use Rattle.ic_link_ops.specs.Trees.{Tree, leaf, fork, in_order}
 use Rattle.ic_link_ops.proofs.SequenceLemmas.{none_not, some_same, absent_left, absent_right, absent_both}
 use Rattle.ic_link_ops.proofs.Times.{absent_times, one_at_self, one_at_other, times_order}
 use Rattle.ic_rbtree.proofs.ShownClosed.{is_it, among}
-use Rattle.ic_augmented.specs.Sums.{Sums, is_fresh, IsSummed, MarksAlone}
+use Rattle.ic_augmented.specs.Sums.{Sums, is_fresh, IsSummed}
 use Rattle.ic_augmented.specs.Consistent.{ShowsSummed}
 use Rattle.ic_augmented.specs.Beside.{IsWrittenWithin, IsWrittenIn}
 use Rattle.ic_augmented.proofs.ConsistencyLemmas.{where_is}
@@ -43,13 +43,6 @@ absent_insert q p gap s e out =
     absent_both q gap.front (p ∷ gap.back) (absent_left q gap.front gap.back k) (out.0, absent_right q gap.front gap.back k)
 
 module _ {S : Type 0} where
-  -- what was stale is so where no summary was written
-  pub stale_still : (x y : Sums S) → MarksAlone x y → (p : Place) → x.fresh p ≡ None → y.fresh p ≡ None
-  stale_still x y h p none = told (y.fresh p) refl where
-    told : (o : Option S) → y.fresh p ≡ o → y.fresh p ≡ None
-    told None is = is
-    told (Some a) is = absurd (none_not a (sym none ∙ h.fresh p a is))
-
   -- WRITTEN WITHIN, in both words
   pub written_among : (z : Sums S) (s : List Place) → IsWrittenWithin z s → IsWrittenIn z (λ q. among q s)
   written_among z s h q p m e up = times_among p s (h q p (among_times q s m) e up)

@@ -150,6 +150,9 @@ module _ {S : Type 0} where
   pub writes_same : (z w : Sums S) (p : Place) (x : Option S) (up : Option Place) (q : Place) → Writes z w p x up → q ≢ p → IsSameAt z w q
   writes_same z w p x up q h n = record { fresh = h.others q n; upper = h.uppers q n }
 
+  pub invalidated_same : (z w : Sums S) (p q : Place) → Invalidates z w p → q ≢ p → IsSameAt z w q
+  invalidated_same z w p q h n = record { fresh = h.others q n; upper = h.upper q }
+
   pub refreshes_none : (z : Sums S) (up o : Option Place) (t : Tree) (fuel : ℕ) → o ≡ None → o ≡ top t → Refreshes IsConsistentTree z z up t fuel
   refreshes_none z up o leaf fuel none e = record { frame = λ q m. same_still z q; join = refl; summed = λ once h low. tt }
   refreshes_none z up o (fork c a p b) fuel none e = absurd (none_not p (sym none ∙ e))

@@ -25,10 +25,10 @@ use Rattle.ic_rbtree.proofs.Attaching.{inserts}
 use Rattle.ic_rbtree.proofs.Removing.{removes, loose_absent, shown_of, shows_of}
 use Rattle.ic_rbtree.proofs.Climbed.{path_few}
 use Rattle.ic_rbtree.proofs.ShownClosed.{among_there, with_itself, shown_closed, shown_closed_but, hole_in}
-use Rattle.ic_augmented.specs.Sums.{Sums, is_fresh}
+use Rattle.ic_augmented.specs.Sums.{Sums, is_fresh, Invalidates}
 use Rattle.ic_augmented.specs.Consistent.{IsSameAt, IsConsistent, IsConsistentTree, KeepsConsistent, ShowsConsistent, ShowsSummed, Refreshes, IsJoined}
 use Rattle.ic_augmented.proofs.FenceLemmas.{fence_of, fence_is, members_of, members_are}
-use Rattle.ic_augmented.proofs.ConsistencyLemmas.{not_stale, times_top, summed_top, fresh_summed, consistent_tree, tree_consistent, consistent_kept, summed_consistent_tree}
+use Rattle.ic_augmented.proofs.ConsistencyLemmas.{not_stale, invalidated_same, times_top, summed_top, fresh_summed, consistent_tree, tree_consistent, consistent_kept, summed_consistent_tree}
 
 module _ {E : Type 0} (n : E → Node) where
   -- no change is one of a place alone
@@ -100,6 +100,10 @@ module _ {E : Type 0} (n : E → Node) where
       let put = inserts n v v w root new_root p gap (unchanged v p) (done v gap [] (loose_shown v root (join gap) p h out linked) hole) in
       shows_frame k (disjoint_cons p t (join gap) absent apart) put.frame
 
+-- a member is another place than one that is none
+member_other : (q p : Place) (s : List Place) → IsAbsent p s → 1 ≤ times_in q s → q ≢ p
+member_other q p s out m i = let k : times_in q s ≡ 0 = subst (λ (y : Place). times_in y s ≡ 0) (sym i) (absent_times p s out) in absurd (omega (arith, m, k))
+
 -- an insert in order, by the object's own key among the values that stood before
 pub own_searched : {E H V K : Type 0} {Shows : Table E → H → List Place → Type 0} {old w : Table E} {head : H} {s : List Place} (cmp : K → K → Ordering) (key_of : V → K)
     {order : V → Ordering} {before after : Objects V} {place object : Place} → place ≡ object → after ≡ before → order ≡ own_order cmp key_of after place
@@ -168,11 +172,19 @@ module _ {E S : Type 0} (n : E → Node) where
         let told = summed_top z None h.shows.tree p h.summed was in
         (ap is_fresh kept.fresh ∙ told.0, kept.upper ∙ told.1)
 
+  -- AND WHERE A PLACE that is no member is made stale
+  pub invalidated_shows : (v : Table E) (z y : Sums S) (root : Option Place) (s : List Place) (p : Place) → IsAbsent p s → Invalidates z y p → ShowsConsistent n z v root s → ShowsConsistent n y v root s
+  invalidated_shows v z y root s p out k h = others_consistent v z y root s k.join (λ q m. invalidated_same z y p q k (member_other q p s out m)) h
+
+  pub invalidated_summed : (v : Table E) (z y : Sums S) (root : Option Place) (s : List Place) (p : Place) → IsAbsent p s → Invalidates z y p → ShowsSummed n z v root s → ShowsSummed n y v root s
+  invalidated_summed v z y root s p out k h =
+      still_summed v v z y root s (λ q m. invalidated_same z y p q k (member_other q p s out m)) h (invalidated_shows v z y root s p out k (still_consistent v z root s h))
+
   -- another place changes
   pub beside_consistent : (v w : Table E) (z : Sums S) (t : List Place) (p : Place) → IsAbsent p t → ChangesOnly v w p → IsConsistent n v z t → IsConsistent n w z t
   beside_consistent v w z t p out only h q m but x k = subst (λ (y : E). IsJoined z q (n y).left (n y).right x) (sym (only.others q other)) (h q m but x k) where
     other : q ≢ p
-    other i = let k : times_in q t ≡ 0 = subst (λ (y : Place). times_in y t ≡ 0) (sym i) (absent_times p t out) in absurd (omega (arith, m, k))
+    other = member_other q p t out m
 
   pub beside_shows : (v w : Table E) (z : Sums S) (root : Option Place) (s : List Place) (p : Place) → IsAbsent p s → ChangesOnly v w p → ShowsConsistent n z v root s → ShowsConsistent n z w root s
   beside_shows v w z root s p out only h = (shows_beside h.0 out only.others, beside_consistent v w z s p out only h.1)

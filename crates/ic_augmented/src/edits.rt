@@ -109,11 +109,11 @@ pub fn unlink_fresh<A, E: TreeHead, N: Nodes, M: RenewSums>(
     ensures covers { (q : Place) → M.Covers (sums_of summed.old) q → M.Covers (sums_of summed.new) q }
     ensures adapter { adapter_of tree.new ≡ adapter_of tree.old }
 {
-    invalidate_up(&summed.links, &mut summed.sums, place);
     let edge = unlink_marking::<Brand, _, _, _, _>(tree, summed, place);
     invalidate_edge(&summed.links, &mut summed.sums, edge);
     let top = tree.root();
     let _ = refresh_below(&summed.links, &mut summed.sums, top, None, 67);
+    summed.sums.invalidate(place);
 }
 
 /// Renews the stale summaries of the tree: then it is summed. The links stay, and so does all that is kept at places outside the tree.

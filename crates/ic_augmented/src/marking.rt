@@ -244,12 +244,12 @@ pub(crate) fn unlink_marking<F: Fence, A, E: TreeHead, N: Nodes, M: Sums>(
     ensures covers { (q : Place) → M.Covers (sums_of summed.old) q → M.Covers (sums_of summed.new) q }
     ensures adapter { adapter_of tree.new ≡ adapter_of tree.old }
 {
-    let mut marking: Marking<'_, N, M, F> = Marking::new(summed);
-    unlink_inside(tree, &mut marking, place);
+    let mut marked: Marking<'_, N, M, F> = Marking::new(summed);
+    unlink_inside(tree, &mut marked, place);
     let Marking {
         summed: _,
         edge,
         fence: _,
-    } = marking;
+    } = marked;
     edge
 }

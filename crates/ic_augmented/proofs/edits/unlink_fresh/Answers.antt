@@ -1,16 +1,16 @@
 use Rattle.std.proofs.Common.{◌≡◌, ◌∙◌, ◌∷◌, ◌++◌, Bool, List, sym, subst, true, None}
 use Rattle.ic_unsafe_ref.specs.declared.place.Place.{Place}
 use Rattle.ic_link_ops.specs.Sequences.{IsAbsent, IsDisjoint}
-use Rattle.ic_link_ops.proofs.SequenceLemmas.{absent_without, disjoint_remove, disjoint_sym}
+use Rattle.ic_link_ops.proofs.SequenceLemmas.{absent_right, absent_without, disjoint_remove, disjoint_right, disjoint_sym}
 use Rattle.ic_link_ops.proofs.ShownTrees.{holds_out, one_sequence, shows_frame}
 use Rattle.ic_rbtree.specs.Closed.{IsIn}
-use Rattle.ic_rbtree.proofs.ShownClosed.{among, among_there}
+use Rattle.ic_rbtree.proofs.ShownClosed.{among}
 use Rattle.ic_augmented.specs.Beside.{IsWrittenIn, IsSameBeside}
 use Rattle.ic_augmented.specs.MarkLaws.{written_still}
-use Rattle.ic_augmented.proofs.BesideLemmas.{written_among, absent_out, stale_still}
+use Rattle.ic_augmented.proofs.BesideLemmas.{written_among, absent_out}
 use Rattle.ic_augmented.proofs.ChangeLemmas.{member_out}
-use Rattle.ic_augmented.proofs.ConsistencyLemmas.{same_on}
-use Rattle.ic_augmented.proofs.EditLemmas.{unchanged, unlink_closed, unlinked, unlinked_absent, without_member, refreshed, others_consistent}
+use Rattle.ic_augmented.proofs.ConsistencyLemmas.{invalidated_same, same_on}
+use Rattle.ic_augmented.proofs.EditLemmas.{unchanged, unlink_closed, unlinked, unlinked_absent, without_member, refreshed, others_consistent, invalidated_shows, invalidated_summed}
 use Rattle.ic_augmented.proofs.FenceLemmas.{members_are}
 use Rattle.ic_augmented.proofs.edits.unlink_fresh.Goals as goal
 
@@ -28,27 +28,33 @@ refresh_below-requires-clause-tree g c =
 
 pub refresh_below-requires-clause-covered : goal.refresh_below-requires-clause-covered
 refresh_below-requires-clause-covered g c q is =
-    c.invalidate_edge.ensures.covers q (c.unlink_marking-edge.ensures.covers q (c.invalidate_up.ensures.covers q (c.requires.covered q (sym (c.unlink_marking-edge.ensures.linked q) ∙ is))))
+    c.invalidate_edge.ensures.covers q (c.unlink_marking-edge.ensures.covers q (c.requires.covered q (sym (c.unlink_marking-edge.ensures.linked q) ∙ is)))
 
 pub returns-clause-summed : goal.returns-clause-summed
 returns-clause-summed g c front back h =
     let n = g.N.Nodes.node in
-    let s = front ++ c.args.place ∷ back in
+    let p = c.args.place in
+    let s = front ++ p ∷ back in
     let w = g.N.Nodes.table c.unlink_marking-edge.new.summed.links in
-    let shown = (unlinked n _ _ _ _ front c.args.place back c.unlink_marking-edge.ensures.taken h.0 (unchanged n _ c.args.place)).shows in
-    let right = c.invalidate_edge.ensures.edge.consistent s (c.unlink_marking-edge.ensures.consistent s (c.invalidate_up.ensures.consistent.consistent s h.1)) in
-    refreshed n w _ _ _ (front ++ back) (shown, without_member n w _ front c.args.place back right) (c.refresh_below.ensures.refreshed None shown.tree shown.held.entries (c.root-top.ensures ∙ shown.starts))
+    let taken = c.unlink_marking-edge.ensures.taken in
+    let shown = (unlinked n _ _ _ _ front p back taken h.0 (unchanged n _ p)).shows in
+    let right = c.invalidate_edge.ensures.edge.consistent s (c.unlink_marking-edge.ensures.consistent s h.1) in
+    let fresh = c.refresh_below.ensures.refreshed None shown.tree shown.held.entries (c.root-top.ensures ∙ shown.starts) in
+    invalidated_summed n w _ _ _ (front ++ back) p (unlinked_absent n _ _ _ _ front p back taken h.0) c.invalidate.ensures.invalidated
+    (refreshed n w _ _ _ (front ++ back) (shown, without_member n w _ front p back right) fresh)
 
 pub returns-clause-others : goal.returns-clause-others
 returns-clause-others g c s t other shown apart h =
     let n = g.N.Nodes.node in
+    let p = c.args.place in
     let m = c.requires.member in
-    let r = unlinked n _ _ _ _ m.front c.args.place m.back c.unlink_marking-edge.ensures.taken m.shown (unchanged n _ c.args.place) in
-    let from : IsDisjoint t (m.front ++ c.args.place ∷ m.back) = subst (IsDisjoint t) (one_sequence shown m.shown) apart in
-    let both = disjoint_remove m.front m.back t c.args.place (disjoint_sym t (m.front ++ c.args.place ∷ m.back) from) in
-    let right = c.invalidate_edge.ensures.edge.consistent t (c.unlink_marking-edge.ensures.consistent t (c.invalidate_up.ensures.consistent.consistent t h.1)) in
+    let r = unlinked n _ _ _ _ m.front p m.back c.unlink_marking-edge.ensures.taken m.shown (unchanged n _ p) in
+    let from : IsDisjoint t (m.front ++ p ∷ m.back) = subst (IsDisjoint t) (one_sequence shown m.shown) apart in
+    let both = disjoint_remove m.front m.back t p (disjoint_sym t (m.front ++ p ∷ m.back) from) in
+    let right = c.invalidate_edge.ensures.edge.consistent t (c.unlink_marking-edge.ensures.consistent t h.1) in
     let fresh = c.refresh_below.ensures.refreshed None r.shows.tree r.shows.held.entries (c.root-top.ensures ∙ r.shows.starts) in
-    others_consistent n _ _ _ other t fresh.join (λ q k. fresh.frame q (holds_out r.shows.held q (member_out q (m.front ++ m.back) t both k))) (shows_frame h.0 from r.frame, right)
+    let renewed = others_consistent n _ _ _ other t fresh.join (λ q k. fresh.frame q (holds_out r.shows.held q (member_out q (m.front ++ m.back) t both k))) (shows_frame h.0 from r.frame, right) in
+    invalidated_shows n _ _ _ other t p (disjoint_sym t (p ∷ m.back) (disjoint_right t m.front (p ∷ m.back) from)).0 c.invalidate.ensures.invalidated renewed
 
 pub returns-clause-same : goal.returns-clause-same
 returns-clause-same g c s shown within q absent =
@@ -56,37 +62,24 @@ returns-clause-same g c s shown within q absent =
     let p = c.args.place in
     let m = c.requires.member in
     let z0 = g.M.Sums.sums c.args.summed.now.sums in
-    let z1 = g.M.Sums.sums c.invalidate_up.new.sums in
-    let z2 = g.M.Sums.sums c.unlink_marking-edge.new.summed.sums in
-    let z3 = g.M.Sums.sums c.invalidate_edge.new.sums in
-    let z4 = g.M.Sums.sums c.refresh_below.new.sums in
+    let z1 = g.M.Sums.sums c.unlink_marking-edge.new.summed.sums in
+    let z2 = g.M.Sums.sums c.invalidate_edge.new.sums in
+    let z3 = g.M.Sums.sums c.refresh_below.new.sums in
+    let z4 = g.M.Sums.sums c.invalidate.new.self in
     let inside = λ (x : Place). among x s in
-    let there : among p s ≡ true = subst (λ (u : List Place). among p u ≡ true) (one_sequence m.shown shown) (among_there p m.front m.back) in
     let out = absent_out q s absent in
     let written = written_among z0 s within in
-    let still = written_still z0 z1 c.invalidate_up.ensures.consistent.marks inside written in
-    let put = subst (λ (S : Place → Bool). IsWrittenIn z1 S → IsIn S c.unlink_marking-edge.result × IsSameBeside z1 z2 S) (members_are n shown)
-    c.unlink_marking-edge.ensures.beside still in
-    let edge = c.invalidate_edge.ensures.beside inside (written_still z1 z2 c.unlink_marking-edge.ensures.marks inside still) put.0 in
+    let put = subst (λ (S : Place → Bool). IsWrittenIn z0 S → IsIn S c.unlink_marking-edge.result × IsSameBeside z0 z1 S) (members_are n shown) c.unlink_marking-edge.ensures.beside written in
+    let edge = c.invalidate_edge.ensures.beside inside (written_still z0 z1 c.unlink_marking-edge.ensures.marks inside written) put.0 in
     let h = (unlinked n _ _ _ _ m.front p m.back c.unlink_marking-edge.ensures.taken m.shown (unchanged n _ p)).shows in
     let fresh = c.refresh_below.ensures.refreshed None h.tree h.held.entries (c.root-top.ensures ∙ h.starts) in
-    let beyond = absent_without m.front m.back p q (subst (IsAbsent q) (one_sequence shown m.shown) absent) in
-    same_on z0 z1 z4 q (c.invalidate_up.ensures.beside inside written there q out) (same_on z1 z2 z4 q (put.1 q out) (same_on z2 z3 z4 q (edge.1 q out) (fresh.frame q (holds_out h.held q beyond))))
-
-pub returns-clause-stale : goal.returns-clause-stale
-returns-clause-stale g c =
-    let n = g.N.Nodes.node in
-    let p = c.args.place in
-    let m = c.requires.member in
-    let taken = c.unlink_marking-edge.ensures.taken in
-    let h = (unlinked n _ _ _ _ m.front p m.back taken m.shown (unchanged n _ p)).shows in
-    let fresh = c.refresh_below.ensures.refreshed None h.tree h.held.entries (c.root-top.ensures ∙ h.starts) in
-    (fresh.frame p (holds_out h.held p (unlinked_absent n _ _ _ _ m.front p m.back taken m.shown))).fresh
-    ∙ stale_still _ _ c.invalidate_edge.ensures.edge.marks p (stale_still _ _ c.unlink_marking-edge.ensures.marks p c.invalidate_up.ensures.stale)
+    let beyond : IsAbsent q (m.front ++ p ∷ m.back) = subst (IsAbsent q) (one_sequence shown m.shown) absent in
+    let stale = invalidated_same z3 z4 p q c.invalidate.ensures.invalidated (absent_right q m.front (p ∷ m.back) beyond).0 in
+    same_on z0 z1 z4 q (put.1 q out) (same_on z1 z2 z4 q (edge.1 q out) (same_on z2 z3 z4 q (fresh.frame q (holds_out h.held q (absent_without m.front m.back p q beyond))) stale))
 
 pub returns-clause-join : goal.returns-clause-join
 returns-clause-join g c =
     let m = c.requires.member in
     let h = (unlinked g.N.Nodes.node _ _ _ _ m.front c.args.place m.back c.unlink_marking-edge.ensures.taken m.shown (unchanged g.N.Nodes.node _ c.args.place)).shows in
-    (c.refresh_below.ensures.refreshed None h.tree h.held.entries (c.root-top.ensures ∙ h.starts)).join
-    ∙ (c.invalidate_edge.ensures.edge.join ∙ (c.unlink_marking-edge.ensures.join ∙ c.invalidate_up.ensures.consistent.join))
+    c.invalidate.ensures.invalidated.join
+    ∙ ((c.refresh_below.ensures.refreshed None h.tree h.held.entries (c.root-top.ensures ∙ h.starts)).join ∙ (c.invalidate_edge.ensures.edge.join ∙ c.unlink_marking-edge.ensures.join))

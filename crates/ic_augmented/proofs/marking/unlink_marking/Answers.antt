@@ -4,12 +4,12 @@ use Rattle.ic_augmented.specs.Marking.{links_in, sums_in, edge_in}
 use Rattle.ic_augmented.proofs.marking.unlink_marking.Goals as goal
 
 pub unlink_inside-requires-clause-closed : goal.unlink_inside-requires-clause-closed
-unlink_inside-requires-clause-closed g c = rw c.new-marking.ensures.borrows.1 c.requires.closed
+unlink_inside-requires-clause-closed g c = rw c.new-marked.ensures.borrows.1 c.requires.closed
 
 pub returns-clause-consistent : goal.returns-clause-consistent
 returns-clause-consistent g c s h =
     let n = g.N.Nodes.node in
-    let start : IsConsistentBut n (g.N.Nodes.table (links_in c.new-marking.result)) (g.M.Sums.sums (sums_in c.new-marking.result)) s (edge_in c.new-marking.result)
-    = rw (c.new-marking.ensures.borrows.1, c.new-marking.ensures.edge) h in
+    let start : IsConsistentBut n (g.N.Nodes.table (links_in c.new-marked.result)) (g.M.Sums.sums (sums_in c.new-marked.result)) s (edge_in c.new-marked.result)
+    = rw (c.new-marked.ensures.borrows.1, c.new-marked.ensures.edge) h in
     let done = c.unlink_inside.ensures.quiet.consistent s start in
     search rules
