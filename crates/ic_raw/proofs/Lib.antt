@@ -15,6 +15,7 @@ pub mod HashTables
 pub mod Xor
 pub mod Seen
 pub mod Trees
+pub mod TreeSets
 pub mod Keys
 pub mod Runs
 pub mod TreeWalks

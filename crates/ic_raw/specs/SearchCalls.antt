@@ -1,6 +1,7 @@
 -- WHAT THE CALLS OF RED-BLACK TREES BY KEYS DO, which stand in an array, one for each place: each record is the whole contract of a call.
 use Rattle.std.specs.Prelude.{◌≡◌, ◌≢◌, ◌≤◌, ◌⊎◌, ◌∷◌, ℕ, List, [], Option, Some, None, length}
 use Rattle.ic_unsafe_ref.specs.declared.place.Place.{Place}
+use Rattle.ic_link_ops.specs.Tables.{LinksAlso}
 use Rattle.ic_raw.specs.declared.search.Target.{Target}
 use Rattle.ic_raw.specs.declared.search.Target.TheVariants.{Equal}
 use Rattle.ic_raw.specs.declared.status.TheConstants.{OK, NULL}
@@ -8,6 +9,8 @@ use Rattle.ic_raw.specs.declared.words.RawRoot.{RawRoot}
 use Rattle.ic_raw.specs.declared.words.RawThree.{RawThree}
 use Rattle.ic_raw.specs.Answers.{IsStatus, HandsOut, refusal}
 use Rattle.ic_raw.specs.Keys.{against, keys_fault, IsTarget, InsertedInOrder, NamesKey, SearchEnds}
+use Rattle.ic_raw.specs.Seen.{StaysWithin, HandsOutReached}
+use Rattle.ic_raw.specs.Words.{is_linked_three}
 use Rattle.ic_raw.specs.Tree.{ShowsTree, FreeIn, StandsIn, IsWritten, NamesLinked, root_in, fault_of, table_of}
 
 -- the words of the table before the call and after it
@@ -19,6 +22,8 @@ module _ (keys : List ℕ) (old new : List RawThree) (status : ℕ) where
     pub no_place : place ≡ None → status ≢ OK
     pub enough : status ≡ OK → length old ≤ length keys
     pub root : status ≡ OK → StandsIn old (root_in tree)
+    pub linked : (p : Place) → place ≡ Some p → status ≡ OK → LinksAlso is_linked_three (table_of old) (table_of new) p
+    pub within : status ≡ OK → StaysWithin (table_of old) (table_of new) (root_in tree) (root_in tree') place None []
     pub words : status ≡ OK → IsWritten tree'
     pub refused : status ≢ OK → (new ≡ old) × (tree' ≡ tree)
     pub why : status ≢ OK → status ≡ refusal (keys_fault keys (length old) ∷ fault_of old place ∷ [])
@@ -28,6 +33,7 @@ module _ (keys : List ℕ) (old new : List RawThree) (status : ℕ) where
   pub record FindCall (tree : RawRoot) (key : ℕ) (target : Target) (was number : ℕ) : Type 0 where
     pub found : (s : List Place) → length old ≤ length keys → ShowsTree old tree s → HandsOut (IsTarget target (against key keys) s) status number
     pub linked : status ≡ OK → NamesLinked old number
+    pub reached : status ≡ OK → HandsOutReached (table_of old) (root_in tree) [] number
     pub equal : target ≡ Equal → status ≡ OK → NamesKey keys key number
     pub ended : status ≡ NULL → SearchEnds target keys key (table_of old) (root_in tree)
     pub refused : status ≢ OK → number ≡ was

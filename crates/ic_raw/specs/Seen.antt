@@ -1,12 +1,14 @@
 -- What the surgery of a tree sees of a caller's words: every place that the table has, and no other.
-use Rattle.std.specs.Prelude.{◌≡◌, ℕ, Bool, cond, nat_lt, Option, Some, None}
+use Rattle.std.specs.Prelude.{◌≡◌, ◌≢◌, ◌⊎◌, ℕ, Bool, true, cond, nat_lt, Option, Some, None, List}
 use Rattle.ic_unsafe_ref.specs.declared.place.Place.{Place}
 use Rattle.ic_unsafe_ref.specs.Places.{index_of}
-use Rattle.ic_link_ops.specs.Tables.{Table, KeepsLinked}
+use Rattle.ic_link_ops.specs.Tables.{Table, IsLinked, KeepsLinked}
 use Rattle.ic_link_ops.specs.RedBlackTree.{Node}
+use Rattle.ic_link_ops.specs.Walk.{is_end}
+use Rattle.ic_rbtree.specs.Closed.{IsIn, AreIn, IsClosed, IsClosedBut}
 use Rattle.ic_raw.specs.declared.words.RawThree.{RawThree}
 use Rattle.ic_raw.specs.declared.nodes.Seen.{Seen}
-use Rattle.ic_raw.specs.Words.{place_in, is_linked_three, color_of}
+use Rattle.ic_raw.specs.Words.{place_in, is_linked_three, color_of, HasNumber}
 
 -- the place that is named, if the table has it
 abbrev pub named_within : ℕ → Option Place → Option Place
@@ -46,3 +48,25 @@ pub record KeepsMarks (old new : Table RawThree) : Type 0 where
   pub extent : new.extent ≡ old.extent
   pub marks : KeepsLinked is_linked_three old new
   pub names : (q : Place) → IsWithin old q → IsWithin new q
+
+-- A PLACE IS REACHED by links from these ends and the root: it is in each set that has them, and out of which no link leads as the words are read
+abbrev pub IsReached : Table RawThree → (root : Option Place) → List (Option Place) → Place → Type 0
+IsReached t root ends q = (S : Place → Bool) → IsClosed seen_node (seen t) root S → AreIn S ends → S q ≡ true
+
+-- the number is that of a linked place that is reached so
+abbrev pub HandsOutReached : Table RawThree → (root : Option Place) → List (Option Place) → ℕ → Type 0
+HandsOutReached t root ends number = (q : Place) × IsLinked is_linked_three t q × HasNumber q number × IsReached t root ends q
+
+-- a set of places, and the place that comes in beside them
+abbrev pub also : Option Place → (Place → Bool) → Place → Bool
+also came S q = cond (is_end came q) true (S q)
+
+-- WHAT AN EDIT LEAVES, WHATEVER THE WORDS SAY. `came`: the place that was put in. `left`: the one that was taken off, whose words may then say anything.
+-- The root is none or a place of the table. Words that named within the table still do, and those of `came` do. Each set of places that has the root and
+-- these ends, and out of which no link led as the words are read, is such a set once `came` is added to it
+pub record StaysWithin (old new : Table RawThree) (root root' came left : Option Place) (ends : List (Option Place)) : Type 0 where
+  pub extent : new.extent ≡ old.extent
+  pub starts : IsIn (has_place new) root'
+  pub names : (q : Place) → left ≢ Some q → (came ≡ Some q) ⊎ IsWithin old q → IsWithin new q
+  pub closed : (S : Place → Bool) → IsClosed seen_node (seen old) root S → AreIn S ends
+      → IsClosedBut seen_node (seen new) root' left (also came S)

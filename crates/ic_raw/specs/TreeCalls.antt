@@ -6,6 +6,7 @@ use Rattle.ic_link_ops.specs.declared.side.Side.{Side}
 use Rattle.ic_link_ops.specs.Frames.{across}
 use Rattle.ic_link_ops.specs.RedBlackTree.{node_at}
 use Rattle.ic_link_ops.specs.Sequences.{Cut, join}
+use Rattle.ic_link_ops.specs.Tables.{LinksAlso, Unlinks, Exchanges}
 use Rattle.ic_rbtree.specs.Sides.{IsBeside}
 use Rattle.ic_raw.specs.declared.status.TheConstants.{OK, NULL, BROKEN}
 use Rattle.ic_raw.specs.declared.words.RawRoot.{RawRoot}
@@ -13,7 +14,9 @@ use Rattle.ic_raw.specs.declared.words.RawThree.{RawThree}
 use Rattle.ic_raw.specs.Answers.{IsStatus, IsFound, refusal}
 use Rattle.ic_raw.specs.Tree.{node, ShowsTree, IsHole, TellsHole, FreeIn, StandsIn, IsWritten, NamesLinked, root_in, word_of_root, table_of, fault_at, fault_of}
 use Rattle.ic_raw.specs.Tree.{Inserted, Removed, Replaced}
+use Rattle.ic_raw.specs.Seen.{StaysWithin, HandsOutReached}
 use Rattle.ic_raw.specs.WholeTree.{Cleared}
+use Rattle.ic_raw.specs.Words.{is_linked_three}
 
 -- `old`, `new`: the words of the table before the call and after it. `tree`, `tree'`: that of the tree. `status`: what the call returns
 module _ (old new : List RawThree) (tree tree' : RawRoot) (status : ℕ) where
@@ -29,6 +32,8 @@ module _ (old new : List RawThree) (tree tree' : RawRoot) (status : ℕ) where
     pub stands : status ≡ OK → StandsIn old at
     pub root : status ≡ OK → StandsIn old (root_in tree)
     pub told : status ≡ OK → TellsHole side (table_of old) (root_in tree) at
+    pub linked : (p : Place) → place ≡ Some p → status ≡ OK → LinksAlso is_linked_three (table_of old) (table_of new) p
+    pub within : status ≡ OK → StaysWithin (table_of old) (table_of new) (root_in tree) (root_in tree') place None (at ∷ [])
     pub words : status ≡ OK → IsWritten tree'
     pub refused : status ≢ OK → (new ≡ old) × (tree' ≡ tree)
     pub why : status ≢ OK → status ≡ refusal (fault_at old at ∷ fault_of old place ∷ [])
@@ -41,6 +46,8 @@ module _ (old new : List RawThree) (tree tree' : RawRoot) (status : ℕ) where
     pub stands : status ≡ OK → StandsIn old at
     pub root : status ≡ OK → StandsIn old (root_in tree)
     pub own : (p : Place) → at ≡ Some p → status ≡ OK → IsOwn p
+    pub unlinked : (p : Place) → at ≡ Some p → status ≡ OK → Unlinks is_linked_three (table_of old) (table_of new) p
+    pub within : status ≡ OK → StaysWithin (table_of old) (table_of new) (root_in tree) (root_in tree') None at (at ∷ [])
     pub words : status ≡ OK → IsWritten tree'
     pub refused : status ≢ OK → (new ≡ old) × (tree' ≡ tree)
     pub why : status ≢ OK → status ≢ NULL → status ≡ refusal (fault_at old at ∷ [])
@@ -55,6 +62,9 @@ module _ (old new : List RawThree) (tree tree' : RawRoot) (status : ℕ) where
     pub stands : status ≡ OK → StandsIn old at
     pub root : status ≡ OK → StandsIn old (root_in tree)
     pub own : (p : Place) → at ≡ Some p → status ≡ OK → IsOwn p
+    pub exchanged : (out p : Place) → at ≡ Some out → place ≡ Some p → status ≡ OK
+        → Exchanges is_linked_three (table_of old) (table_of new) p out
+    pub within : status ≡ OK → StaysWithin (table_of old) (table_of new) (root_in tree) (root_in tree') place at (at ∷ [])
     pub words : status ≡ OK → IsWritten tree'
     pub refused : status ≢ OK → (new ≡ old) × (tree' ≡ tree)
     pub why : status ≢ OK → status ≢ NULL → status ≡ refusal (fault_at old at ∷ fault_of old place ∷ [])
@@ -76,6 +86,7 @@ module _ (old new : List RawThree) (tree : RawRoot) (status : ℕ) where
     pub found : (cut : Cut) (member : Option Place) → IsBeside side cut at → IsBeside (across side) cut member → ShowsTree old tree (join cut)
         → IsFound member status number
     pub linked : status ≡ OK → NamesLinked old number
+    pub reached : status ≡ OK → HandsOutReached (table_of old) (root_in tree) (at ∷ []) number
     pub refused : status ≢ OK → number ≡ was
     pub same : new ≡ old
     pub looked : (status ≡ OK) ⊎ (status ≡ NULL) → StandsIn old at × StandsIn old (root_in tree)

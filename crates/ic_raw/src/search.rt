@@ -4,14 +4,14 @@
 //! let member = find(&links, &tree, keys, key, Target::AtLeast);
 //! ```
 
-ghost use Rattle.std.specs.Prelude.{◌≡◌, ◌≢◌, ◌⊎◌, ◌≤◌, ◌∷◌, [], List, Option, Some, length, None, IfSome, true, false};
+ghost use Rattle.std.specs.Prelude.{◌≡◌, ◌≢◌, ◌⊎◌, ◌≤◌, ◌∷◌, [], List, Bool, Option, Some, length, None, IfSome, true, false};
 ghost use Rattle.ic_unsafe_ref.specs.declared.place.Place.{Place};
 ghost use Rattle.ic_unsafe_ref.specs.Objects.{is_placed, at_indexes};
 ghost use Rattle.ic_link_ops.specs.Sequences.{Cut, join};
-ghost use Rattle.ic_link_ops.specs.Tables.{IsLinked};
+ghost use Rattle.ic_link_ops.specs.Tables.{IsLinked, LinksAlso};
 ghost use Rattle.ic_link_ops.specs.RedBlackTree as trees;
 ghost use Rattle.ic_rbtree.specs.Borders.{equal_at};
-ghost use Rattle.ic_rbtree.specs.Closed.{IsIn, AreIn};
+ghost use Rattle.ic_rbtree.specs.Closed.{IsIn, AreIn, IsClosed};
 ghost use Rattle.ic_rbtree.specs.Comparing.{goes_left};
 ghost use Rattle.ic_rbtree.specs.Descents.{gap_in};
 ghost use Rattle.ic_rbtree.specs.Ordered.{InsertsInOrder};
@@ -22,7 +22,7 @@ ghost use Rattle.ic_raw.specs.Gaps.{Stands};
 ghost use Rattle.ic_raw.specs.declared.search.Target.TheVariants.{Equal};
 ghost use Rattle.ic_raw.specs.declared.search.Way.{Way};
 ghost use Rattle.ic_raw.specs.Keys.{against, key_of, keys_fault, at_root, past, EndsIn, EndsBelow, IsTarget, NamesKey, equals_of, SearchEnds};
-ghost use Rattle.ic_raw.specs.Seen.{seen, seen_node, has_place};
+ghost use Rattle.ic_raw.specs.Seen.{seen, seen_node, has_place, StaysWithin, HandsOutReached};
 ghost use Rattle.ic_raw.specs.Tables.{IsFree, place_fault};
 ghost use Rattle.ic_raw.specs.Tree.{Shows, IsHole, lent_table};
 ghost use Rattle.ic_raw.specs.Words.{is_linked_three, place_of, HasNumber};
@@ -182,7 +182,8 @@ fn descend(
         → (way : Way) × (result ≡ Some way) × EndsIn (lent_table links.now) (gap_in (λ p. goes_left equals (against key keys.now p)) h.tree) way }
     ensures down { result ≢ None
         → EndsBelow (seen (lent_table links.now)) (λ p. goes_left equals (against key keys.now p)) (root_of tree.now) }
-    ensures within { IfSome result (λ way. AreIn (has_place (lent_table links.now)) (way.parent ∷ way.front ∷ way.back ∷ [])) }
+    ensures within { (S : Place → Bool) → IsClosed seen_node (seen (lent_table links.now)) (root_of tree.now) S
+        → IfSome result (λ way. AreIn S (way.parent ∷ way.front ∷ way.back ∷ [])) }
 {
     let mut way = Way::new();
     let Some(root) = tree.root() else {
@@ -234,7 +235,7 @@ pub(crate) fn find(
         → (member : Option Place) × (result ≡ Some member) × IsTarget target (against key keys.now) s member }
     ensures ended { result ≢ None → SearchEnds target keys.now key (lent_table links.now) (root_of tree.now) }
     ensures equal { target ≡ Equal → (q : Place) → result ≡ Some (Some q) → equal_at (against key keys.now) q ≡ true }
-    ensures within { IfSome result (λ member. IsIn (has_place (lent_table links.now)) member) }
+    ensures within { (S : Place → Bool) → IsClosed seen_node (seen (lent_table links.now)) (root_of tree.now) S → IfSome result (λ member. IsIn S member) }
 {
     let Some(way) = descend(links, tree, keys, key, equals_of(target)) else {
         return None;
@@ -268,6 +269,7 @@ pub(crate) fn look(
     ensures found { (s : List Place) → Shows (lent_table links.now) (root_of tree.now) s
         → (lent_table links.now).extent.places ≤ length keys.now → HandsOut (IsTarget target (against key keys.now) s) result found.new }
     ensures linked { result ≡ OK → (q : Place) × IsLinked is_linked_three (lent_table links.now) q × HasNumber q found.new }
+    ensures reached { result ≡ OK → HandsOutReached (lent_table links.now) (root_of tree.now) [] found.new }
     ensures key { target ≡ Equal → result ≡ OK → NamesKey keys.now key found.new }
     ensures ended { result ≡ NULL → SearchEnds target keys.now key (lent_table links.now) (root_of tree.now) }
     ensures refused { result ≢ OK → found.new ≡ found.old }
@@ -299,6 +301,9 @@ pub(crate) fn insert(
     ensures free { result ≡ true → (p : Place) × (place ≡ Some p) × IsFree is_linked_three (lent_table links.old) p }
     ensures keys { result ≡ true → (lent_table links.old).extent.places ≤ length keys.now }
     ensures root { result ≡ true → Stands is_linked_three (lent_table links.old) (root_of tree.old) }
+    ensures linked { (p : Place) → place ≡ Some p → result ≡ true → LinksAlso is_linked_three (lent_table links.old) (lent_table links.new) p }
+    ensures within { result ≡ true
+        → StaysWithin (lent_table links.old) (lent_table links.new) (root_of tree.old) (root_of tree.new) place None [] }
     ensures refused { result ≡ false → (links.new ≡ links.old) × (tree.new ≡ tree.old) }
     ensures extent { (lent_table links.new).extent ≡ (lent_table links.old).extent }
 {

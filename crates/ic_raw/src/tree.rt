@@ -7,7 +7,7 @@
 ghost use Rattle.std.specs.Prelude.{◌≡◌, ◌≢◌, ◌↔◌, ◌⊎◌, ◌++◌, ◌∷◌, [], List, Option, Some, None, true, false};
 ghost use Rattle.ic_unsafe_ref.specs.declared.place.Place.{Place};
 ghost use Rattle.ic_link_ops.specs.Sequences.{Cut, join};
-ghost use Rattle.ic_link_ops.specs.Tables.{IsLinked, IsUnlinked, ChangesOnly};
+ghost use Rattle.ic_link_ops.specs.Tables.{IsLinked, IsUnlinked, ChangesOnly, LinksAlso, Unlinks, Exchanges};
 ghost use Rattle.ic_link_ops.specs.Edits.{Inserts, Removes, Replaces};
 ghost use Rattle.ic_link_ops.specs.RedBlackTree.{node_at};
 ghost use Rattle.ic_link_ops.specs.Frames.{across, child_on};
@@ -17,7 +17,7 @@ ghost use Rattle.ic_rbtree.specs.Tree.{root_of};
 ghost use Rattle.ic_raw.specs.declared.status.TheConstants.{OK, NULL, BROKEN};
 ghost use Rattle.ic_raw.specs.Answers.{IsFound, refusal};
 ghost use Rattle.ic_raw.specs.Gaps.{Stands, before};
-ghost use Rattle.ic_raw.specs.Seen.{IsWithin, has_place};
+ghost use Rattle.ic_raw.specs.Seen.{IsWithin, StaysWithin, HandsOutReached, has_place};
 ghost use Rattle.ic_raw.specs.Tables.{IsFree, member_fault};
 ghost use Rattle.ic_raw.specs.Words.{is_linked_three, place_of, HasNumber};
 ghost use Rattle.ic_raw.specs.Tree.{Shows, IsHole, TellsHole, lent_table, node};
@@ -154,6 +154,9 @@ pub(crate) fn put(
         → IsHole side (lent_table links.old) at cut → place ≡ Some p → IsFree is_linked_three (lent_table links.old) p
         → (result ≡ true) × Inserts Shows (lent_table links.old) (lent_table links.new) (root_of tree.new) cut p }
     ensures free { result ≡ true → (p : Place) × (place ≡ Some p) × IsFree is_linked_three (lent_table links.old) p }
+    ensures linked { (p : Place) → place ≡ Some p → result ≡ true → LinksAlso is_linked_three (lent_table links.old) (lent_table links.new) p }
+    ensures within { result ≡ true
+        → StaysWithin (lent_table links.old) (lent_table links.new) (root_of tree.old) (root_of tree.new) place None (at ∷ []) }
     ensures refused { result ≡ false → (links.new ≡ links.old) × (tree.new ≡ tree.old) }
     ensures extent { (lent_table links.new).extent ≡ (lent_table links.old).extent }
 {
@@ -180,6 +183,9 @@ pub(crate) fn insert(
     ensures stands { result ≡ true → Stands is_linked_three (lent_table links.old) at }
     ensures root { result ≡ true → Stands is_linked_three (lent_table links.old) (root_of tree.old) }
     ensures told { result ≡ true → TellsHole side (lent_table links.old) (root_of tree.old) at }
+    ensures linked { (p : Place) → place ≡ Some p → result ≡ true → LinksAlso is_linked_three (lent_table links.old) (lent_table links.new) p }
+    ensures within { result ≡ true
+        → StaysWithin (lent_table links.old) (lent_table links.new) (root_of tree.old) (root_of tree.new) place None (at ∷ []) }
     ensures refused { result ≡ false → (links.new ≡ links.old) × (tree.new ≡ tree.old) }
     ensures extent { (lent_table links.new).extent ≡ (lent_table links.old).extent }
 {
@@ -198,6 +204,9 @@ pub(crate) fn remove(links: &mut RawTable<'_, RawThree>, tree: &mut Tree, member
     ensures stands { result ≡ true → Stands is_linked_three (lent_table links.old) (Some member) }
     ensures root { result ≡ true → Stands is_linked_three (lent_table links.old) (root_of tree.old) }
     ensures own { result ≡ true → (node_at node (lent_table links.old) member).parent ≡ None → root_of tree.old ≡ Some member }
+    ensures unlinked { result ≡ true → Unlinks is_linked_three (lent_table links.old) (lent_table links.new) member }
+    ensures within { result ≡ true → StaysWithin (lent_table links.old) (lent_table links.new) (root_of tree.old) (root_of tree.new) None (Some member)
+        (Some member ∷ []) }
     ensures refused { result ≡ false → (links.new ≡ links.old) × (tree.new ≡ tree.old) }
     ensures extent { (lent_table links.new).extent ≡ (lent_table links.old).extent }
 {
@@ -225,6 +234,10 @@ pub(crate) fn replace(
     ensures stands { result ≡ true → Stands is_linked_three (lent_table links.old) (Some member) }
     ensures root { result ≡ true → Stands is_linked_three (lent_table links.old) (root_of tree.old) }
     ensures own { result ≡ true → (node_at node (lent_table links.old) member).parent ≡ None → root_of tree.old ≡ Some member }
+    ensures exchanged { (p : Place) → place ≡ Some p → result ≡ true
+        → Exchanges is_linked_three (lent_table links.old) (lent_table links.new) p member }
+    ensures within { result ≡ true → StaysWithin (lent_table links.old) (lent_table links.new) (root_of tree.old) (root_of tree.new) place (Some member)
+        (Some member ∷ []) }
     ensures refused { result ≡ false → (links.new ≡ links.old) × (tree.new ≡ tree.old) }
     ensures extent { (lent_table links.new).extent ≡ (lent_table links.old).extent }
 {
@@ -292,7 +305,7 @@ pub(crate) fn hand_out(
     ensures found { Stands is_linked_three (lent_table links.now) member → IsFound member result found.new }
     ensures linked { result ≡ OK → (q : Place) × IsLinked is_linked_three (lent_table links.now) q × HasNumber q found.new }
     ensures refused { result ≢ OK → found.new ≡ found.old }
-    ensures told { result ≡ OK → (q : Place) × (member ≡ Some q) × HasNumber q found.new }
+    ensures told { result ≡ OK → (q : Place) × (member ≡ Some q) × IsLinked is_linked_three (lent_table links.now) q × HasNumber q found.new }
     ensures null { (result ≡ NULL) ↔ (member ≡ None) }
     ensures why { result ≢ OK → result ≢ NULL → result ≡ BROKEN }
 {
@@ -310,6 +323,7 @@ fn step_from_none(links: &RawTable<'_, RawThree>, tree: &Tree, side: Side, found
     ensures found { (cut : Cut) (member : Option Place) → Shows (lent_table links.now) (root_of tree.now) (join cut)
         → IsBeside side cut None → IsBeside (across side) cut member → IsFound member result found.new }
     ensures linked { result ≡ OK → (q : Place) × IsLinked is_linked_three (lent_table links.now) q × HasNumber q found.new }
+    ensures reached { result ≡ OK → HandsOutReached (lent_table links.now) (root_of tree.now) [] found.new }
     ensures refused { result ≢ OK → found.new ≡ found.old }
     ensures looked { (result ≡ OK) ⊎ (result ≡ NULL) → Stands is_linked_three (lent_table links.now) (root_of tree.now) }
     ensures why { result ≢ OK → result ≢ NULL → result ≡ BROKEN }
@@ -332,6 +346,7 @@ pub(crate) fn step(
     ensures found { (cut : Cut) (member : Option Place) → Shows (lent_table links.now) (root_of tree.now) (join cut)
         → IsBeside side cut (place_of at) → IsBeside (across side) cut member → IsFound member result found.new }
     ensures linked { result ≡ OK → (q : Place) × IsLinked is_linked_three (lent_table links.now) q × HasNumber q found.new }
+    ensures reached { result ≡ OK → HandsOutReached (lent_table links.now) (root_of tree.now) (place_of at ∷ []) found.new }
     ensures refused { result ≢ OK → found.new ≡ found.old }
     ensures looked { (result ≡ OK) ⊎ (result ≡ NULL) → Stands is_linked_three (lent_table links.now) (place_of at)
         × Stands is_linked_three (lent_table links.now) (root_of tree.now) }

@@ -3,6 +3,7 @@ use Rattle.ic_link_ops.specs.Frames.{child_on}
 use Rattle.ic_link_ops.proofs.SequenceLemmas.{none_not}
 use Rattle.ic_rbtree.specs.Descents.{side_of}
 use Rattle.ic_rbtree.proofs.Closed.{in_there}
+use Rattle.ic_rbtree.proofs.Closed as sets
 use Rattle.ic_rbtree.proofs.Sending.{sent_over}
 use Rattle.ic_raw.specs.Keys.{against}
 use Rattle.ic_raw.specs.Seen.{seen, seen_node, has_place}
@@ -20,7 +21,7 @@ loop-init c =
       each = λ s h. comes_first t c.new-way.ensures top h;
       down = ([], sym top);
       here = has t (in_range c.args.links.now) c.in-Some.root (c.requires.root c.in-Some.root (sym top));
-      ends = rw c.new-way.ensures (tt, (tt, (tt, tt)));
+      inside = λ S h. (in_there S h.starts (sym top), rw c.new-way.ensures (tt, (tt, (tt, tt))));
     }
 
 pub compare_at-requires : goal.compare_at-requires
@@ -59,10 +60,25 @@ loop-preserved c =
       each = λ s h. comes_on t (c.loop.invariant.each s h) c.goes_left-left.result c.pass.ensures c.compare_at.ensures c.goes_left-left.ensures next refl;
       down = down_past (seen t) (against c.args.key c.args.keys.now) c.args.equals c.loop.invariant.down c.goes_left-left.ensures c.compare_at.ensures next;
       here = in_there (has_place t) (child_in t (side_of c.goes_left-left.result) c.loop.place) (sym next);
-      ends = rw c.pass.ensures (past_within (has_place t) c.loop.way c.loop.place c.goes_left-left.result c.loop.invariant.here c.loop.invariant.ends);
+      inside = λ S h.
+          let was = c.loop.invariant.inside S h in (
+            in_there S (sets.child_in seen_node h (side_of c.goes_left-left.result) c.loop.place was.0 (none_not c.loop.place)) (sym next),
+            rw c.pass.ensures (past_within S c.loop.way c.loop.place c.goes_left-left.result was.0 was.1),
+          );
     }
 
 pub returns-clause-ends : goal.returns-clause-ends
 returns-clause-ends c s h =
     let x = c.loop.invariant.each s h in
     absurd (none_not c.loop.place (sym (sent_over seen_node x.sent h refl (omega (arith, c.loop-test.false, x.sent.counted)))))
+
+pub returns-in_default-clause-within : goal.returns-in_default-clause-within
+returns-in_default-clause-within c S h = rw c.new-way.ensures (tt, (tt, (tt, tt)))
+
+pub returns-in_default-left-clause-within : goal.returns-in_default-left-clause-within
+returns-in_default-left-clause-within c S h =
+    let was = c.loop.invariant.inside S h in rw c.pass.ensures (past_within S c.loop.way c.loop.place c.goes_left-left.result was.0 was.1)
+
+pub returns-in_default-right-clause-within : goal.returns-in_default-right-clause-within
+returns-in_default-right-clause-within c S h =
+    let was = c.loop.invariant.inside S h in rw c.pass.ensures (past_within S c.loop.way c.loop.place c.goes_left-left.result was.0 was.1)

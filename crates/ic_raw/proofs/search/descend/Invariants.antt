@@ -1,7 +1,7 @@
-use Rattle.std.proofs.Common.{◌≡◌, Some, true, List, [], ◌∷◌}
+use Rattle.std.proofs.Common.{◌≡◌, Bool, Some, true, List, [], ◌∷◌}
 use Rattle.ic_unsafe_ref.specs.declared.place.Place.{Place}
 use Rattle.ic_link_ops.specs.RedBlackTree.{Shows}
-use Rattle.ic_rbtree.specs.Closed.{AreIn}
+use Rattle.ic_rbtree.specs.Closed.{AreIn, IsClosed}
 use Rattle.ic_rbtree.specs.Comparing.{goes_left}
 use Rattle.ic_raw.specs.Keys.{against, LeadsDown}
 use Rattle.ic_raw.specs.Seen.{seen, seen_node, has_place}
@@ -17,5 +17,5 @@ invariant-loop l =
       each : (s : List Place) (h : Shows seen_node (seen t) l.fn.tree.head s) → Comes t l.fn.tree.head (against l.key l.fn.keys) l.equals h.tree (Some l.place) l.way l.counter;
       down : (w : List Place) × LeadsDown (seen t) (λ p. goes_left l.equals (against l.key l.fn.keys p)) l.fn.tree.head w (Some l.place);
       here : has_place t l.place ≡ true;
-      ends : AreIn (has_place t) (l.way.parent ∷ l.way.front ∷ l.way.back ∷ []);
+      inside : (S : Place → Bool) → IsClosed seen_node (seen t) l.fn.tree.head S → (S l.place ≡ true) × AreIn S (l.way.parent ∷ l.way.front ∷ l.way.back ∷ []);
     }

@@ -1,4 +1,4 @@
-use Rattle.std.proofs.Common.{◌≡◌, Some, None, cond, refl, sym, ap, ◌∙◌}
+use Rattle.std.proofs.Common.{Some, None, cond, refl, sym, ap, ◌∙◌}
 use Rattle.std.specs.Ordering.{is_eq, is_lt}
 use Rattle.ic_link_ops.proofs.SequenceLemmas.{some_same}
 use Rattle.ic_link_ops.specs.Sequences.{Cut, last}
@@ -12,7 +12,7 @@ use Rattle.ic_raw.specs.Keys.{against, equals_of}
 use Rattle.ic_raw.specs.Seen.{seen_node, has_place}
 use Rattle.ic_raw.specs.Tree.{lent_table}
 use Rattle.ic_raw.proofs.Keys.{keyed, finds, ends_at, is_some}
-use Rattle.ic_raw.proofs.Trees.{in_range, seen_shows}
+use Rattle.ic_raw.proofs.Trees.{in_range, end_in, closed, seen_shows}
 use Rattle.ic_raw.proofs.search.find.Goals as goal
 
 pub returns-in_default-clause-found : goal.returns-in_default-clause-found
@@ -23,7 +23,7 @@ returns-in_default-clause-found c s shown =
 pub compare_at-requires : goal.compare_at-requires
 compare_at-requires c =
     let t = lent_table c.args.links.now in
-    let within = rw c.in-Some.is at c.descend.ensures.within in
+    let within = rw c.in-Some.is at (c.descend.ensures.within (has_place t) (closed t _ (end_in t (in_range c.args.links.now) _ c.requires.root))) in
     keyed t c.args.keys.now c.requires.keys c.in-Some-get.member (in_there (has_place t) within.1.1.0 (sym c.get.ensures ∙ c.in-Some-get.is))
 
 pub returns-in_default-get-clause-found : goal.returns-in_default-get-clause-found
@@ -93,16 +93,16 @@ returns-then-is_eq-clause-equal c _ q is =
     rw (← some_same (some_same is)) (ap is_eq (sym c.compare_at.ensures) ∙ sym c.is_eq.ensures ∙ c.if-is_eq.true)
 
 pub returns-then-is_eq-clause-within : goal.returns-then-is_eq-clause-within
-returns-then-is_eq-clause-within c =
-    let within = rw c.in-Some.is at c.descend.ensures.within in
-    in_there (has_place (lent_table c.args.links.now)) within.1.1.0 (sym c.get.ensures ∙ c.in-Some-get.is)
+returns-then-is_eq-clause-within c S h =
+    let within = rw c.in-Some.is at (c.descend.ensures.within S h) in
+    in_there S within.1.1.0 (sym c.get.ensures ∙ c.in-Some-get.is)
 
 pub returns-in-AtLeast-clause-within : goal.returns-in-AtLeast-clause-within
-returns-in-AtLeast-clause-within c =
-    let within = rw c.in-Some.is at c.descend.ensures.within in
-    read_in (has_place (lent_table c.args.links.now)) within.1.1.0 c.get-in-AtLeast.ensures
+returns-in-AtLeast-clause-within c S h =
+    let within = rw c.in-Some.is at (c.descend.ensures.within S h) in
+    read_in S within.1.1.0 c.get-in-AtLeast.ensures
 
 pub returns-in-AtMost-clause-within : goal.returns-in-AtMost-clause-within
-returns-in-AtMost-clause-within c =
-    let within = rw c.in-Some.is at c.descend.ensures.within in
-    read_in (has_place (lent_table c.args.links.now)) within.1.0 c.get-in-AtMost.ensures
+returns-in-AtMost-clause-within c S h =
+    let within = rw c.in-Some.is at (c.descend.ensures.within S h) in
+    read_in S within.1.0 c.get-in-AtMost.ensures

@@ -8,7 +8,8 @@ use Rattle.ic_raw.specs.Seen.{has_place}
 use Rattle.ic_raw.specs.Tree.{lent_table}
 use Rattle.ic_raw.proofs.Gaps.{never}
 use Rattle.ic_raw.proofs.Keys.{fits, ends_at}
-use Rattle.ic_raw.proofs.Trees.{in_range, end_in, seen_shows}
+use Rattle.ic_raw.proofs.Trees.{in_range, end_in, closed, seen_shows}
+use Rattle.ic_raw.proofs.TreeSets.{led_within}
 use Rattle.ic_raw.proofs.search.insert.Goals as goal
 
 pub returns-then-not-is_searchable-clause-inserted : goal.returns-then-not-is_searchable-clause-inserted
@@ -21,7 +22,10 @@ returns-in_default-descend-clause-inserted c s p shown is enough free =
 
 pub is_open-requires : goal.is_open-requires
 is_open-requires c =
-    let within = rw c.in-Some-descend.is at c.descend.ensures.within in within.0
+    let t = lent_table c.args.links.now in
+    let inside = closed t _ (end_in t (in_range c.args.links.now) _ (c.is_searchable.ensures.root c.if-not-is_searchable.false)) in
+    let within = rw c.in-Some-descend.is at (c.descend.ensures.within (has_place t) inside) in
+    within.0
 
 pub returns-then-not-is_open-clause-inserted : goal.returns-then-not-is_open-clause-inserted
 returns-then-not-is_open-clause-inserted c s p shown is enough free =
@@ -34,7 +38,7 @@ pub put-requires : goal.put-requires
 put-requires c =
     let t = lent_table c.args.links.now in
     let root = end_in t (in_range c.args.links.now) _ (c.is_searchable.ensures.root c.if-not-is_searchable.false) in
-    let within = rw c.in-Some-descend.is at c.descend.ensures.within in
+    let within = rw c.in-Some-descend.is at (c.descend.ensures.within (has_place t) (closed t _ root)) in
     (read_in (has_place t) within.0 c.get.ensures, (root, tt))
 
 pub returns-clause-inserted : goal.returns-clause-inserted
@@ -51,3 +55,8 @@ returns-clause-inserted c s p shown is enough free =
 pub returns-clause-free : goal.returns-clause-free
 returns-clause-free c made =
     let free = c.put.ensures.free made in (free.0, c.in-Some.is ∙ free.1, free.2)
+
+pub returns-clause-within : goal.returns-clause-within
+returns-clause-within c made =
+    rw c.in-Some.is (led_within (λ S h. let within = rw c.in-Some-descend.is at (c.descend.ensures.within S h) in read_in S within.0 c.get.ensures)
+    (c.put.ensures.within made))

@@ -1,9 +1,11 @@
-use Rattle.std.proofs.Common.{◌≤◌, length, refl, ◌∙◌, sym, subst, rules}
+use Rattle.std.proofs.Common.{[], ◌∷◌, ◌≤◌, length, refl, ◌∙◌, sym, subst, rules}
+use Rattle.ic_link_ops.specs.LinkSteps.{acquires}
 use Rattle.ic_raw.specs.Keys.{against, key_of}
 use Rattle.ic_raw.specs.Words.{no_tree_words}
 use Rattle.ic_raw.proofs.Gaps.{never}
 use Rattle.ic_raw.proofs.Views.{free_viewed, viewed, ordered_back}
 use Rattle.ic_raw.proofs.Trees.{kept}
+use Rattle.ic_raw.proofs.TreeSets.{steps_back, within_back}
 use Rattle.ic_raw.proofs.search_calls.insert.Goals as goal
 
 pub returns-then-not-insert : goal.returns-then-not-insert
@@ -17,6 +19,8 @@ returns-then-not-insert c = record {
   no_place = search rules;
   enough = search rules;
   root = search rules;
+  linked = search rules;
+  within = search rules;
   words = search rules;
   refused = search rules;
   why = search rules;
@@ -37,6 +41,12 @@ returns c = record {
   no_place = search rules;
   enough = search rules;
   root = search rules;
+  linked = λ p is made.
+      steps_back c.new-links.result c.insert.new.links (acquires p ∷ []) c.new-links.ensures.1 (search rules)
+      (c.insert.ensures.linked p (c.place_of.ensures ∙ is) (search rules));
+  within = λ made.
+      within_back c.new-links.result c.insert.new.links c.new-links.ensures.1 (search rules) (search rules) (search rules) (search rules) refl refl
+      (c.insert.ensures.within (search rules));
   words = search rules;
   refused = search rules;
   why = search rules;

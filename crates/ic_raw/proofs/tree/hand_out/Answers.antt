@@ -5,5 +5,4 @@ returns-then-tell-clause-linked c ok =
     let told = c.tell.ensures.told c.if-tell.true in (told.0, told.2, told.3)
 
 pub returns-then-tell-clause-told : goal.returns-then-tell-clause-told
-returns-then-tell-clause-told c ok =
-    let told = c.tell.ensures.told c.if-tell.true in (told.0, told.1, told.3)
+returns-then-tell-clause-told c ok = c.tell.ensures.told c.if-tell.true

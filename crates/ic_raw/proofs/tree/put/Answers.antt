@@ -10,6 +10,8 @@ use Rattle.ic_raw.specs.Tree.{node, lent_table}
 use Rattle.ic_raw.specs.Seen.{seen, seen_node, has_place}
 use Rattle.ic_raw.proofs.Seen.{seen_changes}
 use Rattle.ic_raw.proofs.Trees.{in_range, in_kept, has, closed, seen_shown, seen_hole, told_kept, told_with, told, frame_told}
+use Rattle.ic_raw.proofs.TreeSets.{came_within}
+use Rattle.ic_raw.proofs.Touches.{links_first}
 use Rattle.ic_raw.proofs.tree.put.Goals as goal
 
 pub attach-requires : goal.attach-requires
@@ -51,3 +53,15 @@ returns-clause-inserted c cut p shown at is free =
 pub returns-clause-free : goal.returns-clause-free
 returns-clause-free c made =
     let taken = c.in-Some.is in (c.in-Some.place, c.acquire.ensures.same _ taken, c.acquire.ensures.free _ taken)
+
+pub returns-clause-linked : goal.returns-clause-linked
+returns-clause-linked c p is made =
+    let taken : c.acquire.result ≡ Some p = c.in-Some.is ∙ sym (c.acquire.ensures.same _ c.in-Some.is) ∙ is in
+    links_first (c.acquire.ensures.free p taken) (c.acquire.ensures.linked p taken) (c.acquire.ensures.frame p taken) c.attach.ensures.quiet.marks
+
+pub returns-clause-within : goal.returns-clause-within
+returns-clause-within c made =
+    let taken = c.in-Some.is in
+    rw (c.acquire.ensures.same _ taken) (came_within (c.acquire.ensures.free _ taken) (c.acquire.ensures.frame _ taken) (c.acquire.ensures.bare _ taken)
+    c.attach.ensures.quiet
+    (λ T h here i. c.attach.ensures.safe T h (here, (i, tt))) c.requires.1.0 c.requires.0)

@@ -1,5 +1,4 @@
-use Rattle.std.proofs.Common.{[], refl}
-use Rattle.ic_link_ops.specs.declared.side.Side.TheVariants.{Left}
+use Rattle.std.proofs.Common.{Some, [], refl}
 use Rattle.ic_link_ops.proofs.SequenceLemmas.{absent_without, distinct_middle}
 use Rattle.ic_link_ops.proofs.ShownTrees.{shows_beside}
 use Rattle.ic_rbtree.proofs.Removing.{shown_of, shows_of, removes}
@@ -9,6 +8,8 @@ use Rattle.ic_raw.specs.Seen.{seen, seen_node, has_place}
 use Rattle.ic_raw.proofs.Gaps.{never}
 use Rattle.ic_raw.proofs.Seen.{seen_changes}
 use Rattle.ic_raw.proofs.Trees.{in_range, has, end_in, closed, seen_shown, told_kept, members_told, told, frame_told}
+use Rattle.ic_raw.proofs.Touches.{unlinks_last}
+use Rattle.ic_raw.proofs.TreeSets.{stays_within, left_within}
 use Rattle.ic_raw.proofs.tree.remove.Goals as goal
 
 pub returns-then-not-may_hold-clause-removed : goal.returns-then-not-may_hold-clause-removed
@@ -38,3 +39,15 @@ returns-clause-removed c front back shown =
       },
       released.released.is,
     )
+
+pub returns-clause-unlinked : goal.returns-clause-unlinked
+returns-clause-unlinked c made = unlinks_last c.unlink.ensures.quiet.marks c.release_link.ensures.released
+
+pub returns-clause-within : goal.returns-clause-within
+returns-clause-within c made =
+    let v = lent_table c.args.links.now in
+    let law = in_range c.args.links.now in
+    let ok = c.if-not-may_hold.false in
+    let here = end_in v law (Some c.args.member) (c.may_hold.ensures.at ok) in
+    left_within (stays_within c.unlink.ensures.quiet c.unlink.ensures.safe (end_in v law _ (c.may_hold.ensures.root ok)) (here, tt))
+    c.release_link.ensures.frame

@@ -1,5 +1,5 @@
-use Rattle.std.proofs.Common.{◌≡◌, Some, [], ◌∷◌, ◌++◌, refl, sym, ◌∙◌}
-use Rattle.ic_link_ops.specs.declared.side.Side.TheVariants.{Left}
+use Rattle.std.proofs.Common.{◌≡◌, ◌≢◌, Some, [], ◌∷◌, ◌++◌, refl, sym, ◌∙◌, subst}
+use Rattle.ic_link_ops.specs.Tables.{IsUnlinked}
 use Rattle.ic_link_ops.proofs.SequenceLemmas.{some_same, absent_without}
 use Rattle.ic_link_ops.proofs.ShownTrees.{shows_beside}
 use Rattle.ic_rbtree.specs.Pieces.{loose}
@@ -14,6 +14,8 @@ use Rattle.ic_raw.specs.Seen.{seen, seen_node, has_place}
 use Rattle.ic_raw.proofs.Gaps.{never}
 use Rattle.ic_raw.proofs.Seen.{seen_changes}
 use Rattle.ic_raw.proofs.Trees.{in_range, in_kept, has, end_in, closed, seen_shown, told_kept, told_with, told, frame_told}
+use Rattle.ic_raw.proofs.Touches.{links_first}
+use Rattle.ic_raw.proofs.TreeSets.{came_within, left_within, exchanges}
 use Rattle.ic_raw.proofs.tree.replace.Goals as goal
 
 pub returns-then-not-may_hold-clause-replaced : goal.returns-then-not-may_hold-clause-replaced
@@ -69,3 +71,24 @@ returns-clause-replaced c front back p shown is free =
 pub returns-clause-free : goal.returns-clause-free
 returns-clause-free c made =
     let taken = c.in-Some.is in (c.in-Some.place, c.acquire.ensures.same _ taken, c.acquire.ensures.free _ taken)
+
+pub returns-clause-exchanged : goal.returns-clause-exchanged
+returns-clause-exchanged c p is made =
+    let taken : c.acquire.result ≡ Some p = c.in-Some.is ∙ sym (c.acquire.ensures.same _ c.in-Some.is) ∙ is in
+    let free = c.acquire.ensures.free p taken in
+    let apart : p ≢ c.args.member = λ e.
+    let on = c.may_hold.ensures.at c.if-not-may_hold.false c.args.member refl in
+    let off = subst (λ q. IsUnlinked is_linked_three (lent_table c.args.links.now) q) e free.unlinked in
+    cc in
+    exchanges (links_first free (c.acquire.ensures.linked p taken) (c.acquire.ensures.frame p taken) c.take_place.ensures.quiet.marks) apart
+    c.release_link.ensures.released
+
+pub returns-clause-within : goal.returns-clause-within
+returns-clause-within c made =
+    let taken = c.in-Some.is in
+    let v = lent_table c.args.links.now in
+    let law = in_range c.args.links.now in
+    let ok = c.if-not-may_hold.false in
+    rw (c.acquire.ensures.same _ taken) (left_within (came_within (c.acquire.ensures.free _ taken) (c.acquire.ensures.frame _ taken) (c.acquire.ensures.bare _ taken)
+    c.take_place.ensures.quiet (λ T h here i. c.take_place.ensures.safe T h (i, (here, tt))) (end_in v law _ (c.may_hold.ensures.root ok))
+    (end_in v law (Some c.args.member) (c.may_hold.ensures.at ok))) c.release_link.ensures.frame)

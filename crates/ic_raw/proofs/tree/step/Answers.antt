@@ -1,5 +1,7 @@
 use Rattle.std.proofs.Common.{◌≡◌, [], Some, None, Option, refl, sym, ◌∙◌, subst}
 use Rattle.ic_link_ops.specs.Frames.{across}
+use Rattle.ic_rbtree.specs.Closed.{IsIn}
+use Rattle.ic_rbtree.proofs.Closed.{in_there}
 use Rattle.ic_rbtree.proofs.Removing.{shown_of, shows_of}
 use Rattle.ic_rbtree.specs.Sides.{IsBeside}
 use Rattle.ic_raw.specs.Answers.{IsFound}
@@ -70,3 +72,18 @@ returns-clause-why c made found =
     let t = lent_table c.args.links.now in
     let stands = subst (λ o. Stands is_linked_three t o) (sym c.in-Some.is ∙ c.place_of.ensures) (c.stand.ensures.at c.if-not-stand.false) in
     c.nothing_found.ensures.why found ∙ by_others [] (sym (faultless is_linked_three t (place_of c.args.at) stands)) refl
+
+pub returns-then-tell-clause-reached : goal.returns-then-tell-clause-reached
+returns-then-tell-clause-reached c ok =
+    let told = c.tell.ensures.told c.if-tell.true in (
+      told.0,
+      told.2,
+      told.3,
+      (λ S h ends.
+          let here : IsIn S (Some c.in-Some.member) = subst (IsIn S) (sym c.place_of.ensures ∙ c.in-Some.is) ends.0 in
+          in_there S (c.step_within-beside.ensures.safe S (rw c.root.ensures h) here) told.1),
+    )
+
+pub returns-in_default-clause-reached : goal.returns-in_default-clause-reached
+returns-in_default-clause-reached c ok =
+    let out = c.step_from_none.ensures.reached ok in (out.0, out.1, out.2, (λ S h ends. out.3 S h tt))

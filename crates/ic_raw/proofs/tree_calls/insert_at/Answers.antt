@@ -1,8 +1,10 @@
-use Rattle.std.proofs.Common.{refl, ◌∙◌, rules}
+use Rattle.std.proofs.Common.{[], ◌∷◌, refl, ◌∙◌, rules}
+use Rattle.ic_link_ops.specs.LinkSteps.{acquires}
 use Rattle.ic_raw.specs.Words.{no_tree_words}
 use Rattle.ic_raw.proofs.Gaps.{never}
 use Rattle.ic_raw.proofs.Views.{free_viewed, viewed, inserted_back}
 use Rattle.ic_raw.proofs.Trees.{kept, hole_viewed}
+use Rattle.ic_raw.proofs.TreeSets.{steps_back, within_back}
 use Rattle.ic_raw.proofs.tree_calls.insert_at.Goals as goal
 
 pub returns-then-not-insert : goal.returns-then-not-insert
@@ -17,6 +19,8 @@ returns-then-not-insert c = record {
   stands = search rules;
   root = search rules;
   told = search rules;
+  linked = search rules;
+  within = search rules;
   words = search rules;
   refused = search rules;
   why = search rules;
@@ -35,6 +39,12 @@ returns c = record {
   stands = search rules;
   root = search rules;
   told = search rules;
+  linked = λ p is made.
+      steps_back c.new-links.result c.insert.new.links (acquires p ∷ []) c.new-links.ensures.1 (search rules)
+      (c.insert.ensures.linked p (c.place_of-2.ensures ∙ is) (search rules));
+  within = λ made.
+      within_back c.new-links.result c.insert.new.links c.new-links.ensures.1 (search rules) (search rules) (search rules) (search rules) refl (search rules)
+      (c.insert.ensures.within (search rules));
   words = search rules;
   refused = search rules;
   why = search rules;

@@ -1,9 +1,11 @@
-use Rattle.std.proofs.Common.{◌≡◌, refl, sym, ◌∙◌, rules}
+use Rattle.std.proofs.Common.{◌≡◌, [], ◌∷◌, refl, sym, ap, ◌∙◌, rules}
 use Rattle.ic_link_ops.proofs.SequenceLemmas.{some_same}
+use Rattle.ic_link_ops.specs.LinkSteps.{releases}
 use Rattle.ic_raw.specs.Words.{no_tree_words, is_linked_three}
 use Rattle.ic_raw.proofs.Gaps.{never}
 use Rattle.ic_raw.proofs.Views.{viewed, removed_back, unlinked_back}
 use Rattle.ic_raw.proofs.Trees.{kept}
+use Rattle.ic_raw.proofs.TreeSets.{steps_back, within_back}
 use Rattle.ic_raw.proofs.tree_calls.remove.Goals as goal
 
 pub returns-then-not-remove : goal.returns-then-not-remove
@@ -18,6 +20,8 @@ returns-then-not-remove c = record {
   stands = search rules;
   root = search rules;
   own = search rules;
+  unlinked = search rules;
+  within = search rules;
   words = search rules;
   refused = search rules;
   why = search rules;
@@ -42,6 +46,14 @@ returns c = record {
   stands = search rules;
   root = search rules;
   own = search rules;
+  unlinked = λ p at made.
+      let one : p ≡ c.in-Some.member = some_same (sym at ∙ sym c.place_of.ensures ∙ c.in-Some.is) in
+      rw one (steps_back c.new-links.result c.remove.new.links (releases c.in-Some.member ∷ []) c.new-links.ensures.1 (search rules)
+      (c.remove.ensures.unlinked (search rules)));
+  within = λ made.
+      let is = sym c.place_of.ensures ∙ c.in-Some.is in
+      within_back c.new-links.result c.remove.new.links c.new-links.ensures.1 (search rules) (search rules) (search rules) refl is (ap (λ o. o ∷ []) is)
+      (c.remove.ensures.within (search rules));
   words = search rules;
   refused = search rules;
   why = search rules;

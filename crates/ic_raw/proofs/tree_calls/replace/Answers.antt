@@ -1,9 +1,10 @@
-use Rattle.std.proofs.Common.{◌≡◌, refl, sym, ◌∙◌, rules}
+use Rattle.std.proofs.Common.{◌≡◌, [], ◌∷◌, refl, sym, ap, ◌∙◌, rules}
 use Rattle.ic_link_ops.proofs.SequenceLemmas.{some_same}
 use Rattle.ic_raw.specs.Words.{no_tree_words, is_linked_three}
 use Rattle.ic_raw.proofs.Gaps.{never}
 use Rattle.ic_raw.proofs.Views.{free_viewed, viewed, replaced_back, unlinked_back}
 use Rattle.ic_raw.proofs.Trees.{kept}
+use Rattle.ic_raw.proofs.TreeSets.{exchanges_back, within_back}
 use Rattle.ic_raw.proofs.tree_calls.replace.Goals as goal
 
 pub returns-then-not-replace : goal.returns-then-not-replace
@@ -21,6 +22,8 @@ returns-then-not-replace c = record {
   stands = search rules;
   root = search rules;
   own = search rules;
+  exchanged = search rules;
+  within = search rules;
   words = search rules;
   refused = search rules;
   why = search rules;
@@ -48,6 +51,14 @@ returns c = record {
   stands = search rules;
   root = search rules;
   own = search rules;
+  exchanged = λ out p at is made.
+      let one : out ≡ c.in-Some.member = some_same (sym at ∙ sym c.place_of.ensures ∙ c.in-Some.is) in
+      rw one (exchanges_back c.new-links.result c.replace.new.links c.new-links.ensures.1 (search rules)
+      (c.replace.ensures.exchanged p (c.place_of-2.ensures ∙ is) (search rules)));
+  within = λ made.
+      let is = sym c.place_of.ensures ∙ c.in-Some.is in
+      within_back c.new-links.result c.replace.new.links c.new-links.ensures.1 (search rules) (search rules) (search rules) (search rules) is (ap (λ o. o ∷ []) is)
+      (c.replace.ensures.within (search rules));
   words = search rules;
   refused = search rules;
   why = search rules;
