@@ -1,5 +1,5 @@
 -- Trees that are walked from the first member on, while their members lose their marks.
-use Rattle.std.proofs.Common.{◌≡◌, ℕ, ◌≤◌, ◌-◌, ◌*◌, ◌/◌, ◌%◌, inl, inr, Option, Some, None, List, [], ◌∷◌, ◌++◌, length, drop, refl, sym, ap, ◌∙◌, subst, arith, append_assoc, append-nil}
+use Rattle.std.proofs.Common.{◌≡◌, ◌≢◌, ◌⊎◌, Bool, true, false, eq-eqb, ℕ, ◌≤◌, ◌-◌, ◌*◌, ◌/◌, ◌%◌, inl, inr, Option, Some, None, List, [], ◌∷◌, ◌++◌, length, drop, refl, sym, ap, ◌∙◌, subst, arith, append_assoc, append-nil}
 use Rattle.std.proofs.lemmas.Bool.{ltb-true}
 use Rattle.ic_unsafe_ref.specs.declared.place.Place.{Place}
 use Rattle.ic_unsafe_ref.specs.Places.{index_of, place_at}
@@ -13,8 +13,11 @@ use Rattle.ic_link_ops.proofs.ShownTrees.{holds_linked, holds_length, root_membe
 use Rattle.ic_rbtree.specs.Closed.{IsIn}
 use Rattle.ic_raw.specs.declared.words.RawThree.{RawThree}
 use Rattle.ic_raw.specs.Seen.{seen, seen_node, has_place}
-use Rattle.ic_raw.specs.WholeTree.{IsSeen}
-use Rattle.ic_raw.specs.Words.{place_in}
+use Rattle.ic_raw.specs.WholeTree.{IsSeen, OnlyUnmarks, unmarked}
+use Rattle.ic_raw.specs.Tables.{raw_entries}
+use Rattle.ic_raw.specs.Tree.{table_of, lent_table}
+use Rattle.ic_raw.specs.declared.table.RawTable.{RawTable}
+use Rattle.ic_raw.specs.Words.{place_in, is_linked_three}
 
 module _ {t : Table RawThree} {root : Option Place} where
   -- what is seen stands in the table: each member,
@@ -77,6 +80,44 @@ seen_unmarked t u p only is q = elim (same_or_not q p) [
       subst (λ z. says u.extent z (u.entry z) ≡ says t.extent z (t.entry z)) (sym e) here
   | inr n ↦ λ k. says (only.extent k) q (only.others q n k)
 ]
+
+-- NO MARK IS TAKEN OFF, and one more
+pub unmarks_none : (t : Table RawThree) → OnlyUnmarks t t
+unmarks_none t = record { extent = refl; entries = λ q. inl refl }
+
+unmarked_off : (w : RawThree) → is_linked_three w ≡ false → unmarked w ≡ w
+unmarked_off w off =
+    let even : w.left % 2 ≢ 1 = λ e. let on : is_linked_three w ≡ true = eq-eqb (w.left % 2) 1 e in cc in
+    let same : w.left / 2 * 2 ≡ w.left = omega (arith, even) in
+    ap (λ n. record w { left = n }) same
+
+unmarked_twice : (w : RawThree) → unmarked (unmarked w) ≡ unmarked w
+unmarked_twice w = let same : w.left / 2 * 2 / 2 * 2 ≡ w.left / 2 * 2 = omega arith in ap (λ n. record w { left = n }) same
+
+-- at a place, it takes the mark off that is still there, or none
+mark_off : (w x y : RawThree) → (x ≡ w) ⊎ ((is_linked_three w ≡ true) × (x ≡ unmarked w)) → y ≡ unmarked x → (y ≡ w) ⊎ ((is_linked_three w ≡ true) × (y ≡ unmarked w))
+mark_off w x y (inl k) off = pick (is_linked_three w) refl where
+  pick : (b : Bool) → is_linked_three w ≡ b → (y ≡ w) ⊎ ((is_linked_three w ≡ true) × (y ≡ unmarked w))
+  pick true on = inr (on, off ∙ ap unmarked k)
+  pick false none = inl (off ∙ ap unmarked k ∙ unmarked_off w none)
+mark_off w x y (inr k) off = inr (k.0, off ∙ ap unmarked k.1 ∙ unmarked_twice w)
+
+pub unmarks_more : {old now new : Table RawThree} {p : Place} → OnlyUnmarks old now → ChangesOnly now new p → new.entry p ≡ unmarked (now.entry p) → OnlyUnmarks old new
+unmarks_more {old} {now} {new} {p} was only off = record {
+  extent = only.extent ∙ was.extent;
+  entries = λ q. elim (same_or_not q p) [
+    | inl e ↦ mark_off (old.entry q) (now.entry q) (new.entry q) (was.entries q) (subst (λ z. new.entry z ≡ unmarked (now.entry z)) (sym e) off)
+    | inr n ↦ elim (was.entries q) [ inl k ↦ inl (only.others q n ∙ k) | inr k ↦ inr (k.0, only.others q n ∙ k.1) ]
+  ];
+}
+
+-- and what is so of a view is so of the words
+pub unmarks_back : (a b : RawTable RawThree) {es fs : List RawThree} → raw_entries a ≡ es → fs ≡ raw_entries b → OnlyUnmarks (lent_table a) (lent_table b)
+    → OnlyUnmarks (table_of es) (table_of fs)
+unmarks_back a b e f marks =
+    let back : OnlyUnmarks (table_of (raw_entries a)) (table_of (raw_entries b)) =
+    record { extent = ap (λ (x : Extent). record { places = x.places; identity = [] }) marks.extent; entries = marks.entries } in
+    rw (← e, f) back
 
 -- A WALK HAS COME TO `at`: the members `done` are in front of it, and the others fit into the steps that are left
 pub record HasComeTo (s : List Place) (at : Option Place) (left : ℕ) : Type 0 where

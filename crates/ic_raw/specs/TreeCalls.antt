@@ -15,7 +15,7 @@ use Rattle.ic_raw.specs.Answers.{IsStatus, IsFound, refusal}
 use Rattle.ic_raw.specs.Tree.{node, ShowsTree, IsHole, TellsHole, FreeIn, StandsIn, IsWritten, NamesLinked, root_in, word_of_root, table_of, fault_at, fault_of}
 use Rattle.ic_raw.specs.Tree.{Inserted, Removed, Replaced}
 use Rattle.ic_raw.specs.Seen.{StaysWithin, HandsOutReached}
-use Rattle.ic_raw.specs.WholeTree.{Cleared}
+use Rattle.ic_raw.specs.WholeTree.{Cleared, OnlyUnmarks}
 use Rattle.ic_raw.specs.Words.{is_linked_three}
 
 -- `old`, `new`: the words of the table before the call and after it. `tree`, `tree'`: that of the tree. `status`: what the call returns
@@ -75,6 +75,7 @@ module _ (old new : List RawThree) (tree tree' : RawRoot) (status : ℕ) where
     pub cleared : (s : List Place) → Cleared old new tree tree' status s
     pub root : status ≡ OK → StandsIn old (root_in tree)
     pub emptied : status ≡ OK → tree' ≡ word_of_root None
+    pub marks : OnlyUnmarks (table_of old) (table_of new)
     pub refused : status ≢ OK → (new ≡ old) × (tree' ≡ tree)
     pub why : status ≢ OK → status ≡ BROKEN
     pub is_status : IsStatus status

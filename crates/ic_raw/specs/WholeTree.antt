@@ -1,7 +1,7 @@
 -- Trees over a caller's words, as a whole.
-use Rattle.std.specs.Prelude.{ℕ, List, Option}
+use Rattle.std.specs.Prelude.{◌≡◌, ◌⊎◌, ◌*◌, ◌/◌, ℕ, List, Option}
 use Rattle.ic_unsafe_ref.specs.declared.place.Place.{Place}
-use Rattle.ic_link_ops.specs.Tables.{Table}
+use Rattle.ic_link_ops.specs.Tables.{Table, IsLinked}
 use Rattle.ic_link_ops.specs.RedBlackTree as trees
 use Rattle.ic_raw.specs.declared.words.RawThree.{RawThree}
 use Rattle.ic_raw.specs.declared.words.RawRoot.{RawRoot}
@@ -17,3 +17,12 @@ IsSeen t = trees.Shows seen_node (seen t)
 -- all members are unlinked
 abbrev pub Cleared : (old new : List RawThree) (tree tree' : RawRoot) (status : ℕ) → List Place → Type 0
 Cleared = calls.Cleared Shows is_linked_three no_tree_words root_in
+
+-- an entry without the mark of a linked place: it names what it named
+abbrev pub unmarked : RawThree → RawThree
+unmarked w = record w { left = w.left / 2 * 2 }
+
+-- MARKS ARE TAKEN OFF, AND NOTHING ELSE IS CHANGED: each entry is as it was, or has lost the mark of a linked place, which it had
+pub record OnlyUnmarks (old new : Table RawThree) : Type 0 where
+  pub extent : new.extent ≡ old.extent
+  pub entries : (q : Place) → (new.entry q ≡ old.entry q) ⊎ (IsLinked is_linked_three old q × (new.entry q ≡ unmarked (old.entry q)))

@@ -14,7 +14,7 @@ ghost use Rattle.ic_raw.specs.Calls.{Clears};
 ghost use Rattle.ic_raw.specs.Gaps.{Stands};
 ghost use Rattle.ic_raw.specs.Seen.{seen, seen_node, has_place};
 ghost use Rattle.ic_raw.specs.Tree.{Shows, lent_table};
-ghost use Rattle.ic_raw.specs.WholeTree.{IsSeen};
+ghost use Rattle.ic_raw.specs.WholeTree.{IsSeen, OnlyUnmarks, unmarked};
 ghost use Rattle.ic_raw.specs.Words.{is_linked_three};
 
 use crate::table::RawTable;
@@ -73,6 +73,7 @@ fn unmark(links: &mut RawTable<'_, RawThree>, place: Place)
     requires covered { IsCovered (lent_table links.old) place }
     ensures unlinked { IsUnlinked is_linked_three (lent_table links.new) place }
     ensures frame { ChangesOnly (lent_table links.old) (lent_table links.new) place }
+    ensures kept { (lent_table links.new).entry place ≡ unmarked ((lent_table links.old).entry place) }
     ensures seen { (q : Place) → seen_node ((seen (lent_table links.new)).entry q) ≡ seen_node ((seen (lent_table links.old)).entry q) }
 {
     let words = &mut links.entries[place.index()];
@@ -83,6 +84,7 @@ fn unmark(links: &mut RawTable<'_, RawThree>, place: Place)
 fn unmark_all(links: &mut RawTable<'_, RawThree>, tree: &Tree)
     ensures cleared { (s : List Place) → Shows (lent_table links.old) (root_of tree.now) s
         → Clears is_linked_three (lent_table links.old) (lent_table links.new) s }
+    ensures marks { OnlyUnmarks (lent_table links.old) (lent_table links.new) }
     ensures extent { (lent_table links.new).extent ≡ (lent_table links.old).extent }
 {
     let mut at = next_of(&*links, tree, None);
@@ -106,6 +108,7 @@ pub(crate) fn clear(links: &mut RawTable<'_, RawThree>, tree: &Tree) -> bool
         → (result ≡ true) × Clears is_linked_three (lent_table links.old) (lent_table links.new) s }
     ensures root { result ≡ true → Stands is_linked_three (lent_table links.old) (root_of tree.now) }
     ensures refused { result ≡ false → links.new ≡ links.old }
+    ensures marks { OnlyUnmarks (lent_table links.old) (lent_table links.new) }
     ensures extent { (lent_table links.new).extent ≡ (lent_table links.old).extent }
 {
     if !links.stands(tree.root()) {

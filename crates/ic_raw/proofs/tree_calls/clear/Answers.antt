@@ -2,6 +2,7 @@ use Rattle.std.proofs.Common.{refl, rules}
 use Rattle.ic_raw.specs.Words.{no_tree_words, is_linked_three}
 use Rattle.ic_raw.proofs.Gaps.{never}
 use Rattle.ic_raw.proofs.Trees.{kept}
+use Rattle.ic_raw.proofs.TreeWalks.{unmarks_back}
 use Rattle.ic_raw.proofs.Views.{viewed, clears_back}
 use Rattle.ic_raw.proofs.tree_calls.clear.Goals as goal
 
@@ -10,6 +11,7 @@ returns-then-not-clear c = record {
   cleared = λ s shown. absurd (never c.if-not-clear.true (c.clear.ensures.cleared s (rw c.tree_of.ensures (viewed no_tree_words kept c.new-links.result c.new-links.ensures.1 shown))).0);
   root = search rules;
   emptied = search rules;
+  marks = unmarks_back c.new-links.result c.clear.new.links c.new-links.ensures.1 (search rules) c.clear.ensures.marks;
   refused = search rules;
   why = search rules;
   is_status = search rules;
@@ -22,6 +24,7 @@ returns c = record {
       record { accepted = refl; done = clears_back no_tree_words is_linked_three c.new-links.result c.clear.new.links c.new-links.ensures.1 (search rules) done };
   root = search rules;
   emptied = search rules;
+  marks = unmarks_back c.new-links.result c.clear.new.links c.new-links.ensures.1 (search rules) c.clear.ensures.marks;
   refused = search rules;
   why = search rules;
   is_status = search rules;

@@ -1,6 +1,8 @@
 use Rattle.std.proofs.Common.{refl}
 use Rattle.ic_raw.proofs.Gaps.{never}
+use Rattle.ic_raw.specs.Tree.{lent_table}
 use Rattle.ic_raw.proofs.Trees.{root_stands}
+use Rattle.ic_raw.proofs.TreeWalks.{unmarks_none}
 use Rattle.ic_raw.proofs.tree_clear.clear.Goals as goal
 
 pub returns-then-not-stands-clause-cleared : goal.returns-then-not-stands-clause-cleared
@@ -11,3 +13,9 @@ returns-then-not-leads_to_end-clause-cleared c s shown = absurd (never c.if-not-
 
 pub returns-clause-cleared : goal.returns-clause-cleared
 returns-clause-cleared c s shown = (refl, c.unmark_all.ensures.cleared s shown)
+
+pub returns-then-not-stands-clause-marks : goal.returns-then-not-stands-clause-marks
+returns-then-not-stands-clause-marks c = unmarks_none (lent_table c.args.links.now)
+
+pub returns-then-not-leads_to_end-clause-marks : goal.returns-then-not-leads_to_end-clause-marks
+returns-then-not-leads_to_end-clause-marks c = unmarks_none (lent_table c.args.links.now)

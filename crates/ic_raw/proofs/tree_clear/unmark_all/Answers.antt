@@ -12,7 +12,7 @@ use Rattle.ic_raw.specs.Tree.{lent_table}
 use Rattle.ic_raw.specs.Words.{is_linked_three}
 use Rattle.ic_raw.proofs.Gaps.{never}
 use Rattle.ic_raw.proofs.Trees.{in_range, seen_shows}
-use Rattle.ic_raw.proofs.TreeWalks.{HasComeTo, seen_length, seen_kept, walk_starts, walk_member, walk_goes_on, walk_ends, walk_over}
+use Rattle.ic_raw.proofs.TreeWalks.{HasComeTo, unmarks_none, unmarks_more, seen_length, seen_kept, walk_starts, walk_member, walk_goes_on, walk_ends, walk_over}
 use Rattle.ic_raw.proofs.tree_clear.unmark_all.Goals as goal
 
 -- at the end of a walk all members are unlinked, and nothing else is changed
@@ -28,7 +28,7 @@ walked_all k none same off others =
 pub loop-left-init : goal.loop-left-init
 unfolding walk_starts
 loop-left-init c = record {
-  extent = refl;
+  marks = unmarks_none (lent_table c.args.links.now);
   walked = λ s shown.
       let there = seen_shows (lent_table c.args.links.now) (in_range c.args.links.now) shown in
       (walk_starts (c.next_of-at.ensures (at_front s) there refl) (rw c.places-left.ensures (seen_length there)), there, (λ p member. absurd (member tt)), (λ q out. refl));
@@ -36,22 +36,22 @@ loop-left-init c = record {
 
 pub returns-in_default-clause-cleared : goal.returns-in_default-clause-cleared
 returns-in_default-clause-cleared c s shown =
-    let was = c.loop-left.invariant.walked s shown in walked_all was.0 c.in_default.is c.loop-left.invariant.extent was.2 was.3
+    let was = c.loop-left.invariant.walked s shown in walked_all was.0 c.in_default.is c.loop-left.invariant.marks.extent was.2 was.3
 
 pub returns-then-not-covers-clause-cleared : goal.returns-then-not-covers-clause-cleared
 returns-then-not-covers-clause-cleared c s shown =
     let was = rw c.in-Some.is at (c.loop-left.invariant.walked s shown) in
     let covered = in_range c.args.links.now c.in-Some.member (holds_linked shown.held (walk_member was.0)) in
-    absurd (never c.if-not-covers.true (c.covers.ensures.1 (subst (λ (x : Extent). index_of c.in-Some.member < x.places) (sym c.loop-left.invariant.extent) covered)))
+    absurd (never c.if-not-covers.true (c.covers.ensures.1 (subst (λ (x : Extent). index_of c.in-Some.member < x.places) (sym c.loop-left.invariant.marks.extent) covered)))
 
 pub returns-clause-cleared : goal.returns-clause-cleared
 returns-clause-cleared c s shown =
     let was = c.loop-left.invariant.walked s shown in
-    walked_all was.0 (walk_over was.0 (omega (arith, c.loop-left-test.false))) c.loop-left.invariant.extent was.2 was.3
+    walked_all was.0 (walk_over was.0 (omega (arith, c.loop-left-test.false))) c.loop-left.invariant.marks.extent was.2 was.3
 
 pub loop-left-preserved : goal.loop-left-preserved
 loop-left-preserved c = record {
-  extent = c.unmark.ensures.frame.extent ∙ c.loop-left.invariant.extent;
+  marks = unmarks_more c.loop-left.invariant.marks c.unmark.ensures.frame c.unmark.ensures.kept;
   walked = λ s shown.
       let t = lent_table c.loop-left.links in
       let u = lent_table c.unmark.new.links in
