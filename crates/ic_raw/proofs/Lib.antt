@@ -12,6 +12,7 @@ pub mod DoublyWalks
 pub mod Singly
 pub mod HashWalks
 pub mod HashTables
+pub mod HashChecks
 pub mod Xor
 pub mod Seen
 pub mod Trees

@@ -1,9 +1,15 @@
--- WHAT A CHECK DOES, of a list or a tree of any kind: the record is the whole contract of a call.
-use Rattle.std.specs.Prelude.{◌≡◌, ◌≢◌, ℕ, List}
+-- WHAT A CHECK DOES, of a list, a tree or a hash table: each record is the whole contract of a call.
+use Rattle.std.specs.Prelude.{◌≡◌, ◌≢◌, ◌<◌, ◌≤◌, ◌++◌, ◌∷◌, ℕ, zero, suc, List, [], length}
+use Rattle.std.specs.List.{AllByRecursion}
 use Rattle.ic_unsafe_ref.specs.declared.place.Place.{Place}
 use Rattle.ic_check.specs.Checked.{IsShown, ShowsNone}
 use Rattle.ic_raw.specs.declared.status.TheConstants.{OK, BROKEN}
-use Rattle.ic_raw.specs.Answers.{IsStatus}
+use Rattle.ic_raw.specs.declared.words.RawFront.{RawFront}
+use Rattle.ic_raw.specs.declared.words.RawOne.{RawOne}
+use Rattle.ic_raw.specs.Answers.{IsStatus, refusal}
+use Rattle.ic_raw.specs.Hash.{slot_of, bucket_at, buckets_fault, HoldsChains}
+use Rattle.ic_raw.specs.Keys.{key_of, keys_fault}
+use Rattle.ic_raw.specs.Singly.{ShowsList}
 
 -- `old`, `new`: the words of the table before the call and after it
 module _ {W : Type 0} (old new : List W) (status : ℕ) where
@@ -14,4 +20,37 @@ module _ {W : Type 0} (old new : List W) (status : ℕ) where
     pub refused : status ≢ OK → members ≡ was
     pub same : new ≡ old
     pub why : status ≢ OK → status ≡ BROKEN
+    pub is_status : IsStatus status
+
+-- `hashes`: those of the places. By its hash the place belongs in bucket i
+abbrev pub BelongsIn : (hashes : List ℕ) → List RawFront → ℕ → Place → Type 0
+BelongsIn hashes buckets i p = slot_of buckets (key_of hashes p) ≡ i
+
+-- s is the chain in bucket i, and each member belongs there
+pub record IsOwnChain (words : List RawOne) (hashes : List ℕ) (buckets : List RawFront) (i : ℕ) (s : List Place) : Type 0 where
+  pub shown : ShowsList words (bucket_at buckets i) s
+  pub own : AllByRecursion (BelongsIn hashes buckets i) s
+
+-- the members of the first chains, so many of them, those of one behind those of the one before
+abbrev pub members_of : (chains : ℕ → List Place) → ℕ → List Place
+members_of chains zero = []
+members_of chains (suc i) = members_of chains i ++ chains i
+
+-- THE BUCKETS HOLD s BY THESE HASHES: chains of which each member belongs in its bucket, and s are the members of all of them
+pub record HoldsByHash (words : List RawOne) (hashes : List ℕ) (buckets : List RawFront) (s : List Place) : Type 0 where
+  pub chains : ℕ → List Place
+  pub holds : HoldsChains words buckets chains
+  pub own : (i : ℕ) → i < length buckets → AllByRecursion (BelongsIn hashes buckets i) (chains i)
+  pub all : s ≡ members_of chains (length buckets)
+
+-- `hashes`: those of the places. The members are counted, in words that said `was`
+module _ (hashes : List ℕ) (old new : List RawOne) (status was members : ℕ) where
+  -- THE MEMBERS OF ALL CHAINS ARE COUNTED, if each chain ends, no two share a member, and each member is in the bucket where its hash leads
+  pub record HashCheckCall (buckets : List RawFront) : Type 0 where
+    pub shown : status ≡ OK → IsShown (HoldsByHash old hashes buckets) members
+    pub not_shown : status ≢ OK → length old ≤ length hashes → 1 ≤ length buckets → ShowsNone (HoldsByHash old hashes buckets)
+    pub looked : status ≡ OK → (length old ≤ length hashes) × (1 ≤ length buckets)
+    pub refused : status ≢ OK → members ≡ was
+    pub same : new ≡ old
+    pub why : status ≢ OK → status ≡ refusal (keys_fault hashes (length old) ∷ buckets_fault buckets ∷ [])
     pub is_status : IsStatus status

@@ -1,23 +1,28 @@
-//! Checks: whether the words show a list or a tree, and of how many members.
+//! Checks: whether the words show a list, a tree or a hash table, and of how many members.
 //!
 //! ```text
 //! check_list(table, list, &mut members) // OK, or BROKEN where the words show no list
 //! ```
 
+ghost use Rattle.std.specs.Prelude.{◌<◌, ◌≤◌, MatchOption, length};
+ghost use Rattle.ic_check.specs.Checked.{IsShown, ShowsNone};
 ghost use Rattle.ic_raw.specs.Doubly as doubly;
 ghost use Rattle.ic_raw.specs.Singly as singly;
+ghost use Rattle.ic_raw.specs.Tables.{raw_entries};
 ghost use Rattle.ic_raw.specs.Tree.{ShowsTree};
-ghost use Rattle.ic_raw.specs.CheckCalls.{CheckCall};
+ghost use Rattle.ic_raw.specs.CheckCalls.{CheckCall, HashCheckCall, HoldsByHash, IsOwnChain};
 
 use crate::list_calls::list_of;
 use crate::marked_tree::MarkedTree;
+use crate::number::place_in;
 use crate::stack_calls::stack_of;
-use crate::status::{BROKEN, OK};
+use crate::status::{BROKEN, OK, OUT_OF_RANGE};
 use crate::table::RawTable;
 use crate::tree_calls::tree_of;
 use crate::words::{RawEnds, RawFront, RawOne, RawRoot, RawThree, RawTwo};
 use ic_check::{TellsLinks, check};
 use ic_link_ops::Words;
+use ic_link_ops::singly_linked_list::SinglyLinkedListOps;
 use ic_unsafe_ref::Place;
 
 impl<W: Words> TellsLinks for RawTable<'_, W> {
@@ -71,6 +76,82 @@ pub fn check_tree(table: &mut [RawThree], tree: &RawRoot, members: &mut u64) -> 
 {
     let links = MarkedTree::new(table);
     let Some(count) = ic_check::check_tree(&tree_of(tree), &links) else {
+        return BROKEN;
+    };
+    *members = count as u64;
+    OK
+}
+
+// How many members the chain in a bucket has, `None` if it has no end, or if a member belongs in another bucket.
+fn own_members(
+    links: &RawTable<'_, RawOne>,
+    hashes: &[u64],
+    buckets: &[RawFront],
+    at: usize,
+) -> Option<usize>
+    requires hashes { (singly.lent_table links.now).extent.places ≤ length hashes.now }
+    requires within { at < length buckets.now }
+    ensures { MatchOption result (ShowsNone (IsOwnChain (raw_entries links.now) hashes.now buckets.now at))
+        (IsShown (IsOwnChain (raw_entries links.now) hashes.now buckets.now at)) }
+{
+    let mut current = place_in(buckets[at].head);
+    let mut members = 0;
+    while let Some(place) = current {
+        if members >= links.places() {
+            return None;
+        }
+        if !links.is_linked(place) {
+            return None;
+        }
+        if (hashes[place.index()] % buckets.len() as u64) as usize != at {
+            return None;
+        }
+        current = links.next(place);
+        members += 1;
+    }
+    Some(members)
+}
+
+// How many members all chains have, `None` if one of them has no end, or a member that belongs in another bucket.
+fn all_members(links: &RawTable<'_, RawOne>, hashes: &[u64], buckets: &[RawFront]) -> Option<usize>
+    requires hashes { (singly.lent_table links.now).extent.places ≤ length hashes.now }
+    ensures { MatchOption result (ShowsNone (HoldsByHash (raw_entries links.now) hashes.now buckets.now))
+        (IsShown (HoldsByHash (raw_entries links.now) hashes.now buckets.now)) }
+{
+    let mut members = 0;
+    let mut at = 0;
+    while at < buckets.len() {
+        let Some(more) = own_members(links, hashes, buckets, at) else {
+            return None;
+        };
+        members += more;
+        at += 1;
+    }
+    Some(members)
+}
+
+/// Hands out how many members the words show for a hash table, or returns [`BROKEN`] where they show none: where a chain has no end, or a
+/// member is in another bucket than that where its hash leads. O(b + n) for b buckets and n places.
+///
+/// It writes nothing else. There has to be a hash for each place of the table, and a bucket. Where it returns [`OK`], no place is in two
+/// chains, and each call does what it says of a chain that is shown.
+#[inline]
+pub fn check_hash(
+    table: &mut [RawOne],
+    hashes: &[u64],
+    buckets: &[RawFront],
+    members: &mut u64,
+) -> u32
+    ensures { HashCheckCall hashes.now table.old table.new result members.old members.new buckets.now }
+{
+    let links = RawTable::new(table);
+    if hashes.len() < links.places() {
+        return OUT_OF_RANGE;
+    }
+    if buckets.is_empty() {
+        return OUT_OF_RANGE;
+    }
+    let Some(count) = all_members(&links, hashes, buckets) else {
         return BROKEN;
     };
     *members = count as u64;

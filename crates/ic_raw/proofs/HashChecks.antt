@@ -1,0 +1,159 @@
+-- A check of a hash table: the walk along one chain, and the chains that are checked.
+use Rattle.std.proofs.Common.{◌≡◌, ◌≢◌, ◌<◌, ◌≤◌, ◌+◌, ℕ, zero, suc, inl, inr, Bool, true, Option, Some, None, List, [], ◌∷◌, ◌++◌, drop, length, length-append, refl, sym, ap, ◌∙◌, subst, arith}
+use Rattle.std.specs.List.{AllByRecursion}
+use Rattle.std.proofs.lemmas.Bool.Decides.{eqb_tells}
+use Rattle.ic_unsafe_ref.specs.declared.place.Place.{Place}
+use Rattle.ic_unsafe_ref.specs.Places.{index_of}
+use Rattle.ic_link_ops.specs.Chains.{IsChain}
+use Rattle.ic_link_ops.specs.EntryLaws.{linked_in_range}
+use Rattle.ic_link_ops.specs.Sequences.{first_or, IsAbsent, IsDistinct, IsDisjoint}
+use Rattle.ic_link_ops.specs.SinglyLinkedList.{IsFollowed, list_from, successor_at, members_from}
+use Rattle.ic_link_ops.specs.Tables.{Table}
+use Rattle.ic_link_ops.proofs.Chains.{chain_glue}
+use Rattle.ic_link_ops.proofs.Each.{all_back, all_both, all_map}
+use Rattle.ic_link_ops.proofs.SequenceLemmas.{first_or-append}
+use Rattle.ic_link_ops.proofs.SinglyLists.{members_shown}
+use Rattle.ic_link_ops.proofs.Walks.{few_places}
+use Rattle.ic_check.specs.Checked.{IsShown, ShowsNone}
+use Rattle.ic_check.proofs.Marking.{distinct_both}
+use Rattle.ic_raw.specs.declared.words.RawFront.{RawFront}
+use Rattle.ic_raw.specs.declared.words.RawOne.{RawOne}
+use Rattle.ic_raw.specs.CheckCalls.{BelongsIn, HoldsByHash, IsOwnChain, members_of}
+use Rattle.ic_raw.specs.Hash.{slot_of, bucket_at}
+use Rattle.ic_raw.specs.Keys.{key_of}
+use Rattle.ic_raw.specs.Singly.{Shows, front_of, list_of, successor, table_of}
+use Rattle.ic_raw.specs.Words.{is_linked_one, no_word}
+use Rattle.ic_raw.proofs.HashWalks.{Comes, comes_parts}
+use Rattle.ic_raw.proofs.Singly.{ended_distinct}
+
+-- THE PLACES FROM `front` ON LEAD TO `current`, past so many linked ones, which are own ones
+pub record WalksOwn (Own : Place → Type 0) (t : Table RawOne) (front current : Option Place) (count : ℕ) : Type 0 where
+  pub walked : List Place
+  pub chain : IsChain (IsFollowed successor) t.entry None walked current
+  pub starts : front ≡ first_or walked current
+  pub own : AllByRecursion Own walked
+  pub many : length walked ≡ count
+
+module _ {Own : Place → Type 0} {t : Table RawOne} where
+  pub own_none : (front : Option Place) → WalksOwn Own t front front 0
+  own_none front = record { walked = []; chain = tt; starts = refl; own = tt; many = refl }
+
+  pub own_more : {front next : Option Place} {p : Place} {count more : ℕ} → WalksOwn Own t front (Some p) count → is_linked_one (t.entry p) ≡ true → Own p
+      → (successor_at successor t p).next ≡ next → more ≡ count + 1 → WalksOwn Own t front next more
+  own_more {next = next} {p} k linked own behind counts = record {
+    walked = k.walked ++ p ∷ [];
+    chain = chain_glue (IsFollowed successor) t.entry None k.walked (p ∷ []) next k.chain (record { linked = linked; next = behind }, tt);
+    starts = k.starts ∙ sym (first_or-append k.walked (p ∷ []) next);
+    own = all_both Own k.walked (p ∷ []) k.own (own, tt);
+    many = omega (arith, length-append k.walked (p ∷ []), k.many, counts);
+  }
+
+  -- where they end they are a list
+  pub own_ended : {front : Option Place} {count : ℕ} → WalksOwn Own t front None count
+      → (s : List Place) × Shows t (list_from front) s × AllByRecursion Own s × (length s ≡ count)
+  own_ended k = (
+    k.walked,
+    record { distinct = ended_distinct t.entry None k.walked k.chain; chain = k.chain; head = k.starts; tail = refl },
+    k.own,
+    k.many,
+  )
+
+-- a member to which a walk has come is an own one, where all are
+pub own_there : (Own : Place → Type 0) {is : Place → Bool} {t : Table RawOne} {s : List Place} {before : Option Place} {p : Place} {left : ℕ} → Comes is t s before (Some p) left
+    → AllByRecursion Own s → Own p
+own_there Own {p = p} k all = (all_back Own k.passed.walk.done (p ∷ drop 1 k.passed.walk.rest) (subst (AllByRecursion Own) (comes_parts k) all)).0
+
+-- the number of steps that are left, in other words
+pub same_left : {is : Place → Bool} {t : Table RawOne} {s : List Place} {before current : Option Place} {left left' : ℕ} → Comes is t s before current left → left' ≡ left
+    → Comes is t s before current left'
+same_left k same = record { passed = k.passed; few = omega (arith, k.few, same) }
+
+module _ (words : List RawOne) (hashes : List ℕ) (buckets : List RawFront) where
+  -- the chain in a bucket, as a walk comes by it
+  abbrev pub chain_in : ℕ → List Place
+  chain_in i = members_from successor (table_of words) (front_of (bucket_at buckets i))
+
+  -- THE FIRST CHAINS ARE CHECKED, so many of them, and have so many members
+  pub record ChecksOwn (i count : ℕ) : Type 0 where
+    pub each : (j : ℕ) → j < i → IsOwnChain words hashes buckets j (chain_in j)
+    pub counted : count ≡ length (members_of chain_in i)
+
+-- places with one number are none of those with others
+apart_by : (number : Place → ℕ) (i : ℕ) (s r : List Place) → AllByRecursion (λ p. number p ≡ i) s → AllByRecursion (λ p. number p ≢ i) r → IsDisjoint s r
+apart_by number i [] r here there = tt
+apart_by number i (x ∷ s) r here there = (absent r there, apart_by number i s r here.1 there) where
+  absent : (r : List Place) → AllByRecursion (λ p. number p ≢ i) r → IsAbsent x r
+  absent [] there = tt
+  absent (y ∷ r) there = ((λ same. there.0 (sym (ap number same) ∙ here.0)), absent r there.1)
+
+-- the hashes of the members of the first chains lead to their buckets,
+lead_below : (hashes : List ℕ) (buckets : List RawFront) (chains : ℕ → List Place) (i : ℕ) → ((j : ℕ) → j < i → AllByRecursion (BelongsIn hashes buckets j) (chains j))
+    → AllByRecursion (λ p. slot_of buckets (key_of hashes p) < i) (members_of chains i)
+lead_below hashes buckets chains zero each = tt
+lead_below hashes buckets chains (suc i) each =
+    all_both (λ p. slot_of buckets (key_of hashes p) < suc i) (members_of chains i) (chains i)
+    (all_map (λ p low. omega (arith, low)) (members_of chains i) (lead_below hashes buckets chains i (λ j fits. each j (omega (arith, fits)))))
+    (all_map (λ p at. omega (arith, at)) (chains i) (each i (omega arith)))
+
+-- so none of them is met twice
+all_distinct : (hashes : List ℕ) (buckets : List RawFront) (chains : ℕ → List Place) (i : ℕ) → ((j : ℕ) → j < i → IsDistinct (chains j)) → ((j : ℕ) → j < i → AllByRecursion (BelongsIn hashes buckets j) (chains j))
+    → IsDistinct (members_of chains i)
+all_distinct hashes buckets chains zero each own = tt
+all_distinct hashes buckets chains (suc i) each own =
+    distinct_both (members_of chains i) (chains i) (all_distinct hashes buckets chains i (λ j fits. each j (omega (arith, fits))) (λ j fits. own j (omega (arith, fits)))) (each i (omega arith))
+    (apart_by (λ p. slot_of buckets (key_of hashes p)) i (chains i) (members_of chains i) (own i (omega arith))
+    (all_map (λ p low same. omega (arith, low, same)) (members_of chains i) (lead_below hashes buckets chains i (λ j fits. own j (omega (arith, fits))))))
+
+module _ {words : List RawOne} {hashes : List ℕ} {buckets : List RawFront} where
+  chain_is : (i : ℕ) (s : List Place) → IsOwnChain words hashes buckets i s → chain_in words hashes buckets i ≡ s
+  chain_is i s own =
+      members_shown (table_of words) (λ q on. linked_in_range is_linked_one no_word refl words (index_of q) on) (list_of (bucket_at buckets i)) s own.shown
+
+  pub checks_none : ChecksOwn words hashes buckets 0 0
+  checks_none = record { each = λ j fits. absurd (omega (arith, fits)); counted = refl }
+
+  module _ {i count : ℕ} (k : ChecksOwn words hashes buckets i count) where
+    -- ONE CHAIN MORE
+    one_more : {n more : ℕ} → IsShown (IsOwnChain words hashes buckets i) n → more ≡ count + n → ChecksOwn words hashes buckets (suc i) more
+    one_more {n} {more} (s, own, many) counts =
+        let here = chain_is i s own in record {
+          each = λ j fits. elim (eqb_tells j i) [
+            | inl e ↦ subst (λ (m : ℕ). IsOwnChain words hashes buckets m (chain_in words hashes buckets m)) (sym e.1) (subst (IsOwnChain words hashes buckets i) (sym here) own)
+            | inr n ↦ k.each j (omega (arith, fits, n.1))
+          ];
+          counted = omega (arith, counts, k.counted, many, ap length here, length-append (members_of (chain_in words hashes buckets) i) (chain_in words hashes buckets i));
+        }
+
+    pub checks_more : {n more next : ℕ} → IsShown (IsOwnChain words hashes buckets i) n → more ≡ count + n → suc i ≡ next → ChecksOwn words hashes buckets next more
+    checks_more {more = more} shown counts is_next = subst (λ (j : ℕ). ChecksOwn words hashes buckets j more) is_next (one_more shown counts)
+
+    -- few members are in all of them
+    pub few_checked : {n : ℕ} → IsShown (IsOwnChain words hashes buckets i) n → count + n ≤ 8589934591
+    few_checked {n} shown =
+        let more : ChecksOwn words hashes buckets (suc i) (count + n) = one_more shown refl in
+        let few = few_places (members_of (chain_in words hashes buckets) (suc i))
+        (all_distinct hashes buckets (chain_in words hashes buckets) (suc i) (λ j fits. (more.each j fits).shown.distinct) (λ j fits. (more.each j fits).own)) in
+        omega (arith, few, more.counted)
+
+    -- ALL OF THEM ARE CHECKED
+    pub checks_all : i ≡ length buckets → IsShown (HoldsByHash words hashes buckets) count
+    checks_all over =
+        let each : (j : ℕ) → j < length buckets → IsOwnChain words hashes buckets j (chain_in words hashes buckets j) = λ j fits. k.each j (omega (arith, fits, over)) in (
+          members_of (chain_in words hashes buckets) (length buckets),
+          record {
+            chains = chain_in words hashes buckets;
+            holds = record {
+              shown = λ j fits. (each j fits).shown;
+              apart = λ j m fits fits' differ.
+                  apart_by (λ p. slot_of buckets (key_of hashes p)) j (chain_in words hashes buckets j) (chain_in words hashes buckets m) (each j fits).own
+                  (all_map (λ p there same. differ (sym same ∙ there)) (chain_in words hashes buckets m) (each m fits').own);
+            };
+            own = λ j fits. (each j fits).own;
+            all = refl;
+          },
+          sym (k.counted ∙ ap (λ (n : ℕ). length (members_of (chain_in words hashes buckets) n)) over),
+        )
+
+    -- none is held where the next chain is none, or has a member that belongs elsewhere
+    pub not_held : i < length buckets → ShowsNone (IsOwnChain words hashes buckets i) → ShowsNone (HoldsByHash words hashes buckets)
+    not_held within never s held = never (held.chains i) (record { shown = held.holds.shown i within; own = held.own i within })

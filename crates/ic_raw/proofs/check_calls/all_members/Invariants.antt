@@ -1,0 +1,14 @@
+use Rattle.std.proofs.Common.{◌≤◌, ◌-◌, length}
+use Rattle.ic_raw.specs.Tables.{raw_entries}
+use Rattle.ic_raw.proofs.HashChecks.{ChecksOwn}
+use Rattle.ic_raw.proofs.check_calls.all_members.Given as goal
+
+-- the chains before number `at` are checked
+abbrev pub invariant-loop-at : goal.invariant-loop-at
+invariant-loop-at l = record {
+  checks : ChecksOwn (raw_entries l.fn.links) l.fn.hashes l.fn.buckets l.at l.members;
+  within : l.at ≤ length l.fn.buckets;
+}
+
+abbrev pub decreases-loop-at : goal.decreases-loop-at
+decreases-loop-at l = length l.fn.buckets - l.at
