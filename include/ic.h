@@ -17,10 +17,11 @@
  * Every bit pattern is a value, and zeroed memory is a table of unlinked places, an empty list and an empty tree. A copy of a table with
  * its lists and trees is as good as the original.
  *
- * A call requires that `table` points to `places` links, `keys` to `key_count` keys, `buckets` to `bucket_count` lists, and each other pointer
- * to one value of its type. No two of these overlap, and no other thread writes or reads them during the call, except that threads may read
- * what all of them take as const. A call requires nothing else, so words, keys, hashes and places may be any. The one dangerous number is a
- * length that is greater than its array, because a call may leave your memory by it. A length that is less is safe.
+ * A call requires that `table` points to `places` links, `keys` to `key_count` keys, `hashes` to `hash_count` hashes, `buckets` to
+ * `bucket_count` lists, and each other pointer to one value of its type. No two of these overlap, and no other thread writes or reads them
+ * during the call, except that threads may read what all of them take as const. A call requires nothing else, so words, keys, hashes and
+ * places may be any. The one dangerous number is a length that is greater than its array, because a call may leave your memory by it. A
+ * length that is less is safe.
  *
  * This is what every call does, whatever you hand to it:
  *   - It returns one of the statuses below.
@@ -30,7 +31,7 @@
  *     that is named, else with the next one, else with the place to insert, else that the words do not fit together (IC_BROKEN). If the
  *     comment says what a call does if a place is IC_NONE, nothing is wrong with IC_NONE there.
  *   - It takes at most as many steps as its cost says, in which n is the number of members. If the links form no list or tree, a call whose
- *     cost depends on members takes at most a fixed number of steps for each place of the table.
+ *     cost depends on members takes at most a fixed number of steps for each place of the table, and for each bucket that it goes through.
  *
  * If the table holds the list or tree, and the member that you name is one of its members, the call makes the edit that its comment says.
  * Every other list and tree of the table stays as it was. A call refuses a member of another list of the same table with IC_BROKEN if the
@@ -880,6 +881,15 @@ uint32_t ic_hash_find(const struct ic_link1 *table, ic_length places, const uint
 IC_NODISCARD
 uint32_t ic_hash_next_equal(const struct ic_link1 *table, ic_length places, const uint64_t *keys, ic_length key_count, uint32_t at,
                             uint32_t *found);
+
+/* Counts the members of all chains, and sets *members to how many there are, in O(buckets + n). Call it if the words come from a file, or
+ * from memory that others write. `hashes` has the hash of each place. If the status is IC_OK, each member is in the chain of its hash and
+ * in no other one, and each call does what it says of a hash table that the table holds.
+ * IC_OUT_OF_RANGE: there are fewer hashes than places, or there is no bucket. IC_BROKEN: the links lead from a bucket to no end within the
+ * table, or to a member that belongs in another bucket by its hash. */
+IC_NODISCARD
+uint32_t ic_hash_check(const struct ic_link1 *table, ic_length places, const uint64_t *hashes, ic_length hash_count,
+                       const struct ic_stack *buckets, ic_length bucket_count, uint64_t *members);
 
 /* to here */
 

@@ -878,6 +878,15 @@ public:
         return found(done, place);
     }
 
+    /// Returns how many members there are, in O(buckets + n), for words that come from a file or that others write. `hashes` has the hash of
+    /// each place. It returns std::nullopt if the words form no hash table by these hashes, or if the call is refused.
+    [[nodiscard]] std::optional<std::uint64_t> check(keys_view hashes) const noexcept {
+        std::uint64_t count = 0;
+        const std::uint32_t done =
+            ic_hash_check(in_.table, in_.places, hashes.data(), hashes.size(), in_.buckets, in_.bucket_count, &count);
+        return done == IC_OK ? std::optional<std::uint64_t>(count) : std::nullopt;
+    }
+
     /// Returns the first member of the chain of which the predicate is true.
     template <class Predicate>
     [[nodiscard]] std::optional<std::uint32_t> find_by(std::uint64_t hash, Predicate is_equal) const {

@@ -502,6 +502,11 @@ static inline uint32_t ic_hash_in_next_equal(struct ic_hash_in in, uint32_t at, 
     return ic_hash_next_equal(in.table, in.places, in.keys.keys, in.keys.count, at, found);
 }
 
+IC_NODISCARD
+static inline uint32_t ic_hash_in_check(struct ic_hash_in in, struct ic_keys hashes, uint64_t *members) {
+    return ic_hash_check(in.table, in.places, hashes.keys, hashes.count, in.buckets, in.bucket_count, members);
+}
+
 #define IC_HASH_IN_FOREACH(place, in, hash) IC_HASH_FOREACH(place, (in).table, (in).places, (in).buckets, (in).bucket_count, hash)
 #define IC_HASH_IN_FOREACH_ENTRY(object, objects, in, hash) \
     IC_HASH_FOREACH_ENTRY(object, objects, (in).table, (in).places, (in).buckets, (in).bucket_count, hash)

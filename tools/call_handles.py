@@ -9,6 +9,8 @@ from languages import HEADER, c_family, c_items
 PARTS = {"table": "table", "places": "places", "list": "list", "tree": "tree", "buckets": "buckets", "bucket_count": "bucket_count",
          "keys": "keys.keys", "key_count": "keys.count"}
 OTHERS = ("given", "rest")
+# The count that is handed with numbers of which there is one for each place.
+COUNTED = {"keys": "key_count", "hashes": "hash_count"}
 SIGNATURE = re.compile(r"(\w+) (ic_\w+)\((.*)\);")
 WIDTH = 142
 
@@ -18,16 +20,19 @@ def renamed(name):
 
 
 def handed(family, arguments):
-    """The parameters of a function over a handle, and what it hands to the call: `keys` of a list are an argument of their own."""
+    """The parameters of a function over a handle, and what it hands to the call: `keys` of a list, and `hashes`, are an argument of their own."""
     params, words = [f"struct ic_{family}_in in"], []
+    own = {name: count for name, count in COUNTED.items() if name == "hashes" or family == "list"}
     for argument in arguments:
         kind, name = re.match(r"(.*?[ *])(\w+)$", argument).groups()
         if name in OTHERS:
             params.append(f"struct ic_{family}_in {name}")
             words.append(f"{name}.list")
-        elif name in ("keys", "key_count") and family == "list":
-            params += ["struct ic_keys keys"] * (name == "keys")
-            words.append(PARTS[name])
+        elif name in own:
+            params.append(f"struct ic_keys {name}")
+            words += [f"{name}.keys", f"{name}.count"]
+        elif name in own.values():
+            continue
         elif name in PARTS:
             words.append(f"in.{PARTS[name]}")
         else:

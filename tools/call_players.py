@@ -25,7 +25,7 @@ READ = re.compile(r"^static inline (?:int|uint32_t) (ic_\w+)\(const struct ic_li
 
 def arguments(call):
     """The arguments of a line besides the first number of a list, and where each stands."""
-    names = [arg for arg in call.args if arg.name not in ("table", "keys", "buckets", *SELF, *OUT)]
+    names = [arg for arg in call.args if arg.name not in ("table", "keys", "hashes", "buckets", *SELF, *OUT)]
     return {arg.name: at for at, arg in enumerate(names, call.family != "ring")}
 
 
@@ -50,7 +50,8 @@ def c_call(call):
     table, places = c_links(call.family)
     own = f"&{HEADS[call.family]}[n[0]]" if call.family in HEADS else ""
     fixed = {"table": table, "places": places, "keys": "keys", "key_count": "key_count(n[0])", "list": own, "tree": own,
-             "buckets": "&buckets[bucket_from[n[0]]]", "bucket_count": "bucket_count[n[0]]", "rest": "&rest", "members": "&out.members"}
+             "hashes": "keys", "hash_count": "key_count(n[0])", "buckets": "&buckets[bucket_from[n[0]]]", "bucket_count": "bucket_count[n[0]]",
+             "rest": "&rest", "members": "&out.members"}
     fixed.update({name: "&out.place" for name in OUT if name != "members"})
     at, types = arguments(call), {arg.name: arg.type for arg in call.args}
     of = lambda name: f"&{HEADS[call.family]}[n[{at[name]}]]" if name == "given" else "(uint32_t)" * (types[name] == "u32") + f"n[{at[name]}]"
@@ -96,7 +97,8 @@ def handle_call(call):
     at, types = arguments(call), {arg.name: arg.type for arg in call.args}
     kind = next((STRUCTS[arg.type] for arg in call.args if arg.name == "rest"), "")
     rest = f"((struct ic_{call.family}_in){{{', '.join(c_links(call.family))}, &rest}})"
-    fixed = {"members": "&out.members", "rest": rest * bool(kind), "keys": "((struct ic_keys){keys, key_count(n[0])})" * (call.family == "list")}
+    keys = "((struct ic_keys){keys, key_count(n[0])})"
+    fixed = {"members": "&out.members", "rest": rest * bool(kind), "keys": keys * (call.family == "list"), "hashes": keys}
     fixed.update({name: "&out.place" for name in OUT if name != "members"})
     of = lambda name: handle(call.family, at[name]) if name == "given" else "(uint32_t)" * (types[name] == "u32") + f"n[{at[name]}]"
     left = {"table", "buckets", *SELF, *({"keys"} if call.family != "list" else ())}
@@ -139,7 +141,8 @@ def view(of, head):
 def cpp_call(call):
     at, types = arguments(call), {arg.name: arg.type for arg in call.args}
     own = lambda index: f"{HEADS[call.family]}[n[{index}]]" if call.family in HEADS else ""
-    fixed = {"keys": "ic::tree_view::keys_view{keys, key_count(n[0])}", "rest": view(call.family, "rest")}
+    keys = "ic::tree_view::keys_view{keys, key_count(n[0])}"
+    fixed = {"keys": keys, "hashes": keys, "rest": view(call.family, "rest")}
     if "given" in at:
         fixed["given"] = view(call.family, own(at["given"]))
     of = lambda name: "(uint32_t)" * (types[name] == "u32") + f"n[{at[name]}]"
@@ -188,7 +191,8 @@ def rust_call(call):
     reads, at = next(c_arguments(call))[0], arguments(call)
     own = f"world.{HEADS.get(call.family)}[slot(w[0])]"
     kinds = {"u64": "number", "u32": "place"}
-    fixed = {"table": f"&{'mut ' * (not reads)}world.{TABLES[call.family]}_links", "keys": "keys(&world.keys, slot(w[0]))", "given": "given"}
+    fixed = {"table": f"&{'mut ' * (not reads)}world.{TABLES[call.family]}_links", "given": "given"}
+    fixed.update({name: "keys(&world.keys, slot(w[0]))" for name in ("keys", "hashes")})
     words = []
     for arg in call.args:
         if arg.name == "buckets":
@@ -249,7 +253,7 @@ def script_body(call):
     if call.name == "ic_ring_init":
         return "void new w.Ring(w.links.list, place(n[0]))"
     left = ("table", "buckets", "rest", *SELF, *OUT, *(() if call.family == "list" else ("keys",)))
-    fixed = {"keys": "w.keys[n[0]]", "given": f"w.{heads}[n[{at.get('given')}]]", "head": f"w.ringOf(place(n[{at.get('head')}]))"}
+    fixed = {"keys": "w.keys[n[0]]", "hashes": "w.keys[n[0]]", "given": f"w.{heads}[n[{at.get('given')}]]", "head": f"w.ringOf(place(n[{at.get('head')}]))"}
     names = [arg.name for arg in call.args if arg.name not in left]
     owner = f"w.{heads}[n[0]]" if call.family != "ring" else "w.ringOf(0)"
     if call.family == "ring" and outcome(call):

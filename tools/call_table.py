@@ -167,7 +167,8 @@ def refusals(call, none, length):
     if names(call, "member", "ring"):
         when["NULL"].append(f"{some('member', 'ring')} is {none}")
     when["NULL"] += [call.null] * bool(call.null)
-    when["OUT_OF_RANGE"] += ["there are fewer keys than places"] * has(call, "keys") + ["there is no bucket"] * has(call, "buckets")
+    when["OUT_OF_RANGE"] += [f"there are fewer {name} than places" for name in ("keys", "hashes") if has(call, name)]
+    when["OUT_OF_RANGE"] += ["there is no bucket"] * has(call, "buckets")
     if names(call, "new", "member", "ring", "gap"):
         when["OUT_OF_RANGE"].append(f"{some('new', 'member', 'ring', 'gap')} is not below {length}")
     if names(call, "run"):

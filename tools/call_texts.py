@@ -9,7 +9,7 @@ from call_table import OUT, has, refusals
 NUMBERS = {"u32": ("uint32_t", "u32"), "u64": ("uint64_t", "u64")}
 LENGTH = ("ic_length", "usize")
 STRUCTS = {"RawOne": "ic_link1", "RawTwo": "ic_link2", "RawThree": "ic_link3", "RawFront": "ic_stack", "RawEnds": "ic_list", "RawRoot": "ic_tree"}
-COUNTS = {"table": "places", "keys": "key_count", "buckets": "bucket_count"}
+COUNTS = {"table": "places", "keys": "key_count", "hashes": "hash_count", "buckets": "bucket_count"}
 # The classes and types of the bindings, and how many words a link of each kind has.
 CLASSES = {"list": "List", "stack": "Stack", "xor": "XorList", "tree": "Tree", "ring": "Ring", "hash": "HashTable"}
 LINKS = {"list": 2, "ring": 2, "stack": 1, "hash": 1, "xor": 1, "tree": 3}
@@ -103,7 +103,7 @@ def rust_comment(call, indent):
     if out in ("popped", "removed", "found"):
         text += f" It returns `None` if {said.pop('NULL')}."
     if out == "members":
-        text, said = f"{text} It returns `None` if {of.broken}.", {}
+        text, said = f"{text} It returns `None` if {', or '.join(said.values())}.", {}
     paragraphs = [textwrap.wrap(text, COMMENT - indent - 4)]
     if said:
         errors = " ".join(f"[`Error::{ERRORS[status]}`] if {when}." for status, when in said.items())
@@ -114,7 +114,8 @@ def rust_comment(call, indent):
 def rust_arguments(call):
     """The parameters of the method, and what it hands to the call."""
     reads = next(c_arguments(call))[0]
-    handed = {"table": ["links", "places"], "keys": ["keys.as_ptr()", "keys.len()"], "given": ["&mut given.0"], "rest": ["&mut rest.0"]}
+    handed = {"table": ["links", "places"], "given": ["&mut given.0"], "rest": ["&mut rest.0"]}
+    handed.update({name: [f"{name}.as_ptr()", f"{name}.len()"] for name in ("keys", "hashes")})
     params, words = [], []
     for arg in call.args:
         if arg.name in SELF:
@@ -126,7 +127,7 @@ def rust_arguments(call):
             words.append("members" if arg.name == "members" else "it")
         else:
             words += handed.get(arg.name, [f"number({arg.name})" if call.roles.get(arg.name) == "gap" else arg.name])
-        kinds = {"table": f"&{'mut ' * (not reads)}[Link{LINKS[call.family]}]", "keys": "&[u64]", "given": f"&mut {CLASSES[call.family]}",
+        kinds = {"table": f"&{'mut ' * (not reads)}[Link{LINKS[call.family]}]", "keys": "&[u64]", "hashes": "&[u64]", "given": f"&mut {CLASSES[call.family]}",
                  "buckets": f"&{'mut ' * arg.is_mut}[Stack]"}
         if arg.name not in ("rest", *OUT):
             params.append(f"{arg.name}: " + kinds.get(arg.name, "Option<u32>" if call.roles.get(arg.name) == "gap" else arg.type))
@@ -205,7 +206,8 @@ def camel(name):
 def script_words(call):
     """What the method hands to the call. Each number is checked by its name."""
     fixed = {"table": "this.table, this.places", "list": "this.self", "tree": "this.self", "keys": "this.keysAt, this.keyCount",
-             "buckets": "this.bucketsAt, this.bucketCount", "given": "this.given(given)", "rest": "rest"}
+             "buckets": "this.bucketsAt, this.bucketCount", "given": "this.given(given)", "rest": "rest",
+             "hashes": "...keyParts(hashes, this.links)"}
     if call.family == "list":
         fixed["keys"] = "...keyParts(keys, this.links)"
     if call.family == "ring":
@@ -242,7 +244,7 @@ def types(call):
     if call.name == "ic_ring_init":
         return ""
     out, own = outcome(call), CLASSES[call.family]
-    kinds = {"given": own, "head": own, "hash": "bigint | number", "key": "bigint | number", "keys": "Words", "count": "number"}
+    kinds = {"given": own, "head": own, "hash": "bigint | number", "key": "bigint | number", "keys": "Words", "hashes": "Words", "count": "number"}
     kind = lambda arg: kinds.get(arg.name) or ("Gap" if call.roles.get(arg.name) == "gap" else "Place")
     parameters = [f"{arg.name}: {kind(arg)}" for arg in script_parameters(call)]
     result = {"rest": own, "members": "number", None: "void"}.get(out, "Gap")

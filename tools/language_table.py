@@ -41,7 +41,7 @@ ALIASES = {
             "list splice": "cursor: splice_before", "xor splice": "cursor: splice_before"},
     "Rust": {"iter": "loop"},
     "JavaScript": {"[symbol.iterator]": "loop", "ring constructor": "init"},
-    "Rattle": {"iter": "loop", "sort_by": "sort", "merge_by": "merge", "check_tree": "check", "append_walking": "append", "ring open": "init",
+    "Rattle": {"iter": "loop", "sort_by": "sort", "merge_by": "merge", "check_tree": "check", "check_hash_table": "check", "append_walking": "append", "ring open": "init",
                "cursor_from_ptr": "cursor_from_place", "cursor_from_ptr_and_prev": "cursor_from_place_and_prev", "ring cursor_at": "cursor_from_place",
                "cursor_from_ptr_and_next": "cursor_from_place_and_next", "from_ends": "from_words", "from_front": "from_words",
                "from_root": "from_words", "from_head": "from_words", "from_buckets": "from_words", "cursor: get_ptr": "cursor: get"},

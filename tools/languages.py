@@ -219,7 +219,9 @@ def rattle_names(family):
         for name, head in re.findall(r"^pub fn (\w+)(.*?)(?=^\{)", text[crate], re.M | re.S):
             if name not in shown:
                 continue
-            if bounds_of("K", head) and bounds_of("K", head) <= has or family == "tree" and "RBTree<" in head or family == "ring" and crate == "ic_ring":
+            if bounds_of("K", head) and bounds_of("K", head) <= has or family == "ring" and crate == "ic_ring":
+                calls.append(name)
+            elif family == "tree" and "RBTree<" in head or family == "hash" and "HashTable<" in head:
                 calls.append(name)
     return list(dict.fromkeys(calls)), list(dict.fromkeys(moves))
 

@@ -247,6 +247,15 @@ extern "C" {
         at: u32,
         found: *mut u32,
     ) -> u32;
+    pub fn ic_hash_check(
+        table: *const ic_link1,
+        places: usize,
+        hashes: *const u64,
+        hash_count: usize,
+        buckets: *const ic_stack,
+        bucket_count: usize,
+        members: *mut u64,
+    ) -> u32;
     pub fn ic_xor_push_front(table: *mut ic_link1, places: usize, list: *mut ic_xor_list, place: u32) -> u32;
     pub fn ic_xor_push_back(table: *mut ic_link1, places: usize, list: *mut ic_xor_list, place: u32) -> u32;
     pub fn ic_xor_pop_front(table: *mut ic_link1, places: usize, list: *mut ic_xor_list, popped: *mut u32) -> u32;

@@ -507,6 +507,11 @@ export class HashTable extends Calls {
   nextEqual(at) {
     return this.member(this.calls.ic_hash_next_equal(this.table, this.places, this.keysAt, this.keyCount, placeNumber(at, "at"), this.out));
   }
+  check(hashes) {
+    return this.counted(this.calls.ic_hash_check(
+      this.table, this.places, ...keyParts(hashes, this.links), this.bucketsAt, this.bucketCount, this.out,
+    ));
+  }
   // to here
 }
 

@@ -2,26 +2,26 @@
  *
  *     damages [DAMAGES [SEED]]
  *
- * Random calls make two lists or trees of a table, and the check of each has to accept what they made, and count its members. Then one word
- * of a member, or of the list or tree, is overwritten, and the check has to say whether the words show a sequence still. What they show is read
- * here from the definition alone: over the numbers and marks that the header speaks of, with a note of each place that has been met. There are
+ * Random calls make two lists, trees or hash tables of a table, and the check of each has to accept what they made, and count its members. Then
+ * one word of a member, or of the list, tree or bucket, or a hash is overwritten, and the check has to say whether the words show a sequence
+ * still. What they show is read here from the definition alone: over the numbers and marks that the header speaks of, with a note of each place that has been met. There are
  * 10,000 damages of each kind, or more, that leave no sequence. Prints for each check how often it accepted what calls made, how many damages
  * left a sequence, and how many left none.
  */
 #include "common.h"
 #include <string.h>
 
-enum kind { LIST, STACK, TREE, KINDS };
-enum { PLACES = 20, AT_LEAST = 10000, NO_PLACE = -1, OUTSIDE = -2 };
+enum kind { LIST, STACK, TREE, HASH, KINDS };
+enum { PLACES = 20, BUCKETS = 5, AT_LEAST = 10000, NO_PLACE = -1, OUTSIDE = -2 };
 
-static const char *const names[KINDS] = {"ic_list_check", "ic_stack_check", "ic_tree_check"};
+static const char *const names[KINDS] = {"ic_list_check", "ic_stack_check", "ic_tree_check", "ic_hash_check"};
 static struct ic_link2 doubly[PLACES];
-static struct ic_link1 singly[PLACES];
+static struct ic_link1 singly[PLACES]; /* of a singly linked list, and of a hash table */
 static struct ic_link3 nodes[PLACES];
 static struct ic_list lists[2];
-static struct ic_stack stacks[2];
+static struct ic_stack stacks[2], buckets[2][BUCKETS];
 static struct ic_tree trees[2];
-static uint64_t keys[PLACES], accepted[KINDS], left_one[KINDS], left_none[KINDS];
+static uint64_t keys[PLACES], hashes[PLACES], accepted[KINDS], left_one[KINDS], left_none[KINDS];
 static int owner[PLACES]; /* 0 or 1: in which it is; else 2 */
 
 static void stop(enum kind kind, const char *wrong) {
@@ -59,6 +59,18 @@ static int count_stack(const struct ic_stack *list) {
     return count;
 }
 
+/* Each member has a hash that leads to its bucket, and is met in that one alone. */
+static int count_hash(const struct ic_stack *of) {
+    int is_met[PLACES] = {0}, count = 0;
+    for (int i = 0; i < BUCKETS; i++)
+        for (int at = named(of[i].head); at != NO_PLACE; at = named(singly[at].next)) {
+            if (at == OUTSIDE || is_met[at]++ || !(singly[at].next & 1) || hashes[at] % BUCKETS != (uint64_t)i)
+                return -1;
+            count++;
+        }
+    return count;
+}
+
 /* How many black members are on each way down from a word, or -1 where that is no tree: with a child whose parent is another, a red member under
  * a red one, or more black ones on one side. The root has no parent and is black. */
 static int blacks_under(uint64_t word, int parent, int is_under_red, int *is_met, int *count) {
@@ -81,7 +93,12 @@ static int count_tree(const struct ic_tree *tree) {
 }
 
 static int count_shown(enum kind kind, int which) {
-    return kind == LIST ? count_list(&lists[which]) : kind == STACK ? count_stack(&stacks[which]) : count_tree(&trees[which]);
+    switch (kind) {
+    case LIST: return count_list(&lists[which]);
+    case STACK: return count_stack(&stacks[which]);
+    case HASH: return count_hash(buckets[which]);
+    default: return count_tree(&trees[which]);
+    }
 }
 
 /* ---- What calls make -------------------------------------------------------------------------------------------------------------- */
@@ -107,7 +124,9 @@ static uint32_t unlink_some(enum kind kind, int which) {
         return ic_stack_pop_front(singly, PLACES, &stacks[which], &place) == IC_OK ? place : IC_NONE;
     if (owner[place] != which)
         return IC_NONE;
-    status = kind == LIST ? ic_list_remove(doubly, PLACES, &lists[which], place) : ic_tree_remove(nodes, PLACES, &trees[which], place);
+    status = kind == LIST ? ic_list_remove(doubly, PLACES, &lists[which], place)
+             : kind == HASH ? ic_hash_remove(singly, PLACES, buckets[which], BUCKETS, hashes[place], place)
+                            : ic_tree_remove(nodes, PLACES, &trees[which], place);
     return status == IC_OK ? place : IC_NONE;
 }
 
@@ -123,8 +142,10 @@ static void edit(enum kind kind, int which) {
     if (owner[place] != 2)
         return;
     keys[place] = below(PLACES);
+    hashes[place] = any();
     status = kind == LIST ? link_list(which, place)
              : kind == STACK ? link_stack(which, place)
+             : kind == HASH ? ic_hash_insert(singly, PLACES, buckets[which], BUCKETS, hashes[place], place)
                              : ic_tree_insert(nodes, PLACES, keys, PLACES, &trees[which], place);
     if (status != IC_OK)
         stop(kind, "is tried after an edit that is refused");
@@ -138,6 +159,7 @@ static void expect_check(enum kind kind, int which, int count) {
     uint64_t members = UINT64_MAX;
     uint32_t status = kind == LIST ? ic_list_check(doubly, PLACES, &lists[which], &members)
                       : kind == STACK ? ic_stack_check(singly, PLACES, &stacks[which], &members)
+                      : kind == HASH ? ic_hash_check(singly, PLACES, hashes, PLACES, buckets[which], BUCKETS, &members)
                                       : ic_tree_check(nodes, PLACES, &trees[which], &members);
     if (count < 0 ? status != IC_BROKEN || members != UINT64_MAX : status != IC_OK || members != (uint64_t)count)
         stop(kind, count < 0 ? "accepts words that show no sequence" : "refuses words that show a sequence, or counts others");
@@ -153,13 +175,15 @@ static uint64_t overwritten(uint64_t word) {
     }
 }
 
-/* A word of a member, or of the list or tree itself. */
+/* A word of a member, or of the list, tree or bucket itself, or a hash. */
 static uint64_t *some_word(enum kind kind, int which, uint32_t place) {
     int of_itself = owner[place] != which || below(8) == 0;
     if (kind == LIST)
         return of_itself ? below(2) ? &lists[which].head : &lists[which].tail : below(2) ? &doubly[place].next : &doubly[place].prev;
     if (kind == STACK)
         return of_itself ? &stacks[which].head : &singly[place].next;
+    if (kind == HASH)
+        return of_itself ? &buckets[which][below(BUCKETS)].head : below(4) ? &singly[place].next : &hashes[place];
     uint64_t *const of_node[] = {&nodes[place].left, &nodes[place].right, &nodes[place].parent};
     return of_itself ? &trees[which].root : of_node[below(3)];
 }
@@ -200,6 +224,7 @@ int main(int count, char **words) {
         memset(nodes, 0, sizeof nodes);
         memset(lists, 0, sizeof lists);
         memset(stacks, 0, sizeof stacks);
+        memset(buckets, 0, sizeof buckets);
         memset(trees, 0, sizeof trees);
         for (int place = 0; place < PLACES; place++)
             owner[place] = 2;

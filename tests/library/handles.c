@@ -113,12 +113,15 @@ static void loops(void) {
 }
 
 static void reads(void) {
+    const struct ic_keys hashes = {IC_TABLE(numbers)}, few = {numbers, PLACES - 1};
     uint32_t found = IC_NONE;
+    uint64_t members = 0;
     EXPECT(ic_list_in_first(list) == 0 && ic_list_in_last(list) == 4 && ic_list_in_next(list, 1) == 2 && ic_list_in_prev(list, 1) == 0);
     EXPECT(ic_list_in_is_first(list, 0) && ic_list_in_is_last(list, 4) && !ic_list_in_is_singular(list) && !ic_list_in_is_empty(list));
     EXPECT(ic_ring_in_front(ring, HEAD) == 0 && ic_ring_in_back(ring, HEAD) == 4 && ic_ring_in_is_linked(ring, HEAD));
     EXPECT(ic_stack_in_front(stack) == 0 && ic_stack_in_is_last(stack, 4) && ic_xor_in_step(xor_in, 0, 1) == 2);
     EXPECT(ic_hash_in_find(hash, 2, 2, &found) == IC_OK && found == 1 && ic_hash_in_first(hash, 1) != IC_NONE);
+    EXPECT(ic_hash_in_check(hash, hashes, &members) == IC_OK && members == 5 && ic_hash_in_check(hash, few, &members) == IC_OUT_OF_RANGE);
     EXPECT(ic_tree_in_find(tree, 4, &found) == IC_OK && found == 2 && ic_tree_in_first(tree, &found) == IC_OK && found == 0);
     EXPECT(ic_tree_in_left(tree, ic_tree_in_root(tree)) == ic_tree_left(nodes, PLACES, ic_tree_root(&a_tree)));
 }

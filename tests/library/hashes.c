@@ -6,7 +6,7 @@
  * sequences, and the reads of the header have to walk them. One of some calls has a fault, and must be refused for it; in some a chain leads
  * to no end. Prints for each call how often it returned each status.
  */
-#define CALLS(X) X(hash_insert) X(hash_remove) X(hash_find) X(hash_next_equal)
+#define CALLS(X) X(hash_insert) X(hash_remove) X(hash_find) X(hash_next_equal) X(hash_check)
 
 enum { PLACES = 24, BUCKETS = 6, BESIDE = BUCKETS, NOBODY, KEYS = 7, MORE_KEYS = 3, UNSET = 123456789 };
 
@@ -169,6 +169,45 @@ static void step_next_equal(void) {
     check(IC_NONE);
 }
 
+/* The hash of each place, by which its member belongs in a bucket. */
+static void hash_all(uint64_t *hashes) {
+    for (int place = 0; place < PLACES + MORE_KEYS; place++)
+        hashes[place] = hash_of(keys[place]);
+}
+
+/* Now and then one place has another hash. If it is a member, it may be in the wrong bucket then. */
+static void step_check(void) {
+    uint64_t hashes[PLACES + MORE_KEYS], members = UNSET, wanted = 0;
+    uint32_t other = below(PLACES);
+    hash_all(hashes);
+    if (below(4) == 0) {
+        hashes[other] = any();
+        fault(owner[other] < BESIDE && hashes[other] % bucket_count != (uint64_t)owner[other], IC_BROKEN);
+    }
+    for (size_t i = 0; i < bucket_count; i++)
+        wanted += chains[i].count;
+    size_t hash_count = some_keys(), count = some_buckets();
+    if (!made(ic_hash_check(table, PLACES, hashes, hash_count, buckets, count, &members)))
+        wanted = UNSET;
+    expect(members == wanted, "counts other members");
+    check(IC_NONE);
+}
+
+/* A bucket that begins with a member of another one is refused. */
+static void step_shared(void) {
+    uint32_t which = below((uint32_t)bucket_count), place = below(PLACES);
+    uint64_t was = buckets[which].head, hashes[PLACES + MORE_KEYS], members = UNSET;
+    if (owner[place] == (int)which || owner[place] >= BESIDE)
+        return;
+    hash_all(hashes);
+    buckets[which].head = ic_word(place);
+    now = CALL_hash_check;
+    faults = 1u << IC_BROKEN;
+    made(ic_hash_check(table, PLACES, hashes, PLACES, buckets, bucket_count, &members));
+    expect(members == UNSET, "has counted, and refused");
+    buckets[which].head = was;
+}
+
 /* A chain whose last member leads to its first, or a place that is not linked: each walk is refused, and changes nothing. */
 static void step_endless(void) {
     uint32_t which = below((uint32_t)bucket_count), found = UNSET, other = below(PLACES);
@@ -179,6 +218,7 @@ static void step_endless(void) {
     if (owner[to] != (int)which && owner[to] != NOBODY)
         return;
     uint64_t was = table[last].next, hash = which; /* which is the remainder of itself */
+    uint64_t hashes[PLACES + MORE_KEYS], members = UNSET;
     struct ic_link1 spoiled[PLACES];
     table[last].next = ic_word(to) + 1;
     memcpy(spoiled, table, sizeof table);
@@ -190,7 +230,11 @@ static void step_endless(void) {
         faults = owner[other] == NOBODY ? 1u << IC_NOT_LINKED : 1u << IC_BROKEN;
         made(ic_hash_remove(table, PLACES, buckets, bucket_count, hash, other));
     }
-    expect(found == UNSET && !memcmp(spoiled, table, sizeof table), "has changed something, and refused");
+    hash_all(hashes);
+    now = CALL_hash_check;
+    faults = 1u << IC_BROKEN;
+    made(ic_hash_check(table, PLACES, hashes, PLACES, buckets, bucket_count, &members));
+    expect(found == UNSET && members == UNSET && !memcmp(spoiled, table, sizeof table), "has changed something, and refused");
     table[last].next = was;
 }
 
@@ -243,12 +287,14 @@ int main(int count, char **words) {
         case 0: step_rebuild(); break;
         case 1: step_beside(); break;
         case 2: step_endless(); break;
+        case 3: step_shared(); break;
         default:
             switch (now) {
             case CALL_hash_insert: step_insert(); break;
             case CALL_hash_remove: step_remove(); break;
             case CALL_hash_find: step_find(); break;
-            default: step_next_equal();
+            case CALL_hash_next_equal: step_next_equal(); break;
+            default: step_check();
             }
         }
     }

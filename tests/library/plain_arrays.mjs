@@ -204,6 +204,7 @@ function singly(ic, turns) {
 /** A hash table beside an array for each chain. The hash of a key is seven times the key. */
 function hashed(ic, turns) {
   const keys = ic.keys(PLACES), links = ic.links1(PLACES), key = (place) => Number(keys.word(place)), hash = (key) => 7 * key;
+  const hashes = ic.keys(PLACES);
   const made = new HashTable(links, 4, keys), chains = [[], [], [], []], plain = [];
   function edit(result) {
     plain.splice(0, plain.length, ...chains.flat());
@@ -220,7 +221,11 @@ function hashed(ic, turns) {
       assert(plain.every((place) => [...more.chain(hash(key(place)))].includes(place)) && ![...made].length);
       for (const place of back) (more.remove(hash(key(place)), place), made.insert(hash(key(place)), place));
     }
+    // Now and then a place has another hash, by which a member is in the wrong chain.
+    const wrong = random(2) ? of : PLACES;
+    for (let at = 0; at < PLACES; at++) hashes.words[at] = BigInt(hash(key(at)) + Number(at === wrong));
     return [
+      ["check", [hashes], () => (plain.includes(wrong) ? REFUSED : plain.length)],
       ["insert", [there, place], () => (plain.includes(place) ? REFUSED : edit(insert(chains[there % 4], [], 0, place)))],
       ["remove", [here, of], () => edit(remove(chain, chain.indexOf(of)))],
       ["remove", [here + 1, of], () => REFUSED],
@@ -322,6 +327,7 @@ function refusals(ic) {
   refused(OUT_OF_RANGE, () => list.sort(ic.keys(4)));
   refused(OUT_OF_RANGE, () => new HashTable(ic.links1(5), 0).insert(0, 0));
   refused(OUT_OF_RANGE, () => new HashTable(ic.links1(5), 1).find(0, 0));
+  refused(OUT_OF_RANGE, () => new HashTable(ic.links1(5), 1).check(ic.keys(4)));
 }
 
 for (const module of modules) {

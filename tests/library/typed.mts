@@ -34,6 +34,7 @@ const table = new HashTable(ic.links1(4), 16, keys);
 table.insert(50n, 3);
 const found: Gap = table.find(50, 50n);
 const chain: Stack = table.chain(50);
+const counted: number = table.check(keys);
 const gone: number = list.removeIf((place) => place % 2 === 0) + table.removeIf((place: number) => place === 3);
 const sum: number = ic.scope(() => new List(ic.links2(3)).check());
 rest.free();

@@ -537,6 +537,21 @@ struct chains {
         expect(all == gathered, "a hash table has other members");
         const ic::const_hash_view reads(table, buckets);
         expect(std::equal(reads.begin(), reads.end(), all.begin(), all.end()) && reads.empty() == all.empty(), "a loop over a hash table has other members");
+        check_hashes(reads, all);
+    }
+
+    /// The check counts the members by their hashes, and refuses a member with another hash.
+    void check_hashes(const ic::const_hash_view &reads, const std::vector<std::uint32_t> &all) {
+        std::vector<std::uint64_t> hashes;
+        for (const std::uint64_t key : keys)
+            hashes.push_back(key * 7);
+        expect(reads.check(hashes) == all.size(), "a check counts other members of a hash table");
+        if (!all.empty()) {
+            hashes[all.back()]++;
+            expect(reads.check(hashes) == std::nullopt, "a check accepts a member in the wrong bucket");
+        }
+        hashes.pop_back();
+        expect(reads.check(hashes) == std::nullopt, "a check accepts too few hashes");
     }
 };
 

@@ -1,4 +1,4 @@
-//! Checks: whether the words show a list or a tree, and of how many members.
+//! Checks: whether the words show a list, a tree or a hash table, and of how many members.
 //!
 //! ```text
 //! uint64_t members;
@@ -9,7 +9,7 @@
 ghost use Rattle.ic_raw.specs.Doubly as doubly;
 ghost use Rattle.ic_raw.specs.Singly as singly;
 ghost use Rattle.ic_raw.specs.Tree.{ShowsTree};
-ghost use Rattle.ic_raw.specs.CheckCalls.{CheckCall};
+ghost use Rattle.ic_raw.specs.CheckCalls.{CheckCall, HashCheckCall};
 
 use ic_raw::{RawEnds, RawFront, RawOne, RawRoot, RawThree, RawTwo, check_calls};
 
@@ -41,4 +41,21 @@ pub extern "C" fn ic_tree_check(table: &mut [RawThree], tree: &RawRoot, members:
     ensures { CheckCall table.old table.new result (ShowsTree table.old tree.now) members.old members.new }
 {
     check_calls::check_tree(table, tree, members)
+}
+
+/// Hands out how many members the words show for a hash table, or returns [`BROKEN`](crate::BROKEN) where they show none: where a chain has no
+/// end, or a member is in another bucket than that where its hash leads. O(b + n) for b buckets and n places.
+///
+/// It writes nothing else. There has to be a hash for each place of the table, and a bucket. Where it returns [`OK`](crate::OK), no place is in
+/// two chains, and each call does what it says of a chain that is shown.
+#[unsafe(no_mangle)]
+pub extern "C" fn ic_hash_check(
+    table: &mut [RawOne],
+    hashes: &[u64],
+    buckets: &[RawFront],
+    members: &mut u64,
+) -> u32
+    ensures { HashCheckCall hashes.now table.old table.new result members.old members.new buckets.now }
+{
+    check_calls::check_hash(table, hashes, buckets, members)
 }

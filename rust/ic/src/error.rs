@@ -71,7 +71,7 @@ pub(crate) fn handed_out(call: impl FnOnce(&mut u32) -> u32) -> Result<Option<u3
     }
 }
 
-/// How many members a check has counted, or `None` if the words show no list or tree.
+/// How many members a check has counted, or `None` if the words show no list, tree or hash table.
 #[inline]
 pub(crate) fn counted(call: impl FnOnce(&mut u64) -> u32) -> Option<u64> {
     let mut members = 0;

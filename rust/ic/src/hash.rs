@@ -32,10 +32,31 @@
 //! # Ok::<(), Error>(())
 //! ```
 //!
+//! Words that come from a file may be any, and [`check`] says whether they are a hash table by the hash of each place. So each member is in the
+//! bucket where a search looks for it:
+//!
+//! ```
+//! use ic::{hash, Error, Link1, Stack};
+//!
+//! let hashes = [10, 11, 12, 13];
+//! let mut links = [Link1::UNLINKED; 4];
+//! let mut buckets = [const { Stack::new() }; 2];
+//! for place in [0, 1, 3] {
+//!     hash::insert(&mut links, &mut buckets, hashes[place as usize], place)?;
+//! }
+//! let (table, heads) = (links.map(|link| link.words()), buckets.each_ref().map(Stack::words));
+//!
+//! let mut again = heads.map(Stack::from_words);
+//! assert_eq!(hash::check(&table.map(Link1::from_words), &hashes, &again), Some(3));
+//! again.swap(0, 1);
+//! assert_eq!(hash::check(&table.map(Link1::from_words), &hashes, &again), None);
+//! # Ok::<(), Error>(())
+//! ```
+//!
 //! Each call of [`Stack`] takes a bucket, too: [`Stack::clear`] empties one, and by [`Stack::pop_front`] and [`insert`] all members move to a
 //! larger array of buckets. A place is in one chain or list of a table.
 
-use crate::error::{done, handed_out};
+use crate::error::{counted, done, handed_out};
 use crate::link::Link;
 use crate::{Error, Link1, Stack};
 use ic_sys::*;
@@ -104,5 +125,20 @@ pub fn next_equal(table: &[Link1], keys: &[u64], at: u32) -> Result<Option<u32>,
     let (links, places) = Link1::read_parts(table);
     // SAFETY: each pointer comes from a reference, with the length of its slice, and no mutable reference overlaps another one.
     handed_out(|it| unsafe { ic_hash_next_equal(links, places, keys.as_ptr(), keys.len(), at, it) })
+}
+
+/// Counts the members of all chains, and returns how many there are, in O(buckets + n). Call it if the words come from a file, or from
+/// memory that others write. `hashes` has the hash of each place. If it returns a number, each member is in the chain of its hash and in no
+/// other one, and each call does what it says of a hash table that the table holds. It returns `None` if there are fewer hashes than
+/// places, or there is no bucket, or the links lead from a bucket to no end within the table, or to a member that belongs in another bucket
+/// by its hash.
+#[inline]
+#[must_use]
+pub fn check(table: &[Link1], hashes: &[u64], buckets: &[Stack]) -> Option<u64> {
+    let (links, places) = Link1::read_parts(table);
+    // SAFETY: each pointer comes from a reference, with the length of its slice, and no mutable reference overlaps another one.
+    counted(|members| unsafe {
+        ic_hash_check(links, places, hashes.as_ptr(), hashes.len(), buckets.as_ptr().cast(), buckets.len(), members)
+    })
 }
 // to here
