@@ -8,12 +8,13 @@ use Rattle.ic_link_ops.specs.Sequences.{Cut, join, insert, IsAbsent}
 use Rattle.ic_link_ops.specs.Tables.{Table}
 use Rattle.ic_link_ops.specs.Times.{one_at, times, times_in}
 use Rattle.ic_link_ops.specs.Trees.{Tree, leaf, fork, in_order}
-use Rattle.ic_link_ops.proofs.SequenceLemmas.{none_not, some_same, absent_left, absent_right, absent_both}
+use Rattle.ic_link_ops.proofs.SequenceLemmas.{none_not, some_same, absent_left, absent_right, absent_both, absent_with}
 use Rattle.ic_link_ops.proofs.Times.{absent_times, one_at_self, one_at_other, times_order}
+use Rattle.ic_rbtree.specs.Closed.{IsIn}
 use Rattle.ic_rbtree.proofs.ShownClosed.{is_it, among}
 use Rattle.ic_augmented.specs.Sums.{Sums, is_fresh, IsSummed}
 use Rattle.ic_augmented.specs.Consistent.{ShowsSummed}
-use Rattle.ic_augmented.specs.Beside.{IsWrittenWithin, IsWrittenIn}
+use Rattle.ic_augmented.specs.Beside.{IsWrittenWithin, IsWrittenIn, IsEdgeOf}
 use Rattle.ic_augmented.proofs.ConsistencyLemmas.{where_is}
 
 more_or : (b a : Bool) (k : ℕ) → (a ≡ true → 1 ≤ k) → b || a ≡ true → 1 ≤ cond b 1 0 + k
@@ -41,6 +42,14 @@ pub absent_insert : (q p : Place) (gap : Cut) (s : List Place) → s ≡ join ga
 absent_insert q p gap s e out =
     let k : IsAbsent q (join gap) = subst (IsAbsent q) e out.1 in
     absent_both q gap.front (p ∷ gap.back) (absent_left q gap.front gap.back k) (out.0, absent_right q gap.front gap.back k)
+
+-- an edge among the members is the one at p, or one of the others
+pub edge_of : (edge : Option Place) (front : List Place) (p : Place) (back : List Place) → IsIn (λ q. among q (front ++ p ∷ back)) edge → IsEdgeOf edge p (front ++ back)
+edge_of None front p back i q e other out = absurd (none_not q e)
+edge_of (Some x) front p back i q e other out =
+    let there : among q (front ++ p ∷ back) ≡ true = subst (λ (y : Place). among y (front ++ p ∷ back) ≡ true) (some_same e) i in
+    let never : true ≡ false = sym there ∙ absent_out q (front ++ p ∷ back) (absent_with front back p q other out) in
+    cc
 
 module _ {S : Type 0} where
   -- WRITTEN WITHIN, in both words

@@ -6,7 +6,7 @@ use Rattle.ic_link_ops.specs.declared.side.Side.{Side}
 use Rattle.ic_link_ops.specs.declared.side.Side.TheVariants.{Left, Right}
 use Rattle.ic_link_ops.specs.Frames.{Frame, frame, plug, put_in, above, IsAround}
 use Rattle.ic_link_ops.specs.RedBlackTree.{Node, IsTree, Shows}
-use Rattle.ic_link_ops.specs.Sequences.{IsAbsent, IsDisjoint}
+use Rattle.ic_link_ops.specs.Sequences.{IsAbsent, IsDisjoint, IsMember}
 use Rattle.ic_link_ops.specs.Tables.{Table}
 use Rattle.ic_link_ops.specs.Times.{one_at, times, times_in, times_around}
 use Rattle.ic_link_ops.specs.Trees.{Tree, leaf, fork, top, in_order}
@@ -17,10 +17,10 @@ use Rattle.ic_augmented.specs.Sums.{Sums, is_fresh, seen, IsSummed, Writes}
 use Rattle.ic_augmented.specs.Consistent.{IsUnder, IsJoined, IsSameAt, IsConsistentTree, IsConsistentBelow, IsConsistentBut, IsConsistent, Refreshes}
 use Rattle.ic_augmented.specs.Changes.{IsAmong, Rejoins, seen_upper, join_on, IsJoinedOn, IsConsistentAbove, IsEdgeAbove, IsEdgeAt, RenewsAt, PassesOn, ClimbsTo}
 use Rattle.ic_augmented.specs.Subtrees.{IsSubtree}
-use Rattle.ic_augmented.proofs.ConsistencyLemmas.{times_top, apart_left, apart_right, seen_same, under_same, joined_same, consistent_kept, same_on, writes_same, summed_consistent_tree}
+use Rattle.ic_augmented.proofs.ConsistencyLemmas.{times_top, apart_left, apart_right, seen_same, under_same, joined_same, consistent_kept, same_on, tree_consistent, writes_same, summed_consistent_tree}
 use Rattle.ic_augmented.proofs.EditLemmas.{others_consistent}
 use Rattle.ic_augmented.proofs.PathLemmas.{OthersStay}
-use Rattle.ic_augmented.proofs.SubtreeLemmas.{lower, member_subtree, subtree_left, subtree_right, subtree_parent}
+use Rattle.ic_augmented.proofs.SubtreeLemmas.{lower, member_at, member_subtree, subtree_left, subtree_right, subtree_parent}
 
 top_put : (d : Side) (c : Color) (p : Place) (b t : Tree) → top (put_in (frame d c p b) t) ≡ Some p
 top_put Left c p b t = refl
@@ -368,6 +368,19 @@ module _ {E S : Type 0} (n : E → Node) (v : Table E) (z : Sums S) (s : List Pl
         inr (edge_above fs p k.around (λ q. omega (arith, m q, times_plug q fs (fork c a p b))) (omega (arith, once)) among),
       )
 
+  -- or of the edge itself
+  pub here_at_edge : (fs : List Frame) (c : Color) (a b : Tree) → IsSubtree n v fs (fork c a edge b) → ((q : Place) → times q (plug fs (fork c a edge b)) ≤ times_in q s)
+      → IsConsistentBelow z (fork c a edge b) × IsEdgeAt z edge edge fs
+  here_at_edge fs c a b k m =
+      let here = one_at_self edge in
+      let once : times edge (fork c a edge b) + times_around edge fs ≤ 1 = omega (arith, k.once edge, times_plug edge fs (fork c a edge b)) in (
+        (
+          right_tree (Some edge) a k.tree.1 (λ q. omega (arith, m q, times_plug q fs (fork c a edge b))) (omega (arith, once, here)),
+          right_tree (Some edge) b k.tree.2 (λ q. omega (arith, m q, times_plug q fs (fork c a edge b))) (omega (arith, once, here)),
+        ),
+        inl (refl, right_above fs edge k.around (λ q. omega (arith, m q, times_plug q fs (fork c a edge b))) (omega (arith, once, here))),
+      )
+
 module _ {E : Type 0} (n : E → Node) (v : Table E) where
   -- the edge is among the frames above a place below it
   pub among_here : (fs : List Frame) (t : Tree) (p up edge : Place) → IsSubtree n v fs t → top t ≡ Some p → (n (v.entry p)).parent ≡ Some up → up ≡ edge → IsAmong edge fs
@@ -405,3 +418,22 @@ module _ {E S : Type 0} (n : E → Node) (v : Table E) where
       let other_than : (q : Place) → 1 ≤ times_in q t → Some edge ≡ Some q → ⊥ =
       λ q m i. let here : 1 ≤ times q (plug x.fs u) = subst (λ (r : Place). 1 ≤ times r (plug x.fs u)) (some_same i) there in absurd (omega (arith, here, out q m)) in
       (others_consistent n v z y other t ej (λ q m. stays x.fs u x.subtree refl q (out q m)) (k, λ q m none. but q m (other_than q m))).1
+
+-- THE EDGE SETTLED from itself on, where it is a member
+module _ {E S : Type 0} (n : E → Node) (v : Table E) (z y : Sums S) (root : Option Place) (s : List Place) (edge : Place) (h : Shows n v root s) (member : IsMember edge s) where
+  pub settled_here : ClimbsTo n v z y edge edge → IsConsistentBut n v z s (Some edge) → IsConsistent n v y s
+  settled_here climbs k q m but x e =
+      let at = member_at n v root s edge h member in
+      let r = here_at_edge n v z s edge k at.fs at.c at.a at.b at.subtree (λ p. omega (arith, at.whole p)) in
+      let tree = climbs at.fs (fork at.c at.a edge at.b) at.subtree refl r.0 r.1 in
+      tree_consistent n v y None (plug at.fs (fork at.c at.a edge at.b)) tree at.entries q (omega (arith, m, at.whole q)) x e
+
+  -- what is kept at no member stays
+  pub kept_beside : OthersStay n v z y edge → (q : Place) → IsAbsent q s → IsSameAt z y q
+  kept_beside stays q out = let at = member_at n v root s edge h member in stays at.fs (fork at.c at.a edge at.b) at.subtree refl q (at.whole q ∙ absent_times q s out)
+
+  -- and each fresh summary of another tree is right
+  pub others_settled_here : (other : Option Place) (t : List Place) → y.join ≡ z.join → OthersStay n v z y edge → Shows n v other t → IsDisjoint s t → IsConsistentBut n v z t (Some edge) → IsConsistent n v y t
+  others_settled_here other t ej stays k apart but =
+      (others_consistent n v z y other t ej (λ q m. kept_beside stays q (member_out q s t apart m))
+      (k, λ q m none. but q m (λ i. member (subst (λ (p : Place). IsAbsent p s) (sym (some_same i)) (member_out q s t apart m))))).1

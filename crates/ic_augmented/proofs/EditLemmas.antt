@@ -14,7 +14,7 @@ use Rattle.ic_link_ops.specs.Times.{one_at, times, times_in}
 use Rattle.ic_link_ops.proofs.Times.{one_at_self, one_at_other, times_append, times_order, absent_times}
 use Rattle.ic_link_ops.proofs.SequenceLemmas.{disjoint_cons}
 use Rattle.ic_link_ops.proofs.ShownTrees.{holds_once, shows_beside, shows_frame, free_absent, one_sequence}
-use Rattle.ic_rbtree.specs.Closed.{AreIn, IsNode, IsClosed, IsClosedBut}
+use Rattle.ic_rbtree.specs.Closed.{IsIn, AreIn, IsNode, IsClosed, IsClosedBut}
 use Rattle.ic_rbtree.specs.Comparing.{compared, own_order}
 use Rattle.ic_rbtree.specs.Height.{height}
 use Rattle.ic_rbtree.specs.Insertion.{IsHole, Attaches}
@@ -26,7 +26,9 @@ use Rattle.ic_rbtree.proofs.Removing.{removes, loose_absent, shown_of, shows_of}
 use Rattle.ic_rbtree.proofs.Climbed.{path_few}
 use Rattle.ic_rbtree.proofs.ShownClosed.{among_there, with_itself, shown_closed, shown_closed_but, hole_in}
 use Rattle.ic_augmented.specs.Sums.{Sums, is_fresh, Invalidates}
-use Rattle.ic_augmented.specs.Consistent.{IsSameAt, IsConsistent, IsConsistentTree, KeepsConsistent, ShowsConsistent, ShowsSummed, Refreshes, IsJoined}
+use Rattle.ic_augmented.specs.Consistent.{IsSameAt, IsConsistentBut, IsConsistent, IsConsistentTree, KeepsConsistent, ShowsConsistent, ShowsSummed, Refreshes, IsJoined}
+use Rattle.ic_augmented.specs.Beside.{IsEdgeOf}
+use Rattle.ic_augmented.proofs.BesideLemmas.{edge_of}
 use Rattle.ic_augmented.proofs.FenceLemmas.{fence_of, fence_is, members_of, members_are}
 use Rattle.ic_augmented.proofs.ConsistencyLemmas.{not_stale, invalidated_same, times_top, summed_top, fresh_summed, consistent_tree, tree_consistent, consistent_kept, summed_consistent_tree}
 
@@ -85,6 +87,11 @@ module _ {E : Type 0} (n : E → Node) where
   unlink_closed v root front p back h =
       subst (λ (S : Place → Bool). IsClosed n v root S × (S p ≡ true)) (sym (members_are n h)) (shown_closed n (shown_of n h), among_there p front back)
 
+  -- an edge that stands in it is the one at p, or another member
+  pub unlinked_edge : (v : Table E) (root edge : Option Place) (front : List Place) (p : Place) (back : List Place) → Shows n v root (front ++ p ∷ back) → IsIn (members_of n v root) edge
+      → IsEdgeOf edge p (front ++ back)
+  unlinked_edge v root edge front p back h i = edge_of edge front p back (subst (λ (S : Place → Bool). IsIn S edge) (members_are n h) i)
+
   module _ (v w : Table E) (root new_root : Option Place) (front : List Place) (p : Place) (back : List Place) (taken : TakesAway n v w root new_root p) (h : Shows n v root (front ++ p ∷ back)) where
     pub unlinked_absent : IsAbsent p (front ++ back)
     unlinked_absent = loose_absent n (taken v front back [] (shown_of n h))
@@ -114,12 +121,13 @@ own_searched {V = V} {Shows = Shows} {old} {w} {head} {s} cmp key_of {before = b
     (subst (λ (o : V → Ordering). InsertsInOrder Shows (compared o after) old w head s place) own i))
 
 module _ {E S : Type 0} (n : E → Node) where
-  fewer_consistent : (v : Table E) (z : Sums S) (s t : List Place) → ((q : Place) → times_in q t ≤ times_in q s) → IsConsistent n v z s → IsConsistent n v z t
-  fewer_consistent v z s t k h q m but x e = h q (omega (arith, m, k q)) but x e
+  fewer_consistent : (v : Table E) (z : Sums S) (edge : Option Place) (s t : List Place) → ((q : Place) → times_in q t ≤ times_in q s) → IsConsistentBut n v z s edge → IsConsistentBut n v z t edge
+  fewer_consistent v z edge s t k h q m but x e = h q (omega (arith, m, k q)) but x e
 
   -- without a member it is so too
-  pub without_member : (v : Table E) (z : Sums S) (front : List Place) (p : Place) (back : List Place) → IsConsistent n v z (front ++ p ∷ back) → IsConsistent n v z (front ++ back)
-  without_member v z front p back h = fewer_consistent v z (front ++ p ∷ back) (front ++ back) (λ q. omega (arith, times_append q front back, times_append q front (p ∷ back))) h
+  pub without_member : (v : Table E) (z : Sums S) (edge : Option Place) (front : List Place) (p : Place) (back : List Place) → IsConsistentBut n v z (front ++ p ∷ back) edge
+      → IsConsistentBut n v z (front ++ back) edge
+  without_member v z edge front p back h = fewer_consistent v z edge (front ++ p ∷ back) (front ++ back) (λ q. omega (arith, times_append q front back, times_append q front (p ∷ back))) h
 
   stale_more : (v : Table E) (z : Sums S) (s : List Place) (p : Place) → z.fresh p ≡ None → IsConsistent n v z s → IsConsistent n v z (p ∷ s)
   stale_more v z s p none h q m but x e = h q (omega (arith, m, one_at_other q p (not_stale z p q x none e))) but x e
@@ -127,7 +135,7 @@ module _ {E S : Type 0} (n : E → Node) where
   -- with a stale place in it, each fresh summary is right
   pub stale_with : (v : Table E) (z y : Sums S) (p : Place) (gap : Cut) → y.fresh p ≡ None → KeepsConsistent n v v z y → IsConsistent n v z (join gap) → IsConsistent n v y (insert gap p)
   stale_with v z y p gap none invalidated h =
-      fewer_consistent v y (p ∷ join gap) (insert gap p) (λ q. omega (arith, times_append q gap.front gap.back, times_append q gap.front (p ∷ gap.back)))
+      fewer_consistent v y None (p ∷ join gap) (insert gap p) (λ q. omega (arith, times_append q gap.front gap.back, times_append q gap.front (p ∷ gap.back)))
       (stale_more v y (join gap) p none (invalidated.consistent (join gap) h))
 
   -- the shown tree is consistent

@@ -6,12 +6,14 @@ use Rattle.ic_link_ops.specs.declared.color.Color.{Color}
 use Rattle.ic_link_ops.specs.declared.side.Side.TheVariants.{Left, Right}
 use Rattle.ic_link_ops.specs.Frames.{Frame, frame, plug, above, before, after, IsAround}
 use Rattle.ic_link_ops.specs.RedBlackTree.{Node, IsTree, Shows}
+use Rattle.ic_link_ops.specs.Sequences.{IsMember}
 use Rattle.ic_link_ops.specs.Tables.{Table}
-use Rattle.ic_link_ops.specs.Times.{times}
+use Rattle.ic_link_ops.specs.Times.{times, times_in}
 use Rattle.ic_link_ops.specs.Trees.{Tree, leaf, fork, top, in_order}
 use Rattle.ic_link_ops.proofs.Frames.{focus}
-use Rattle.ic_link_ops.proofs.SequenceLemmas.{none_not, some_same}
+use Rattle.ic_link_ops.proofs.SequenceLemmas.{none_not, some_same, member_split}
 use Rattle.ic_link_ops.proofs.ShownTrees.{holds_once}
+use Rattle.ic_link_ops.proofs.Times.{times_order}
 use Rattle.ic_link_ops.proofs.Walks.{few_places}
 use Rattle.ic_rbtree.specs.Closed.{IsNode}
 use Rattle.ic_rbtree.specs.Height.{height}
@@ -58,6 +60,15 @@ module _ {E : Type 0} (n : E → Node) where
     pub back_is : in_order b ++ after fs ≡ back
     pub low : length fs ≤ 66
 
+  pub record MemberAt (v : Table E) (s : List Place) (p : Place) : Type 0 where
+    pub fs : List Frame
+    pub c : Color
+    pub a : Tree
+    pub b : Tree
+    pub subtree : IsSubtree n v fs (fork c a p b)
+    pub entries : IsTree n v.entry None (plug fs (fork c a p b))
+    pub whole : (q : Place) → times q (plug fs (fork c a p b)) ≡ times_in q s
+
   module _ (v : Table E) where
     pub member_subtree : (root : Option Place) (front : List Place) (p : Place) (back : List Place) (h : Shows n v root (front ++ p ∷ back)) → MemberSubtree v h.tree front p back
     member_subtree root front p back h =
@@ -80,6 +91,22 @@ module _ {E : Type 0} (n : E → Node) where
           front_is = f.5;
           back_is = f.6 ∙ append-nil back;
           low = path_few n h f.0 t (length f.0) f.4 (omega arith);
+        }
+
+    -- the subtree at a member, of the tree that stands around it
+    pub member_at : (root : Option Place) (s : List Place) (p : Place) → Shows n v root s → IsMember p s → MemberAt v s p
+    member_at root s p h m =
+        let cut = member_split p s m in
+        let k : Shows n v root (cut.0 ++ p ∷ cut.1) = subst (Shows n v root) cut.2 h in
+        let x = member_subtree root cut.0 p cut.1 k in
+        record {
+          fs = x.fs;
+          c = x.c;
+          a = x.a;
+          b = x.b;
+          subtree = x.subtree;
+          entries = subst (λ (t : Tree). IsTree n v.entry None t) (sym x.same) k.held.entries;
+          whole = λ q. ap (times q) x.same ∙ (sym (times_order q k.tree) ∙ (ap (times_in q) k.held.order ∙ ap (times_in q) (sym cut.2)));
         }
 
     -- its root is linked, and has this parent

@@ -1,6 +1,7 @@
 -- What no climb from a tree reaches: the summaries that stand beside it.
-use Rattle.std.specs.Prelude.{◌≡◌, ◌≤◌, Bool, true, false, Option, Some, List}
+use Rattle.std.specs.Prelude.{◌≡◌, ◌≢◌, ◌≤◌, Bool, true, false, Option, Some, List}
 use Rattle.ic_unsafe_ref.specs.declared.place.Place.{Place}
+use Rattle.ic_link_ops.specs.Sequences.{IsMember}
 use Rattle.ic_link_ops.specs.Times.{times_in}
 use Rattle.ic_rbtree.specs.Closed.{IsIn}
 use Rattle.ic_augmented.specs.Sums.{Sums, is_fresh}
@@ -19,6 +20,10 @@ module _ {S : Type 0} where
   abbrev pub IsSameBeside : Sums S → Sums S → (Place → Bool) → Type 0
   IsSameBeside z w inside = (q : Place) → inside q ≡ false → IsSameAt z w q
 
-  -- from an edge in the set, whose summaries were written within it, to another one there, all outside is the same
+  -- an edge in the set moves to another one there. Where the summaries of the set were written within it, all outside is the same
   abbrev pub StaysInside : Sums S → Sums S → Option Place → Option Place → (Place → Bool) → Type 0
-  StaysInside z w was is inside = IsWrittenIn z inside → IsIn inside was → IsIn inside is × IsSameBeside z w inside
+  StaysInside z w was is inside = IsIn inside was → IsIn inside is × (IsWrittenIn z inside → IsSameBeside z w inside)
+
+-- an edge is p, or a member of s, or none
+abbrev pub IsEdgeOf : Option Place → Place → List Place → Type 0
+IsEdgeOf edge p s = (q : Place) → edge ≡ Some q → q ≢ p → IsMember q s

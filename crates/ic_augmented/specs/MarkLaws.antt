@@ -25,10 +25,13 @@ module _ {S : Type 0} where
 
   -- such edits inside a set are so together
   pub inside_still : (z : Sums S) (o : Option Place) (inside : Place → Bool) → StaysInside z z o o inside
-  inside_still z o inside k i = (i, λ q out. record { fresh = refl; upper = refl })
+  inside_still z o inside i = (i, λ k q out. record { fresh = refl; upper = refl })
 
   pub inside_on : {x y z : Sums S} (a b c : Option Place) (inside : Place → Bool) → MarksAlone x y → StaysInside x y a b inside → StaysInside y z b c inside → StaysInside x z a c inside
-  inside_on {x} {y} {z} a b c inside marks h k written i =
-      let first = h written i in
-      let next = k (written_still x y marks inside written) first.0 in
-      (next.0, λ q out. record { fresh = (next.1 q out).fresh ∙ (first.1 q out).fresh; upper = (next.1 q out).upper ∙ (first.1 q out).upper })
+  inside_on {x} {y} {z} a b c inside marks h k i =
+      let first = h i in
+      let next = k first.0 in (
+        next.0,
+        λ written q out. let still = written_still x y marks inside written in
+            record { fresh = (next.1 still q out).fresh ∙ (first.1 written q out).fresh; upper = (next.1 still q out).upper ∙ (first.1 written q out).upper },
+      )

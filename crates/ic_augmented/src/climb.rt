@@ -2,6 +2,7 @@
 //!
 //! ```text
 //! settle(&links, &mut sums, place, edge); // up to the edge, and on while summaries change
+//! settle_without(&links, &mut sums, place, edge); // from the edge on, where the place was taken out
 //! ```
 
 ghost use Rattle.std.specs.Prelude.{◌≡◌, Bool, false, Option, Some, None, List, ◌∷◌, ◌++◌, IsTrue, IfSome, IfNone};
@@ -14,7 +15,7 @@ ghost use Rattle.ic_link_ops.specs.Tables.{Table};
 ghost use Rattle.ic_link_ops.specs.Trees.{Tree, top};
 ghost use Rattle.ic_link_ops.specs.Times.{times};
 ghost use Rattle.ic_rbtree.specs.Closed.{IsIn, IsNode};
-ghost use Rattle.ic_augmented.specs.Beside.{IsWrittenIn};
+ghost use Rattle.ic_augmented.specs.Beside.{IsWrittenIn, IsEdgeOf};
 ghost use Rattle.ic_augmented.specs.Changes.{IsAmong, RenewsAt, PassesOn, ClimbsTo};
 ghost use Rattle.ic_augmented.specs.Consistent.{IsSameAt, IsConsistent, IsConsistentBut, IsConsistentTree, IsConsistentBelow, Refreshes};
 ghost use Rattle.ic_augmented.specs.Subtrees.{IsSubtree};
@@ -193,4 +194,35 @@ pub(crate) fn settle<N: Nodes, M: RenewSums>(
         return;
     }
     climb(links, sums, place, edge);
+}
+
+// Renews what the removal of the place has left stale below the edge, and what changes above. If the edge is the place itself, the summaries
+// above it are made stale.
+pub(crate) fn settle_without<N: Nodes, M: RenewSums>(
+    links: &N,
+    sums: &mut M,
+    place: Place,
+    edge: Option<Place>,
+)
+    requires member { (root : Option Place) × (s : List Place) × Shows N.node (N.table links.now) root s × IsEdgeOf edge place s }
+    requires covered { (q : Place) → IsNode N.node (N.table links.now) q → M.Covers sums.old q }
+    ensures covers { (q : Place) → M.Covers sums.old q → M.Covers sums.new q }
+    ensures join { (M.sums sums.new).join ≡ (M.sums sums.old).join }
+    ensures consistent { (root : Option Place) (s : List Place) → Shows N.node (N.table links.now) root s → IsEdgeOf edge place s
+        → IsConsistentBut N.node (N.table links.now) (M.sums sums.old) s edge → IsConsistent N.node (N.table links.now) (M.sums sums.new) s }
+    ensures others { (root other : Option Place) (s t : List Place) → Shows N.node (N.table links.now) root s → IsEdgeOf edge place s
+        → Shows N.node (N.table links.now) other t → IsDisjoint s t
+        → IsConsistentBut N.node (N.table links.now) (M.sums sums.old) t edge → IsConsistent N.node (N.table links.now) (M.sums sums.new) t }
+    ensures beside { (root : Option Place) (s : List Place) → Shows N.node (N.table links.now) root s → IsEdgeOf edge place s
+        → (inside : Place → Bool) → IsWrittenIn (M.sums sums.old) inside → IsIn inside edge
+        → (q : Place) → IsAbsent q s → inside q ≡ false → IsSameAt (M.sums sums.old) (M.sums sums.new) q }
+{
+    let Some(edge) = edge else {
+        return;
+    };
+    if is_at(Some(edge), place) {
+        invalidate_up(links, sums, edge);
+        return;
+    }
+    climb_on(links, sums, edge);
 }

@@ -5,6 +5,7 @@
 //! propagate(&mut summed, place);
 //! tree.remove(&mut summed, &other);
 //! refresh(&tree, &mut summed);
+//! unlink_fresh(&mut tree, &mut summed, third); // and renews what has changed
 //! ```
 
 ghost use Rattle.std.specs.Prelude.{◌≡◌, Option, Some, None, List, [], ◌∷◌, ◌++◌};
@@ -21,9 +22,9 @@ ghost use Rattle.ic_augmented.specs.Summed.{links_of, sums_of};
 ghost use Rattle.ic_augmented.specs.Beside.{IsWrittenWithin};
 ghost use Rattle.ic_augmented.specs.Consistent.{IsSameAt, ShowsConsistent, ShowsSummed};
 
-use crate::climb::settle;
+use crate::climb::{settle, settle_without};
 use crate::marking::{attach_marking, unlink_marking};
-use crate::stale::{invalidate_edge, invalidate_up, refresh_below, refresh_path};
+use crate::stale::{invalidate_up, refresh_below, refresh_path};
 use crate::summed::Summed;
 use crate::sums::RenewSums;
 use ic_link_ops::Side;
@@ -79,11 +80,12 @@ pub fn attach_fresh<A, E: TreeHead, N: Nodes, M: RenewSums>(
 }
 
 /// Takes the member at `place` out, as [`RBTree::unlink`] does, and renews the stale summaries of the tree: then it is summed. The place stays
-/// linked, and its summary is stale.
+/// linked, and its own summary is stale.
 ///
-/// Each fresh summary of another tree in the table stays right, and it stays fresh where those of this tree were written below its own members,
-/// as they are in a tree that is summed. It requires that the place is that of a member, and that there is room for a summary at each linked
-/// place. O(log n + v) for v summaries that were stale before.
+/// It does what `RBTree::unlink` and [`refresh`] do, and is faster: the summaries above are renewed as far as they change, each by what has changed
+/// below. Each fresh summary of another tree in the table stays right, and it stays fresh where those of this tree were written below its own
+/// members, as they are in a tree that is summed. It requires that the place is that of a member, and that there is room for a summary at each
+/// linked place. O(log n + v) for v summaries that were stale before.
 pub fn unlink_fresh<A, E: TreeHead, N: Nodes, M: RenewSums>(
     tree: &mut RBTree<A, E>,
     summed: &mut Summed<N, M>,
@@ -110,7 +112,7 @@ pub fn unlink_fresh<A, E: TreeHead, N: Nodes, M: RenewSums>(
     ensures adapter { adapter_of tree.new ≡ adapter_of tree.old }
 {
     let edge = unlink_marking::<Brand, _, _, _, _>(tree, summed, place);
-    invalidate_edge(&summed.links, &mut summed.sums, edge);
+    settle_without(&summed.links, &mut summed.sums, place, edge);
     let top = tree.root();
     let _ = refresh_below(&summed.links, &mut summed.sums, top, None, 67);
     summed.sums.invalidate(place);

@@ -188,8 +188,8 @@ pub(crate) fn attach_marking<F: Fence, A, E: TreeHead, N: Nodes, M: Sums>(
     ensures consistent { (s : List Place) → IsConsistent N.node (N.table (links_of summed.old)) (M.sums (sums_of summed.old)) s
         → IsConsistentBut N.node (N.table (links_of summed.new)) (M.sums (sums_of summed.new)) s result }
     ensures marks { MarksAlone (M.sums (sums_of summed.old)) (M.sums (sums_of summed.new)) }
-    ensures beside { IsWrittenIn (M.sums (sums_of summed.old)) F.inside
-        → IsIn F.inside result × IsSameBeside (M.sums (sums_of summed.old)) (M.sums (sums_of summed.new)) F.inside }
+    ensures inside { IsIn F.inside result }
+    ensures beside { IsWrittenIn (M.sums (sums_of summed.old)) F.inside → IsSameBeside (M.sums (sums_of summed.old)) (M.sums (sums_of summed.new)) F.inside }
     ensures join { (M.sums (sums_of summed.new)).join ≡ (M.sums (sums_of summed.old)).join }
     ensures covers { (q : Place) → M.Covers (sums_of summed.old) q → M.Covers (sums_of summed.new) q }
     ensures adapter { adapter_of tree.new ≡ adapter_of tree.old }
@@ -238,8 +238,8 @@ pub(crate) fn unlink_marking<F: Fence, A, E: TreeHead, N: Nodes, M: Sums>(
     ensures consistent { (s : List Place) → IsConsistent N.node (N.table (links_of summed.old)) (M.sums (sums_of summed.old)) s
         → IsConsistentBut N.node (N.table (links_of summed.new)) (M.sums (sums_of summed.new)) s result }
     ensures marks { MarksAlone (M.sums (sums_of summed.old)) (M.sums (sums_of summed.new)) }
-    ensures beside { IsWrittenIn (M.sums (sums_of summed.old)) F.inside
-        → IsIn F.inside result × IsSameBeside (M.sums (sums_of summed.old)) (M.sums (sums_of summed.new)) F.inside }
+    ensures inside { IsIn F.inside result }
+    ensures beside { IsWrittenIn (M.sums (sums_of summed.old)) F.inside → IsSameBeside (M.sums (sums_of summed.old)) (M.sums (sums_of summed.new)) F.inside }
     ensures join { (M.sums (sums_of summed.new)).join ≡ (M.sums (sums_of summed.old)).join }
     ensures covers { (q : Place) → M.Covers (sums_of summed.old) q → M.Covers (sums_of summed.new) q }
     ensures adapter { adapter_of tree.new ≡ adapter_of tree.old }

@@ -67,19 +67,6 @@ fn invalidate_up_to<N: Nodes, M: Sums>(_links: &N, sums: &mut M, edge: Place, pl
     }
 }
 
-// Makes the summary of the edge stale, and all that were made of it, so that none may be wrong.
-#[inline]
-pub(crate) fn invalidate_edge<N: Nodes, M: Sums>(links: &N, sums: &mut M, edge: Option<Place>)
-    ensures covers { (q : Place) → M.Covers sums.old q → M.Covers sums.new q }
-    ensures edge { KeepsEdge N.node (N.table links.now) (N.table links.now) (M.sums sums.old) (M.sums sums.new) edge None }
-    ensures beside { (inside : Place → Bool) → StaysInside (M.sums sums.old) (M.sums sums.new) edge None inside }
-{
-    let Some(edge) = edge else {
-        return;
-    };
-    invalidate_up(links, sums, edge);
-}
-
 // Makes a place ready for the write of a child: its summary is stale, or the place is the edge, and those from the old edge up to it are stale.
 #[inline]
 pub(crate) fn invalidate_from<N: Nodes, M: Sums>(

@@ -87,10 +87,10 @@ returns-clause-same g c s shown within q absent =
     let written = written_among z0 (p ∷ s) within in
     let stale = c.invalidate_up.ensures.beside inside written (among_there p [] s) q out in
     let still = written_still z0 z1 c.invalidate_up.ensures.consistent.marks inside written in
-    let put = subst (λ (S : Place → Bool). IsWrittenIn z1 S → IsIn S c.attach_marking-edge.result × IsSameBeside z1 z2 S) (fence_is n p shown)
-    c.attach_marking-edge.ensures.beside still in
+    let edge = subst (λ (S : Place → Bool). IsIn S c.attach_marking-edge.result) (fence_is n p shown) c.attach_marking-edge.ensures.inside in
+    let put = subst (λ (S : Place → Bool). IsWrittenIn z1 S → IsSameBeside z1 z2 S) (fence_is n p shown) c.attach_marking-edge.ensures.beside still in
     let tree = attached_shows n _ _ _ _ c.args.parent c.args.side p r.0 c.attach_marking-edge.ensures.attached r.1 r.2 r.3 r.4 in
     let beyond = absent_insert q p r.0 s (one_sequence shown r.3) absent in
     let fresh = c.refresh_below.ensures.refreshed None tree.tree tree.held.entries (c.root-top.ensures ∙ tree.starts) in
-    let settled = c.settle.ensures.beside _ r.0.front r.0.back tree inside (written_still z1 z2 c.attach_marking-edge.ensures.marks inside still) put.0 q beyond out in
-    same_on z0 z1 z4 q stale (same_on z1 z2 z4 q (put.1 q out) (same_on z2 z3 z4 q settled (fresh.frame q (holds_out tree.held q beyond))))
+    let settled = c.settle.ensures.beside _ r.0.front r.0.back tree inside (written_still z1 z2 c.attach_marking-edge.ensures.marks inside still) edge q beyond out in
+    same_on z0 z1 z4 q stale (same_on z1 z2 z4 q (put q out) (same_on z2 z3 z4 q settled (fresh.frame q (holds_out tree.held q beyond))))

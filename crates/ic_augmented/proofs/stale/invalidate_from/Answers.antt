@@ -42,7 +42,7 @@ pub returns-then-not-is_fresh-clause-beside : goal.returns-then-not-is_fresh-cla
 returns-then-not-is_fresh-clause-beside g c inside here = inside_still (g.M.Sums.sums c.args.sums.now) c.args.edge inside
 
 pub returns-in_default-clause-beside : goal.returns-in_default-clause-beside
-returns-in_default-clause-beside g c inside here written i = (here, λ q out. record { fresh = refl; upper = refl })
+returns-in_default-clause-beside g c inside here i = (here, λ written q out. record { fresh = refl; upper = refl })
 
 pub returns-clause-beside : goal.returns-clause-beside
-returns-clause-beside g c inside here written i = (here, c.invalidate_up_to.ensures.beside inside written (subst (λ (o : Option Place). IsIn inside o) c.in-Some.is i))
+returns-clause-beside g c inside here i = (here, λ written. c.invalidate_up_to.ensures.beside inside written (subst (λ (o : Option Place). IsIn inside o) c.in-Some.is i))
