@@ -60,6 +60,10 @@ returns-clause-hole g c s h =
       hole = c.hole_between.ensures _ gap m.shown is refl;
     }
 
+pub returns-then-is_less-clause-counted : goal.returns-then-is_less-clause-counted
+returns-then-is_less-clause-counted g c =
+    (looks_there c.step_within-front.result + 1, omega (arith, c.is_less.ensures.counted, c.is_less-2.ensures.counted), omega (arith, one_look c.step_within-front.result))
+
 pub returns-clause-counted : goal.returns-clause-counted
 returns-clause-counted g c =
     (looks_there c.step_within-front.result + 1, omega (arith, c.is_less.ensures.counted, c.is_less-2.ensures.counted), omega (arith, one_look c.step_within-front.result))
