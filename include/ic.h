@@ -50,9 +50,9 @@
 #define IC_VERSION_MINOR 1
 #define IC_VERSION_PATCH 0
 
-/* A program that includes this header needs code that defines this name, which only code of the same major and minor version does. If it
- * needs two versions, linkers refuse it, since the code of each defines the calls. On Linux GNU ld refuses code of another version alone,
- * too. The reference takes no memory of the program. */
+/* A program that includes this header needs code that defines this name, which only code of the same major and minor version does. If a
+ * program contains code that needs two versions, the linker refuses the program, because both versions of the library define the same
+ * calls. On Linux GNU ld refuses code of another version alone, too. The reference takes no memory of the program. */
 #if defined(__GNUC__) && defined(__ELF__)
 __asm__(".pushsection .ic_version, \"\"\n\t.long ic_version_0_1\n\t.popsection");
 #elif defined(__GNUC__) && !defined(__wasm__)
@@ -203,12 +203,12 @@ static inline uint32_t ic_place(uint64_t word) {
  *         status = ic_list_remove(links, 100, &list, IC_PLACE_OF(job, jobs));
  */
 
-/* Returns how many places of a table can be named. */
+/* Returns how many places of the table you can name, which is `places`, but at most IC_NONE, because IC_NONE itself names no place. */
 static inline uint32_t ic_bound(ic_length places) {
     return places < IC_NONE ? (uint32_t)places : IC_NONE;
 }
 
-/* Returns the place of the table that a word names, or IC_NONE. */
+/* Returns the place whose number is in `word`, or IC_NONE if `word` contains no place or the table has no such place. */
 static inline uint32_t ic_place_within(ic_length places, uint64_t word) {
     uint32_t place = ic_place(word);
     return place < ic_bound(places) ? place : IC_NONE;
@@ -423,8 +423,8 @@ uint32_t ic_list_splice_before(struct ic_link2 *table, ic_length places, struct 
 IC_NODISCARD
 uint32_t ic_list_append(struct ic_link2 *table, ic_length places, struct ic_list *list, struct ic_list *given);
 
-/* Inserts `count` places, `first` and those after it, at the back in the order of their numbers, in O(count). The call changes nothing if
- * `count` is 0.
+/* Inserts the `count` places `first`, `first` + 1 and so on at the back, in rising order, in O(count). The call changes nothing if `count`
+ * is 0.
  * IC_OUT_OF_RANGE: the first of these places that the call refuses is not below `places`. IC_LINKED: the first of these places that the
  * call refuses is linked already. IC_BROKEN: the last member does not belong to this table. */
 IC_NODISCARD
@@ -598,9 +598,9 @@ uint32_t ic_ring_insert_before(struct ic_link2 *table, ic_length places, uint32_
 IC_NODISCARD
 uint32_t ic_ring_remove(struct ic_link2 *table, ic_length places, uint32_t place);
 
-/* Exchanges the places after `one` and after `other`, which are in rings, in O(1). So two rings become one, and one becomes two, and the
- * same call again undoes it. If `one` is the last member of a ring and `other` the head of another one, all members of the second ring, and
- * then its head, come after `one`.
+/* Exchanges the places after `one` and after `other`, which are in rings, in O(1). If `one` and `other` are in two rings, the call joins
+ * the rings. If they are different places of one ring, it splits that ring into two. If you repeat the call, you undo it. If `one` is the
+ * last member of a ring and `other` the head of another one, all members of the second ring, and then its head, come after `one`.
  * IC_NULL: `one` or `other` is IC_NONE. IC_OUT_OF_RANGE: `one` or `other` is not below `places`. IC_NOT_LINKED: `one` or `other` is not
  * linked. IC_BROKEN: `one` or `other` is in no ring. */
 IC_NODISCARD
@@ -725,8 +725,8 @@ static inline uint32_t ic_stack_go_on(const struct ic_link1 *table, ic_length pl
     return ic_stack_next(table, places, place);
 }
 
-/* These loops go from the first member to the last. `before` is the member before `place`, or IC_NONE. The calls
- * that edit the list take it:
+/* These loops go from the first member to the last. `before` is the member before `place`, or IC_NONE. Hand `before` to the calls
+ * that edit the list:
  *
  *     IC_STACK_FOREACH_SAFE(before, place, links, 100, &list)
  *         if (is_done(place))
@@ -1033,7 +1033,8 @@ uint32_t ic_xor_pop_front(struct ic_link1 *table, ic_length places, struct ic_xo
 IC_NODISCARD
 uint32_t ic_xor_pop_back(struct ic_link1 *table, ic_length places, struct ic_xor_list *list, uint32_t *popped);
 
-/* Inserts `place` in the gap between the members `before` and `after`, which are IC_NONE beyond an end, in O(1).
+/* Inserts `place` between the neighbors `before` and `after`, in O(1). Pass IC_NONE as `before` to insert before the first member, and
+ * IC_NONE as `after` to insert after the last.
  * IC_OUT_OF_RANGE: `before`, `place` or `after` is not below `places`. IC_LINKED: `place` is linked already. IC_NOT_LINKED: `before` or
  * `after` is not linked. IC_BROKEN: there is no such gap. */
 IC_NODISCARD
@@ -1067,8 +1068,8 @@ uint32_t ic_xor_splice_between(struct ic_link1 *table, ic_length places, struct 
 IC_NODISCARD
 uint32_t ic_xor_append(struct ic_link1 *table, ic_length places, struct ic_xor_list *list, struct ic_xor_list *given);
 
-/* Inserts `count` places, `first` and those after it, at the back in the order of their numbers, in O(count). The call changes nothing if
- * `count` is 0.
+/* Inserts the `count` places `first`, `first` + 1 and so on at the back, in rising order, in O(count). The call changes nothing if `count`
+ * is 0.
  * IC_OUT_OF_RANGE: the first of these places that the call refuses is not below `places`. IC_LINKED: the first of these places that the
  * call refuses is linked already. IC_BROKEN: the last member does not belong to this table. */
 IC_NODISCARD

@@ -858,7 +858,7 @@ public:
     [[nodiscard]] iterator end() const noexcept { return {}; }
     [[nodiscard]] bool empty() const noexcept { return begin() == end(); }
 
-    /// Returns whether a place is in this hash table, or in another list of the table of links.
+    /// Returns whether `place` is a member of this hash table, or of any other list whose links are in the same table of links.
     [[nodiscard]] bool is_linked(std::uint32_t place) const noexcept { return ic_stack_is_linked(in_.table, in_.places, place) != 0; }
 
     /// Returns the first member of the chain with this key, which of several is the one that was inserted last. It returns std::nullopt if

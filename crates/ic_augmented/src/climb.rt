@@ -1,4 +1,4 @@
-//! Summaries renewed from a place up, as far as they change.
+//! The functions of this file renew summaries from a place up to the edge, and above the edge for as long as a summary changes.
 //!
 //! ```text
 //! settle(&links, &mut sums, place, edge); // up to the edge, and on while summaries change

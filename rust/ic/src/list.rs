@@ -331,8 +331,8 @@ impl List {
         done(unsafe { ic_list_append(links, places, &mut self.0, &mut given.0) })
     }
 
-    /// Inserts `count` places, `first` and those after it, at the back in the order of their numbers, in O(count). The call changes nothing
-    /// if `count` is 0.
+    /// Inserts the `count` places `first`, `first` + 1 and so on at the back, in rising order, in O(count). The call changes nothing if
+    /// `count` is 0.
     ///
     /// # Errors
     ///

@@ -87,9 +87,9 @@ pub fn remove(table: &mut [Link2], place: u32) -> Result<(), Error> {
     done(unsafe { ic_ring_remove(links, places, place) })
 }
 
-/// Exchanges the places after `one` and after `other`, which are in rings, in O(1). So two rings become one, and one becomes two, and the
-/// same call again undoes it. If `one` is the last member of a ring and `other` the head of another one, all members of the second ring,
-/// and then its head, come after `one`.
+/// Exchanges the places after `one` and after `other`, which are in rings, in O(1). If `one` and `other` are in two rings, the call joins
+/// the rings. If they are different places of one ring, it splits that ring into two. If you repeat the call, you undo it. If `one` is the
+/// last member of a ring and `other` the head of another one, all members of the second ring, and then its head, come after `one`.
 ///
 /// # Errors
 ///

@@ -144,7 +144,8 @@ impl XorList {
         handed_out(|it| unsafe { ic_xor_pop_back(links, places, &mut self.0, it) })
     }
 
-    /// Inserts `place` in the gap between the members `before` and `after`, which are `None` beyond an end, in O(1).
+    /// Inserts `place` between the neighbors `before` and `after`, in O(1). Pass `None` as `before` to insert before the first member, and
+    /// `None` as `after` to insert after the last.
     ///
     /// # Errors
     ///
@@ -225,8 +226,8 @@ impl XorList {
         done(unsafe { ic_xor_append(links, places, &mut self.0, &mut given.0) })
     }
 
-    /// Inserts `count` places, `first` and those after it, at the back in the order of their numbers, in O(count). The call changes nothing
-    /// if `count` is 0.
+    /// Inserts the `count` places `first`, `first` + 1 and so on at the back, in rising order, in O(count). The call changes nothing if
+    /// `count` is 0.
     ///
     /// # Errors
     ///
