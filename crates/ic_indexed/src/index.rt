@@ -40,7 +40,8 @@ pub trait Index<T: HasKey, A: Allocator>: Drop {
     // SO FEW LOOKS as a search makes: of the parts, the key that is searched, the objects and the looks.
     ghost IsFew: { ℕ → ℕ → List T → ℕ → Type 0 };
 
-    /// The table for the links of a new index. It covers no place and takes no memory. It requires that the index is new.
+    /// The table for the links of a new index. It has no room for a link of any place yet, and the call allocates nothing. It requires that the index is
+    /// new.
     fn new_links(&self, alloc: A) -> Self::Links
         requires new { IsNew self.now }
         ensures none { (objects : Placed T) → ((place : Place) → object_at objects place ≡ None) → Has self.now result objects };

@@ -294,7 +294,7 @@ pub fn replace(table: &mut [RawTwo], list: &mut RawEnds, at: u32, place: u32) ->
 
 /// Takes all members off, which are unlinked then. O(n).
 ///
-/// Where the places do not lead from the first member to the last, and back, it returns [`BROKEN`].
+/// It returns [`BROKEN`] if the links do not lead from the first member to the last one, and back.
 #[inline]
 pub fn clear(table: &mut [RawTwo], list: &mut RawEnds) -> u32
     ensures { ClearCall table.old table.new list.old list.new result }

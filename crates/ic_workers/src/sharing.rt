@@ -148,7 +148,8 @@ fn fan_out_over<R: Threads + Wait + Sync, A: Allocator + Copy + Send + Sync, G: 
 ///
 /// Each worker has links and a list of its own. It claims each place, in rising order, and puts those that it gets at the back of its list.
 /// The workers are counted from 1; the gate is told by its number how far each is, as by [`gather`](ic_atomic::gather). Which worker gets
-/// which place is left open: each gets a rising list, and each place stands in just one of them. All their claims are one list of steps.
+/// which place is left open: each gets a rising list, and each place stands in just one of them. One sequence of steps has each worker's claims in the order in which
+/// that worker made them, and explains every answer that the workers got.
 ///
 /// It is refused above 4,294,967,296 places, and where no memory is found or a thread cannot be started, which is
 /// `OutOfMemory` too; workers that have begun then come to their end first. It waits for all its threads. All memory is
