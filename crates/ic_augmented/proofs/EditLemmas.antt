@@ -12,7 +12,7 @@ use Rattle.ic_link_ops.specs.Trees.{top, in_order}
 use Rattle.ic_link_ops.specs.RedBlackTree.{Node, Shows}
 use Rattle.ic_link_ops.specs.Times.{one_at, times, times_in}
 use Rattle.ic_link_ops.proofs.Times.{one_at_self, one_at_other, times_append, times_order, absent_times}
-use Rattle.ic_link_ops.proofs.SequenceLemmas.{disjoint_cons}
+use Rattle.ic_link_ops.proofs.SequenceLemmas.{disjoint_cons, some_same}
 use Rattle.ic_link_ops.proofs.ShownTrees.{holds_once, shows_beside, shows_frame, free_absent, one_sequence}
 use Rattle.ic_rbtree.specs.Closed.{IsIn, AreIn, IsNode, IsClosed, IsClosedBut}
 use Rattle.ic_rbtree.specs.Comparing.{compared, own_order}
@@ -123,6 +123,10 @@ own_searched {V = V} {Shows = Shows} {old} {w} {head} {s} cmp key_of {before = b
 module _ {E S : Type 0} (n : E → Node) where
   fewer_consistent : (v : Table E) (z : Sums S) (edge : Option Place) (s t : List Place) → ((q : Place) → times_in q t ≤ times_in q s) → IsConsistentBut n v z s edge → IsConsistentBut n v z t edge
   fewer_consistent v z edge s t k h q m but x e = h q (omega (arith, m, k q)) but x e
+
+  -- where no member is the edge, none is wrong
+  pub edge_absent : (v : Table E) (z : Sums S) (s : List Place) (p : Place) (edge : Option Place) → edge ≡ Some p → IsAbsent p s → IsConsistentBut n v z s edge → IsConsistent n v z s
+  edge_absent v z s p edge is out h q m but x e = h q m (λ i. member_other q p s out m (sym (some_same (sym is ∙ i)))) x e
 
   -- without a member it is so too
   pub without_member : (v : Table E) (z : Sums S) (edge : Option Place) (front : List Place) (p : Place) (back : List Place) → IsConsistentBut n v z (front ++ p ∷ back) edge

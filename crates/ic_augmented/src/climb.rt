@@ -196,8 +196,8 @@ pub(crate) fn settle<N: Nodes, M: RenewSums>(
     climb(links, sums, place, edge);
 }
 
-// Renews what the removal of the place has left stale below the edge, and what changes above. If the edge is the place itself, the summaries
-// above it are made stale.
+// Renews what the removal of the place has left stale below the edge, and what changes above. If the edge is the place itself, no member's
+// summary may be wrong.
 pub(crate) fn settle_without<N: Nodes, M: RenewSums>(
     links: &N,
     sums: &mut M,
@@ -208,20 +208,18 @@ pub(crate) fn settle_without<N: Nodes, M: RenewSums>(
     requires covered { (q : Place) → IsNode N.node (N.table links.now) q → M.Covers sums.old q }
     ensures covers { (q : Place) → M.Covers sums.old q → M.Covers sums.new q }
     ensures join { (M.sums sums.new).join ≡ (M.sums sums.old).join }
-    ensures consistent { (root : Option Place) (s : List Place) → Shows N.node (N.table links.now) root s → IsEdgeOf edge place s
+    ensures consistent { (root : Option Place) (s : List Place) → Shows N.node (N.table links.now) root s → IsEdgeOf edge place s → IsAbsent place s
         → IsConsistentBut N.node (N.table links.now) (M.sums sums.old) s edge → IsConsistent N.node (N.table links.now) (M.sums sums.new) s }
     ensures others { (root other : Option Place) (s t : List Place) → Shows N.node (N.table links.now) root s → IsEdgeOf edge place s
-        → Shows N.node (N.table links.now) other t → IsDisjoint s t
+        → Shows N.node (N.table links.now) other t → IsDisjoint s t → IsAbsent place t
         → IsConsistentBut N.node (N.table links.now) (M.sums sums.old) t edge → IsConsistent N.node (N.table links.now) (M.sums sums.new) t }
     ensures beside { (root : Option Place) (s : List Place) → Shows N.node (N.table links.now) root s → IsEdgeOf edge place s
-        → (inside : Place → Bool) → IsWrittenIn (M.sums sums.old) inside → IsIn inside edge
-        → (q : Place) → IsAbsent q s → inside q ≡ false → IsSameAt (M.sums sums.old) (M.sums sums.new) q }
+        → (q : Place) → IsAbsent q s → IsSameAt (M.sums sums.old) (M.sums sums.new) q }
 {
     let Some(edge) = edge else {
         return;
     };
     if is_at(Some(edge), place) {
-        invalidate_up(links, sums, edge);
         return;
     }
     climb_on(links, sums, edge);

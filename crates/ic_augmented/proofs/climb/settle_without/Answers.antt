@@ -1,12 +1,11 @@
 use Rattle.std.proofs.Common.{◌≢◌, Option, Some, refl, sym, ap, subst, ◌∙◌}
 use Rattle.ic_unsafe_ref.specs.declared.place.Place.{Place}
-use Rattle.ic_link_ops.specs.Sequences.{IsMember}
 use Rattle.ic_link_ops.specs.Trees.{fork}
-use Rattle.ic_link_ops.proofs.Walks.{is_end_no}
-use Rattle.ic_rbtree.specs.Closed.{IsIn}
+use Rattle.ic_link_ops.proofs.Walks.{is_end_yes, is_end_no}
 use Rattle.ic_augmented.specs.Consistent.{IsConsistentBut}
 use Rattle.ic_augmented.proofs.ChangeLemmas.{settled_here, kept_beside, others_settled_here}
 use Rattle.ic_augmented.proofs.ConsistencyLemmas.{invalidated_none}
+use Rattle.ic_augmented.proofs.EditLemmas.{edge_absent}
 use Rattle.ic_augmented.proofs.SubtreeLemmas.{member_at}
 use Rattle.ic_augmented.proofs.climb.settle_without.Goals as goal
 
@@ -18,14 +17,16 @@ climb_on-requires-clause-subtree g c =
     (x.fs, fork x.c x.a c.in-Some.edge x.b, x.subtree, refl)
 
 pub returns-in_default-clause-consistent : goal.returns-in_default-clause-consistent
-returns-in_default-clause-consistent g c root s h of k = invalidated_none g.N.Nodes.node (g.N.Nodes.table c.args.links.now) (g.M.Sums.sums c.args.sums.now) s c.args.edge c.in_default.is k
+returns-in_default-clause-consistent g c root s h of absent k =
+    invalidated_none g.N.Nodes.node (g.N.Nodes.table c.args.links.now) (g.M.Sums.sums c.args.sums.now) s c.args.edge c.in_default.is k
 
 pub returns-then-is_at-clause-consistent : goal.returns-then-is_at-clause-consistent
-returns-then-is_at-clause-consistent g c root s h of k =
-    c.invalidate_up.ensures.closed s (subst (λ (o : Option Place). IsConsistentBut g.N.Nodes.node (g.N.Nodes.table c.args.links.now) (g.M.Sums.sums c.args.sums.now) s o) c.in-Some.is k)
+returns-then-is_at-clause-consistent g c root s h of absent k =
+    edge_absent g.N.Nodes.node (g.N.Nodes.table c.args.links.now) (g.M.Sums.sums c.args.sums.now) s c.args.place c.args.edge
+    (c.in-Some.is ∙ is_end_yes (Some c.in-Some.edge) c.args.place (sym c.is_at.ensures ∙ c.if-is_at.true)) absent k
 
 pub returns-clause-consistent : goal.returns-clause-consistent
-returns-clause-consistent g c root s h of k =
+returns-clause-consistent g c root s h of absent k =
     let n = g.N.Nodes.node in
     let v = g.N.Nodes.table c.args.links.now in
     let z = g.M.Sums.sums c.args.sums.now in
@@ -33,30 +34,24 @@ returns-clause-consistent g c root s h of k =
     settled_here n v z _ root s c.in-Some.edge h (of c.in-Some.edge c.in-Some.is other) c.climb_on.ensures.consistent (subst (λ (o : Option Place). IsConsistentBut n v z s o) c.in-Some.is k)
 
 pub returns-in_default-clause-others : goal.returns-in_default-clause-others
-returns-in_default-clause-others g c root other s t h of k apart but =
+returns-in_default-clause-others g c root other s t h of k apart absent but =
     invalidated_none g.N.Nodes.node (g.N.Nodes.table c.args.links.now) (g.M.Sums.sums c.args.sums.now) t c.args.edge c.in_default.is but
 
 pub returns-then-is_at-clause-others : goal.returns-then-is_at-clause-others
-returns-then-is_at-clause-others g c root other s t h of k apart but =
-    c.invalidate_up.ensures.closed t (subst (λ (o : Option Place). IsConsistentBut g.N.Nodes.node (g.N.Nodes.table c.args.links.now) (g.M.Sums.sums c.args.sums.now) t o) c.in-Some.is but)
+returns-then-is_at-clause-others g c root other s t h of k apart absent but =
+    edge_absent g.N.Nodes.node (g.N.Nodes.table c.args.links.now) (g.M.Sums.sums c.args.sums.now) t c.args.place c.args.edge
+    (c.in-Some.is ∙ is_end_yes (Some c.in-Some.edge) c.args.place (sym c.is_at.ensures ∙ c.if-is_at.true)) absent but
 
 pub returns-clause-others : goal.returns-clause-others
-returns-clause-others g c root other s t h of k apart but =
+returns-clause-others g c root other s t h of k apart absent but =
     let n = g.N.Nodes.node in
     let v = g.N.Nodes.table c.args.links.now in
     let z = g.M.Sums.sums c.args.sums.now in
-    let apart_from : c.in-Some.edge ≢ c.args.place = λ e. is_end_no (Some c.in-Some.edge) c.args.place (sym c.is_at.ensures ∙ c.if-is_at.false) (ap Some e) in
-    others_settled_here n v z _ root s c.in-Some.edge h (of c.in-Some.edge c.in-Some.is apart_from) other t c.climb_on.ensures.join c.climb_on.ensures.others k apart
+    let here : c.in-Some.edge ≢ c.args.place = λ e. is_end_no (Some c.in-Some.edge) c.args.place (sym c.is_at.ensures ∙ c.if-is_at.false) (ap Some e) in
+    others_settled_here n v z _ root s c.in-Some.edge h (of c.in-Some.edge c.in-Some.is here) other t c.climb_on.ensures.join c.climb_on.ensures.others k apart
     (subst (λ (o : Option Place). IsConsistentBut n v z t o) c.in-Some.is but)
 
-pub returns-in_default-clause-beside : goal.returns-in_default-clause-beside
-returns-in_default-clause-beside g c root s h of inside written i q absent out = record { fresh = refl; upper = refl }
-
-pub returns-then-is_at-clause-beside : goal.returns-then-is_at-clause-beside
-returns-then-is_at-clause-beside g c root s h of inside written i q absent out =
-    c.invalidate_up.ensures.beside inside written (subst (λ (o : Option Place). IsIn inside o) c.in-Some.is i) q out
-
 pub returns-clause-beside : goal.returns-clause-beside
-returns-clause-beside g c root s h of inside written i q absent out =
+returns-clause-beside g c root s h of q absent =
     let other : c.in-Some.edge ≢ c.args.place = λ e. is_end_no (Some c.in-Some.edge) c.args.place (sym c.is_at.ensures ∙ c.if-is_at.false) (ap Some e) in
     kept_beside g.N.Nodes.node (g.N.Nodes.table c.args.links.now) _ _ root s c.in-Some.edge h (of c.in-Some.edge c.in-Some.is other) c.climb_on.ensures.others q absent

@@ -3,10 +3,7 @@ use Rattle.ic_unsafe_ref.specs.declared.place.Place.{Place}
 use Rattle.ic_link_ops.specs.Sequences.{IsAbsent, IsDisjoint}
 use Rattle.ic_link_ops.proofs.SequenceLemmas.{absent_right, absent_without, disjoint_remove, disjoint_right, disjoint_sym}
 use Rattle.ic_link_ops.proofs.ShownTrees.{holds_out, one_sequence, shows_frame}
-use Rattle.ic_rbtree.specs.Closed.{IsIn}
-use Rattle.ic_rbtree.proofs.ShownClosed.{among}
 use Rattle.ic_augmented.specs.Beside.{IsWrittenIn, IsSameBeside}
-use Rattle.ic_augmented.specs.MarkLaws.{written_still}
 use Rattle.ic_augmented.proofs.BesideLemmas.{written_among, absent_out}
 use Rattle.ic_augmented.proofs.ChangeLemmas.{member_out}
 use Rattle.ic_augmented.proofs.ConsistencyLemmas.{invalidated_same, same_on}
@@ -48,9 +45,11 @@ returns-clause-summed g c front back h =
     let taken = c.unlink_marking-edge.ensures.taken in
     let shown = (unlinked n _ _ _ _ front p back taken h.0 (unchanged n _ p)).shows in
     let but = c.unlink_marking-edge.ensures.consistent (front ++ p ∷ back) h.1 in
-    let right = c.settle_without.ensures.consistent _ (front ++ back) shown (unlinked_edge n _ _ _ front p back h.0 c.unlink_marking-edge.ensures.inside) (without_member n w _ _ front p back but) in
+    let out = unlinked_absent n _ _ _ _ front p back taken h.0 in
+    let edge = unlinked_edge n _ _ _ front p back h.0 c.unlink_marking-edge.ensures.inside in
+    let right = c.settle_without.ensures.consistent _ (front ++ back) shown edge out (without_member n w _ _ front p back but) in
     let fresh = c.refresh_below.ensures.refreshed None shown.tree shown.held.entries (c.root-top.ensures ∙ shown.starts) in
-    invalidated_summed n w _ _ _ (front ++ back) p (unlinked_absent n _ _ _ _ front p back taken h.0) c.invalidate.ensures.invalidated
+    invalidated_summed n w _ _ _ (front ++ back) p out c.invalidate.ensures.invalidated
     (refreshed n w _ _ _ (front ++ back) (shown, right) fresh)
 
 pub returns-clause-others : goal.returns-clause-others
@@ -62,10 +61,12 @@ returns-clause-others g c s t other shown apart h =
     let from : IsDisjoint t (m.front ++ p ∷ m.back) = subst (IsDisjoint t) (one_sequence shown m.shown) apart in
     let both = disjoint_remove m.front m.back t p (disjoint_sym t (m.front ++ p ∷ m.back) from) in
     let still = shows_frame h.0 from r.frame in
-    let right = c.settle_without.ensures.others _ other (m.front ++ m.back) t r.shows (unlinked_edge n _ _ _ m.front p m.back m.shown c.unlink_marking-edge.ensures.inside) still both (c.unlink_marking-edge.ensures.consistent t h.1) in
+    let out = (disjoint_sym t (p ∷ m.back) (disjoint_right t m.front (p ∷ m.back) from)).0 in
+    let edge = unlinked_edge n _ _ _ m.front p m.back m.shown c.unlink_marking-edge.ensures.inside in
+    let right = c.settle_without.ensures.others _ other (m.front ++ m.back) t r.shows edge still both out (c.unlink_marking-edge.ensures.consistent t h.1) in
     let fresh = c.refresh_below.ensures.refreshed None r.shows.tree r.shows.held.entries (c.root-top.ensures ∙ r.shows.starts) in
     let renewed = others_consistent n _ _ _ other t fresh.join (λ q k. fresh.frame q (holds_out r.shows.held q (member_out q (m.front ++ m.back) t both k))) (still, right) in
-    invalidated_shows n _ _ _ other t p (disjoint_sym t (p ∷ m.back) (disjoint_right t m.front (p ∷ m.back) from)).0 c.invalidate.ensures.invalidated renewed
+    invalidated_shows n _ _ _ other t p out c.invalidate.ensures.invalidated renewed
 
 pub returns-clause-same : goal.returns-clause-same
 returns-clause-same g c s shown within q absent =
@@ -77,17 +78,14 @@ returns-clause-same g c s shown within q absent =
     let z2 = g.M.Sums.sums c.settle_without.new.sums in
     let z3 = g.M.Sums.sums c.refresh_below.new.sums in
     let z4 = g.M.Sums.sums c.invalidate.new.self in
-    let inside = λ (x : Place). among x s in
     let out = absent_out q s absent in
     let written = written_among z0 s within in
-    let edge = subst (λ (S : Place → Bool). IsIn S c.unlink_marking-edge.result) (members_are n shown) c.unlink_marking-edge.ensures.inside in
     let put = subst (λ (S : Place → Bool). IsWrittenIn z0 S → IsSameBeside z0 z1 S) (members_are n shown) c.unlink_marking-edge.ensures.beside written in
     let h = (unlinked n _ _ _ _ m.front p m.back c.unlink_marking-edge.ensures.taken m.shown (unchanged n _ p)).shows in
     let fresh = c.refresh_below.ensures.refreshed None h.tree h.held.entries (c.root-top.ensures ∙ h.starts) in
     let beyond : IsAbsent q (m.front ++ p ∷ m.back) = subst (IsAbsent q) (one_sequence shown m.shown) absent in
     let others = absent_without m.front m.back p q beyond in
-    let settled = c.settle_without.ensures.beside _ (m.front ++ m.back) h (unlinked_edge n _ _ _ m.front p m.back m.shown c.unlink_marking-edge.ensures.inside) inside
-    (written_still z0 z1 c.unlink_marking-edge.ensures.marks inside written) edge q others out in
+    let settled = c.settle_without.ensures.beside _ (m.front ++ m.back) h (unlinked_edge n _ _ _ m.front p m.back m.shown c.unlink_marking-edge.ensures.inside) q others in
     let stale = invalidated_same z3 z4 p q c.invalidate.ensures.invalidated (absent_right q m.front (p ∷ m.back) beyond).0 in
     same_on z0 z1 z4 q (put q out) (same_on z1 z2 z4 q settled (same_on z2 z3 z4 q (fresh.frame q (holds_out h.held q others)) stale))
 
