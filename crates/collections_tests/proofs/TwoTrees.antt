@@ -14,7 +14,7 @@ use Rattle.ic_augmented.specs.Consistent.{IsSameAt, ShowsConsistent, ShowsSummed
 use Rattle.ic_augmented.specs.SumTables.{joined_in}
 use Rattle.ic_augmented.specs.Sums.{Sums}
 use Rattle.ic_augmented.specs.declared.sum_table.Cell.{Cell}
-use Rattle.ic_augmented.proofs.BesideLemmas.{stale_within}
+use Rattle.ic_augmented.proofs.BesideLemmas.{stale_within, summed_within}
 use Rattle.ic_augmented.proofs.EditLemmas.{still_consistent, still_summed}
 
 -- where there is no room, nothing is fresh
@@ -33,6 +33,10 @@ within_itself z p stale = stale_within z [] p stale (λ q r member fresh up. abs
 pub nothing_there : {E : Type 0} {n : E → Node} (v : Table E) {root : Option Place} → root ≡ None → Shows n v root []
 nothing_there v e = rw e (shows_nothing v)
 
+-- the one member of a tree is none of another
+apart : (p q : Place) → q ≢ p → (x : Place) → 1 ≤ times_in x (p ∷ []) → x ≢ q
+apart p q other x m e = let k = one_at_other x p (λ (i : x ≡ p). other (sym e ∙ i)) in omega (arith, m, k)
+
 module _ {E S : Type 0} {n : E → Node} where
   pub nothing_right : (z : Sums S) (v : Table E) {root : Option Place} → root ≡ None → ShowsConsistent n z v root []
   nothing_right z v e = (nothing_there v e, λ q member but x fresh. absurd (omega (arith, member)))
@@ -46,8 +50,13 @@ module _ {E S : Type 0} {n : E → Node} where
       → ((s : List Place) → Shows n v second s → IsWrittenWithin z (q ∷ s) → (x : Place) → IsAbsent x (q ∷ s) → IsSameAt z y x)
       → ((s t : List Place) (other : Option Place) → Shows n v second s → IsDisjoint t s → ShowsConsistent n z v other t → ShowsConsistent n y w other t) → ShowsSummed n y w first (p ∷ [])
   beside_stays {v} {w} {z} {y} {first} {second} {p} {q} one stale other none same right =
-      still_summed n v w z y first (p ∷ []) (λ x m. same [] (nothing_there v none) (within_itself z q stale) x (apart x m, tt)) one
+      still_summed n v w z y first (p ∷ []) (λ x m. same [] (nothing_there v none) (within_itself z q stale) x (apart p q other x m, tt)) one
       (right [] (p ∷ []) first (nothing_there v none) (tt, tt) (still_consistent n v z first (p ∷ []) one))
-    where
-      apart : (x : Place) → 1 ≤ times_in x (p ∷ []) → x ≢ q
-      apart x m e = let k = one_at_other x p (λ (i : x ≡ p). other (sym e ∙ i)) in omega (arith, m, k)
+
+  -- and where that one leaves again
+  pub leaving_stays : {v w : Table E} {z y : Sums S} {first second : Option Place} {p q : Place} → ShowsSummed n z v first (p ∷ []) → ShowsSummed n z v second (q ∷ []) → q ≢ p
+      → ((s : List Place) → Shows n v second s → IsWrittenWithin z s → (x : Place) → IsAbsent x s → IsSameAt z y x)
+      → ((s t : List Place) (other : Option Place) → Shows n v second s → IsDisjoint t s → ShowsConsistent n z v other t → ShowsConsistent n y w other t) → ShowsSummed n y w first (p ∷ [])
+  leaving_stays {v} {w} {z} {y} {first} {second} {p} {q} one two other same right =
+      still_summed n v w z y first (p ∷ []) (λ x m. same (q ∷ []) two.shows (summed_within n two) x (apart p q other x m, tt)) one
+      (right (q ∷ []) (p ∷ []) first two.shows (((λ i. other (sym i)), tt), tt) (still_consistent n v z first (p ∷ []) one))

@@ -216,11 +216,11 @@ pub(crate) fn settle_without<N: Nodes, M: RenewSums>(
     ensures beside { (root : Option Place) (s : List Place) → Shows N.node (N.table links.now) root s → IsEdgeOf edge place s
         → (q : Place) → IsAbsent q s → IsSameAt (M.sums sums.old) (M.sums sums.new) q }
 {
-    let Some(edge) = edge else {
+    let Some(highest) = edge else {
         return;
     };
-    if is_at(Some(edge), place) {
+    if is_at(Some(highest), place) {
         return;
     }
-    climb_on(links, sums, edge);
+    climb_on(links, sums, highest);
 }

@@ -1,4 +1,4 @@
-//! Two trees in one table of summaries: what comes into one of them leaves the other one summed.
+//! Two trees in one table of summaries: what comes into one of them, and leaves it, leaves the other one summed.
 
 ghost use Rattle.std.specs.Prelude.{◌≡◌, ◌<◌, ◌≤◌, None};
 ghost use Rattle.ic_unsafe_ref.specs.declared.place.Place.{Place};
@@ -11,7 +11,7 @@ ghost use Rattle.ic_augmented.specs.SumTables.{room_of};
 
 use crate::notes::assert_words;
 use crate::tree::trees::OwnKey;
-use ic_augmented::{Counts, Summed, insert_fresh, nth};
+use ic_augmented::{Counts, Summed, insert_fresh, nth, remove_fresh};
 use ic_link_ops::LinkValues;
 use ic_link_ops::rbtree::{LinkOpsWith, RBTreeOps};
 use ic_rbtree::RBTree;
@@ -41,6 +41,27 @@ fn play<L: RBTreeOps + LinkValues<u64>>(
     write_places(notes, &[nth(&*first, &*summed, 0)]);
 }
 
+// Does the same, and takes the second tree's member off again before it looks.
+fn play_and_leave<L: RBTreeOps + LinkValues<u64>>(
+    rt: &impl Abort,
+    notes: &mut Text,
+    first: &mut RBTree<OwnKey>,
+    second: &mut RBTree<OwnKey>,
+    summed: &mut Summed<L, Counts>,
+)
+    requires covers { (L.table (links_of summed.old)).extent.places ≡ 4 }
+    requires empty { (root_of first.old ≡ None) × (root_of second.old ≡ None) }
+    requires room { (q : Place) → IsCovered (L.table (links_of summed.old)) q → index_of q < room_of (sums_of summed.old) }
+    requires stale { (q : Place) → (counts (sums_of summed.old)).fresh q ≡ None }
+{
+    let put = insert_fresh(first, summed, reference(0));
+    assert!(rt; put.is_ok());
+    let beside = insert_fresh(second, summed, reference(1));
+    assert!(rt; beside.is_ok());
+    remove_fresh(second, summed, &reference(1));
+    write_places(notes, &[nth(&*first, &*summed, 0)]);
+}
+
 // Counts with room for four places, of which none is fresh.
 fn four_counts(rt: &impl Abort, alloc: Global) -> Counts
     ensures room { 4 ≤ room_of result }
@@ -64,5 +85,20 @@ fn a_tree_beside_another(rt: HostRuntime) {
     let mut first = RBTree::new(OwnKey);
     let mut second = RBTree::new(OwnKey);
     play(&rt, &mut notes, &mut first, &mut second, &mut summed);
+    assert_words(&rt, &notes, "0");
+}
+
+// Promise: a tree stays summed while another one of its table loses a member.
+#[test]
+fn a_removal_beside_another(rt: HostRuntime) {
+    let mut notes = Text::new(rt.alloc());
+    let mut links: LinkOpsWith<u64> = LinkOpsWith::new(rt.alloc());
+    let _ = links.cover(4);
+    assert!(rt; links.covers() == 4);
+    let sums = four_counts(&rt, rt.alloc());
+    let mut summed = Summed { links, sums };
+    let mut first = RBTree::new(OwnKey);
+    let mut second = RBTree::new(OwnKey);
+    play_and_leave(&rt, &mut notes, &mut first, &mut second, &mut summed);
     assert_words(&rt, &notes, "0");
 }
