@@ -9,7 +9,7 @@ import re
 import call_table
 from call_table import OUT
 from call_handles import renamed
-from call_texts import SELF, STRUCTS, c_arguments, camel, outcome, short
+from call_texts import SELF, STRUCTS, c_arguments, camel, is_none_refused, outcome, short
 
 # How many places each table of links has. Rings share that of the lists, and hash tables that of the singly linked lists.
 PLACES = {"list": 12, "stack": 10, "xor": 7, "tree": 24}
@@ -19,7 +19,7 @@ LINKS = {"list": "Link2", "ring": "Link2", "stack": "Link1", "xor": "Link1", "tr
 # Calls for which the views of C++ have iterators alone.
 NO_METHOD = ("ic_tree_next", "ic_tree_prev")
 # The functions of Rust that print what a call returns, by what it hands out.
-PRINTS = {None: "done", "popped": "member", "removed": "member", "found": "member", "replaced": "replaced", "members": "counted"}
+PRINTS = {None: "done", "popped": "member", "removed": "member", "found": "member", "replaced": "replaced", "members": "try_counted"}
 READ = re.compile(r"^static inline (?:int|uint32_t) (ic_\w+)\(const struct ic_link\d \*table, ic_length places((?:, uint32_t \w+)+)\)", re.M)
 
 
@@ -209,7 +209,8 @@ def rust_body(call):
     if "rest" in at:
         other = f"world.{heads}[slot(w[{at['rest']}])]"
         return f'if {other}.is_empty() {{ let made = {made}; split(&mut {other}, made) }} else {{ "skipped".into() }}'
-    text = f"{made}; done(Ok(()))" if call.name == "ic_xor_reverse" else f"{PRINTS[outcome(call)]}({made})"
+    prints = "counted" if is_none_refused(call) else PRINTS[outcome(call)]
+    text = f"{made}; done(Ok(()))" if call.name == "ic_xor_reverse" else f"{prints}({made})"
     return f"let (it, given) = two(&mut world.{heads}, slot(w[0]), slot(w[{at['given']}])); {text}" if "given" in at else text
 
 

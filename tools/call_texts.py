@@ -102,13 +102,18 @@ def rust_comment(call, indent):
     said = refusals(of, "`u32::MAX`", "the table's length")
     if out in ("popped", "removed", "found"):
         text += f" It returns `None` if {said.pop('NULL')}."
-    if out == "members":
-        text, said = f"{text} It returns `None` if {', or '.join(said.values())}.", {}
+    if is_none_refused(call):
+        text, said = f"{text} It returns `None` if {of.broken}.", {}
     paragraphs = [textwrap.wrap(text, COMMENT - indent - 4)]
     if said:
         errors = " ".join(f"[`Error::{ERRORS[status]}`] if {when}." for status, when in said.items())
         paragraphs += [["# Errors"], textwrap.wrap(errors, COMMENT - indent - 4)]
     return "\n\n".join("\n".join(it) for it in paragraphs)
+
+
+def is_none_refused(call):
+    """Whether the method returns `None` of what it refuses: it counts members, and no argument of a caller can be at fault."""
+    return outcome(call) == "members" and refusals(call, "", "").keys() == {"BROKEN"}
 
 
 def rust_arguments(call):
@@ -148,8 +153,10 @@ def rust(call):
     elif out == "rest":
         lines[0], result = f"let ((links, places), mut rest) = ({parts}, {own}::new());", f" -> Result<{own}, Error>"
         lines += [f"done({called})?;", "Ok(rest)"]
-    elif out == "members":
+    elif is_none_refused(call):
         lines, result = [*lines, f"counted(|members| {called})"], " -> Option<u64>"
+    elif out == "members":
+        lines, result = [*lines, f"try_counted(|members| {called})"], " -> Result<u64, Error>"
     elif out == "replaced":
         lines[1:], result = [SAFETY, f"let removed = handed_out(|it| {called})?;", "removed.ok_or(Error::Null)"], " -> Result<u32, Error>"
     elif out:
@@ -158,7 +165,7 @@ def rust(call):
         lines.append(f"done({called})")
     lines = [part for line in lines for part in split_closure(line, len(indent) + 4)]
     text = textwrap.indent(rust_comment(call, len(indent)), "/// ", lambda line: line.strip()).replace("\n\n", "\n///\n") + "\n#[inline]\n"
-    text += "#[must_use]\n" * (out == "members") + head(f"pub fn {short(call)}(", params, f"){result} {{\n", len(indent))
+    text += "#[must_use]\n" * is_none_refused(call) + head(f"pub fn {short(call)}(", params, f"){result} {{\n", len(indent))
     text += "".join(f"    {line}\n" for line in lines) + "}\n"
     return textwrap.indent(text, indent)
 

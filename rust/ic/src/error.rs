@@ -71,9 +71,16 @@ pub(crate) fn handed_out(call: impl FnOnce(&mut u32) -> u32) -> Result<Option<u3
     }
 }
 
-/// How many members a check has counted, or `None` if the words show no list, tree or hash table.
+/// How many members a check has counted.
+#[inline]
+pub(crate) fn try_counted(call: impl FnOnce(&mut u64) -> u32) -> Result<u64, Error> {
+    let mut members = 0;
+    done(call(&mut members))?;
+    Ok(members)
+}
+
+/// The same, or `None` if the words show no list or tree, for which alone such a check is refused.
 #[inline]
 pub(crate) fn counted(call: impl FnOnce(&mut u64) -> u32) -> Option<u64> {
-    let mut members = 0;
-    (call(&mut members) == IC_OK).then_some(members)
+    try_counted(call).ok()
 }

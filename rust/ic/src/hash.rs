@@ -47,16 +47,16 @@
 //! let (table, heads) = (links.map(|link| link.words()), buckets.each_ref().map(Stack::words));
 //!
 //! let mut again = heads.map(Stack::from_words);
-//! assert_eq!(hash::check(&table.map(Link1::from_words), &hashes, &again), Some(3));
+//! assert_eq!(hash::check(&table.map(Link1::from_words), &hashes, &again), Ok(3));
 //! again.swap(0, 1);
-//! assert_eq!(hash::check(&table.map(Link1::from_words), &hashes, &again), None);
+//! assert_eq!(hash::check(&table.map(Link1::from_words), &hashes, &again), Err(Error::Broken));
 //! # Ok::<(), Error>(())
 //! ```
 //!
 //! Each call of [`Stack`] takes a bucket, too: [`Stack::clear`] empties one, and by [`Stack::pop_front`] and [`insert`] all members move to a
 //! larger array of buckets. A place is in one chain or list of a table.
 
-use crate::error::{counted, done, handed_out};
+use crate::error::{done, handed_out, try_counted};
 use crate::link::Link;
 use crate::{Error, Link1, Stack};
 use ic_sys::*;
@@ -129,15 +129,17 @@ pub fn next_equal(table: &[Link1], keys: &[u64], at: u32) -> Result<Option<u32>,
 
 /// Counts the members of all chains, and returns how many there are, in O(buckets + n). Call it if the words come from a file, or from
 /// memory that others write. `hashes` has the hash of each place. If it returns a number, each member is in the chain of its hash and in no
-/// other one, and each call does what it says of a hash table that the table holds. It returns `None` if there are fewer hashes than
-/// places, or there is no bucket, or the links lead from a bucket to no end within the table, or to a member that belongs in another bucket
-/// by its hash.
+/// other one, and each call does what it says of a hash table that the table holds.
+///
+/// # Errors
+///
+/// [`Error::OutOfRange`] if there are fewer hashes than places, or there is no bucket. [`Error::Broken`] if the links lead from a bucket to
+/// no end within the table, or to a member that belongs in another bucket by its hash.
 #[inline]
-#[must_use]
-pub fn check(table: &[Link1], hashes: &[u64], buckets: &[Stack]) -> Option<u64> {
+pub fn check(table: &[Link1], hashes: &[u64], buckets: &[Stack]) -> Result<u64, Error> {
     let (links, places) = Link1::read_parts(table);
     // SAFETY: each pointer comes from a reference, with the length of its slice, and no mutable reference overlaps another one.
-    counted(|members| unsafe {
+    try_counted(|members| unsafe {
         ic_hash_check(links, places, hashes.as_ptr(), hashes.len(), buckets.as_ptr().cast(), buckets.len(), members)
     })
 }

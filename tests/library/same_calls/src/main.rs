@@ -90,7 +90,11 @@ fn replaced(result: Result<u32, Error>) -> String {
 }
 
 fn counted(members: Option<u64>) -> String {
-    members.map_or("BROKEN".into(), |members| members.to_string())
+    try_counted(members.ok_or(Error::Broken))
+}
+
+fn try_counted(result: Result<u64, Error>) -> String {
+    result.map_or_else(name, |members| members.to_string())
 }
 
 /// A split fills the other list, if that is empty.
