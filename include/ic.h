@@ -91,7 +91,7 @@ typedef uint64_t ic_length;
 /* These are the statuses that a call returns. */
 enum ic_status {
     IC_OK = 0,           /* the call has made the edit, or has found what it looked for */
-    IC_OUT_OF_RANGE = 1, /* a place is not below `places`, or there are fewer keys than places, or there is no bucket */
+    IC_OUT_OF_RANGE = 1, /* a place is not below `places`, or there are fewer keys or hashes than places, or there is no bucket */
     IC_LINKED = 2,       /* the place to insert is in a list or tree of this table */
     IC_NOT_LINKED = 3,   /* the member that is named is in no list or tree of this table */
     IC_NULL = 4,         /* the call needs a member, and there is none */

@@ -18,7 +18,7 @@ pub const IC_NONE: u32 = u32::MAX;
 
 /// The call has made the edit, or has found what it looked for.
 pub const IC_OK: u32 = 0;
-/// A place is not below `places`, or there are fewer keys than places, or there is no bucket.
+/// A place is not below `places`, or there are fewer keys or hashes than places, or there is no bucket.
 pub const IC_OUT_OF_RANGE: u32 = 1;
 /// The place to insert is in a list or tree of this table.
 pub const IC_LINKED: u32 = 2;
