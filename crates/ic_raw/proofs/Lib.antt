@@ -17,6 +17,7 @@ pub mod Xor
 pub mod Seen
 pub mod Trees
 pub mod TreeSets
+pub mod TreeSteps
 pub mod Keys
 pub mod Runs
 pub mod TreeWalks

@@ -4,8 +4,10 @@ use Rattle.ic_unsafe_ref.specs.declared.place.Place.{Place}
 use Rattle.ic_unsafe_ref.specs.Places.{index_of}
 use Rattle.ic_link_ops.specs.Tables.{Table, IsLinked, KeepsLinked}
 use Rattle.ic_link_ops.specs.RedBlackTree.{Node}
+use Rattle.ic_link_ops.specs.declared.side.Side.{Side}
 use Rattle.ic_link_ops.specs.Walk.{is_end}
 use Rattle.ic_rbtree.specs.Closed.{IsIn, AreIn, IsClosed, IsClosedBut}
+use Rattle.ic_rbtree.specs.StepsTo.{StepEnds, StepsTo}
 use Rattle.ic_raw.specs.declared.words.RawThree.{RawThree}
 use Rattle.ic_raw.specs.declared.nodes.Seen.{Seen}
 use Rattle.ic_raw.specs.Words.{place_in, is_linked_three, color_of, HasNumber}
@@ -56,6 +58,14 @@ IsReached t root ends q = (S : Place → Bool) → IsClosed seen_node (seen t) r
 -- the number is that of a linked place that is reached so
 abbrev pub HandsOutReached : Table RawThree → (root : Option Place) → List (Option Place) → ℕ → Type 0
 HandsOutReached t root ends number = (q : Place) × IsLinked is_linked_three t q × HasNumber q number × IsReached t root ends q
+
+-- A STEP to a side of a place hands out this number: that of a linked place to which links lead it, as the words are read
+abbrev pub HandsOutStep : Table RawThree → (root : Option Place) → Side → (at : Option Place) → ℕ → Type 0
+HandsOutStep t root side at number = (q : Place) × IsLinked is_linked_three t q × HasNumber q number × StepsTo seen_node (seen t) root side at q
+
+-- and has none to hand out: as the words are read, links come to an end there
+abbrev pub StepEndsIn : Table RawThree → (root : Option Place) → Side → (at : Option Place) → Type 0
+StepEndsIn t = StepEnds seen_node (seen t)
 
 -- a set of places, and the place that comes in beside them
 abbrev pub also : Option Place → (Place → Bool) → Place → Bool

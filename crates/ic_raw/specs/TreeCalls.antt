@@ -12,10 +12,10 @@ use Rattle.ic_raw.specs.declared.status.TheConstants.{OK, NULL, BROKEN}
 use Rattle.ic_raw.specs.declared.words.RawRoot.{RawRoot}
 use Rattle.ic_raw.specs.declared.words.RawThree.{RawThree}
 use Rattle.ic_raw.specs.Answers.{IsStatus, IsFound, refusal}
-use Rattle.ic_raw.specs.Tree.{node, ShowsTree, IsHole, TellsHole, FreeIn, StandsIn, IsWritten, NamesLinked, root_in, word_of_root, table_of, fault_at, fault_of}
+use Rattle.ic_raw.specs.Tree.{node, ShowsTree, IsHole, TellsHole, FreeIn, StandsIn, IsWritten, root_in, word_of_root, table_of, fault_at, fault_of}
 use Rattle.ic_raw.specs.Tree.{Inserted, Removed, Replaced}
-use Rattle.ic_raw.specs.Seen.{StaysWithin, HandsOutReached}
-use Rattle.ic_raw.specs.WholeTree.{Cleared, OnlyUnmarks}
+use Rattle.ic_raw.specs.Seen.{StaysWithin, HandsOutStep, StepEndsIn}
+use Rattle.ic_raw.specs.WholeTree.{Cleared, LeadsToEnd, OnlyUnmarks}
 use Rattle.ic_raw.specs.Words.{is_linked_three}
 
 -- `old`, `new`: the words of the table before the call and after it. `tree`, `tree'`: that of the tree. `status`: what the call returns
@@ -74,6 +74,7 @@ module _ (old new : List RawThree) (tree tree' : RawRoot) (status : ℕ) where
   pub record ClearCall : Type 0 where
     pub cleared : (s : List Place) → Cleared old new tree tree' status s
     pub root : status ≡ OK → StandsIn old (root_in tree)
+    pub ended : status ≡ OK → LeadsToEnd (table_of old) (root_in tree) None
     pub emptied : status ≡ OK → tree' ≡ word_of_root None
     pub marks : OnlyUnmarks (table_of old) (table_of new)
     pub refused : status ≢ OK → (new ≡ old) × (tree' ≡ tree)
@@ -86,8 +87,8 @@ module _ (old new : List RawThree) (tree : RawRoot) (status : ℕ) where
   pub record StepCall (side : Side) (at : Option Place) (was number : ℕ) : Type 0 where
     pub found : (cut : Cut) (member : Option Place) → IsBeside side cut at → IsBeside (across side) cut member → ShowsTree old tree (join cut)
         → IsFound member status number
-    pub linked : status ≡ OK → NamesLinked old number
-    pub reached : status ≡ OK → HandsOutReached (table_of old) (root_in tree) (at ∷ []) number
+    pub stepped : status ≡ OK → HandsOutStep (table_of old) (root_in tree) side at number
+    pub ended : status ≡ NULL → StepEndsIn (table_of old) (root_in tree) side at
     pub refused : status ≢ OK → number ≡ was
     pub same : new ≡ old
     pub looked : (status ≡ OK) ⊎ (status ≡ NULL) → StandsIn old at × StandsIn old (root_in tree)

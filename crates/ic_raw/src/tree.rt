@@ -17,7 +17,7 @@ ghost use Rattle.ic_rbtree.specs.Tree.{root_of};
 ghost use Rattle.ic_raw.specs.declared.status.TheConstants.{OK, NULL, BROKEN};
 ghost use Rattle.ic_raw.specs.Answers.{IsFound, refusal};
 ghost use Rattle.ic_raw.specs.Gaps.{Stands, before};
-ghost use Rattle.ic_raw.specs.Seen.{IsWithin, StaysWithin, HandsOutReached, has_place};
+ghost use Rattle.ic_raw.specs.Seen.{IsWithin, StaysWithin, HandsOutStep, StepEndsIn, has_place};
 ghost use Rattle.ic_raw.specs.Tables.{IsFree, member_fault};
 ghost use Rattle.ic_raw.specs.Words.{is_linked_three, place_of, HasNumber};
 ghost use Rattle.ic_raw.specs.Tree.{Shows, IsHole, TellsHole, lent_table, node};
@@ -322,8 +322,8 @@ pub(crate) fn hand_out(
 fn step_from_none(links: &RawTable<'_, RawThree>, tree: &Tree, side: Side, found: &mut u32) -> u32
     ensures found { (cut : Cut) (member : Option Place) → Shows (lent_table links.now) (root_of tree.now) (join cut)
         → IsBeside side cut None → IsBeside (across side) cut member → IsFound member result found.new }
-    ensures linked { result ≡ OK → (q : Place) × IsLinked is_linked_three (lent_table links.now) q × HasNumber q found.new }
-    ensures reached { result ≡ OK → HandsOutReached (lent_table links.now) (root_of tree.now) [] found.new }
+    ensures stepped { result ≡ OK → HandsOutStep (lent_table links.now) (root_of tree.now) side None found.new }
+    ensures ended { result ≡ NULL → StepEndsIn (lent_table links.now) (root_of tree.now) side None }
     ensures refused { result ≢ OK → found.new ≡ found.old }
     ensures looked { (result ≡ OK) ⊎ (result ≡ NULL) → Stands is_linked_three (lent_table links.now) (root_of tree.now) }
     ensures why { result ≢ OK → result ≢ NULL → result ≡ BROKEN }
@@ -345,8 +345,8 @@ pub(crate) fn step(
 ) -> u32
     ensures found { (cut : Cut) (member : Option Place) → Shows (lent_table links.now) (root_of tree.now) (join cut)
         → IsBeside side cut (place_of at) → IsBeside (across side) cut member → IsFound member result found.new }
-    ensures linked { result ≡ OK → (q : Place) × IsLinked is_linked_three (lent_table links.now) q × HasNumber q found.new }
-    ensures reached { result ≡ OK → HandsOutReached (lent_table links.now) (root_of tree.now) (place_of at ∷ []) found.new }
+    ensures stepped { result ≡ OK → HandsOutStep (lent_table links.now) (root_of tree.now) side (place_of at) found.new }
+    ensures ended { result ≡ NULL → StepEndsIn (lent_table links.now) (root_of tree.now) side (place_of at) }
     ensures refused { result ≢ OK → found.new ≡ found.old }
     ensures looked { (result ≡ OK) ⊎ (result ≡ NULL) → Stands is_linked_three (lent_table links.now) (place_of at)
         × Stands is_linked_three (lent_table links.now) (root_of tree.now) }

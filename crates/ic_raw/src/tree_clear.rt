@@ -4,23 +4,26 @@
 //! clear(&mut links, &tree) // whether it could: each member is unlinked then
 //! ```
 
-ghost use Rattle.std.specs.Prelude.{◌≡◌, ◌↔◌, List, true, false};
+ghost use Rattle.std.specs.Prelude.{◌≡◌, ◌↔◌, ◌∷◌, [], List, Some, None, true, false};
 ghost use Rattle.ic_unsafe_ref.specs.declared.place.Place.{Place};
+ghost use Rattle.ic_link_ops.specs.declared.side.Side.TheVariants.{Right};
 ghost use Rattle.ic_link_ops.specs.Sequences.{Cut, join, IsAfter, IsBefore};
 ghost use Rattle.ic_link_ops.specs.Tables.{IsCovered, IsUnlinked, ChangesOnly};
-ghost use Rattle.ic_rbtree.specs.Closed.{IsIn};
+ghost use Rattle.ic_rbtree.specs.Closed.{AreIn, IsIn};
+ghost use Rattle.ic_rbtree.specs.StepsTo.{StepsTo};
 ghost use Rattle.ic_rbtree.specs.Tree.{root_of};
 ghost use Rattle.ic_raw.specs.Calls.{Clears};
 ghost use Rattle.ic_raw.specs.Gaps.{Stands};
-ghost use Rattle.ic_raw.specs.Seen.{seen, seen_node, has_place};
+ghost use Rattle.ic_raw.specs.Seen.{seen, seen_node, has_place, StepEndsIn};
 ghost use Rattle.ic_raw.specs.Tree.{Shows, lent_table};
-ghost use Rattle.ic_raw.specs.WholeTree.{IsSeen, OnlyUnmarks, unmarked};
+ghost use Rattle.ic_raw.specs.WholeTree.{IsSeen, LeadsToEnd, OnlyUnmarks, unmarked};
 ghost use Rattle.ic_raw.specs.Words.{is_linked_three};
 
 use crate::table::RawTable;
 use crate::tree::Tree;
 use crate::words::RawThree;
 use ic_link_ops::Side;
+use ic_rbtree::step_within;
 use ic_unsafe_ref::Place;
 
 // Whether the place is none, or one of the table.
@@ -37,7 +40,10 @@ fn has(links: &RawTable<'_, RawThree>, place: Option<Place>) -> bool
 // What stands behind a place, the first member at none. None where the place or the root is none of the table.
 #[inline]
 fn next_of(links: &RawTable<'_, RawThree>, tree: &Tree, at: Option<Place>) -> Option<Place>
-    ensures { (gap : Cut) → IsSeen (lent_table links.now) (root_of tree.now) (join gap) → IsAfter gap at → IsBefore gap result }
+    ensures leads { (gap : Cut) → IsSeen (lent_table links.now) (root_of tree.now) (join gap) → IsAfter gap at → IsBefore gap result }
+    ensures reached { (q : Place) → result ≡ Some q → StepsTo seen_node (seen (lent_table links.now)) (root_of tree.now) Right at q }
+    ensures ended { AreIn (has_place (lent_table links.now)) (at ∷ root_of tree.now ∷ []) → result ≡ None
+        → StepEndsIn (lent_table links.now) (root_of tree.now) Right at }
 {
     if !has(links, at) {
         return None;
@@ -45,12 +51,14 @@ fn next_of(links: &RawTable<'_, RawThree>, tree: &Tree, at: Option<Place>) -> Op
     if !has(links, tree.root()) {
         return None;
     }
-    tree.step(links, at, Side::Right)
+    step_within(links, tree.root(), at, Side::Right)
 }
 
 // Whether steps from the first member on lead through linked places to an end, as many as the table has places at most.
 fn leads_to_end(links: &RawTable<'_, RawThree>, tree: &Tree) -> bool
     ensures shown { (s : List Place) → Shows (lent_table links.now) (root_of tree.now) s → result ≡ true }
+    ensures ended { Stands is_linked_three (lent_table links.now) (root_of tree.now) → result ≡ true
+        → LeadsToEnd (lent_table links.now) (root_of tree.now) None }
 {
     let mut at = next_of(links, tree, None);
     let mut left = links.places();
@@ -106,6 +114,7 @@ fn unmark_all(links: &mut RawTable<'_, RawThree>, tree: &Tree)
 pub(crate) fn clear(links: &mut RawTable<'_, RawThree>, tree: &Tree) -> bool
     ensures cleared { (s : List Place) → Shows (lent_table links.old) (root_of tree.now) s
         → (result ≡ true) × Clears is_linked_three (lent_table links.old) (lent_table links.new) s }
+    ensures ended { result ≡ true → LeadsToEnd (lent_table links.old) (root_of tree.now) None }
     ensures root { result ≡ true → Stands is_linked_three (lent_table links.old) (root_of tree.now) }
     ensures refused { result ≡ false → links.new ≡ links.old }
     ensures marks { OnlyUnmarks (lent_table links.old) (lent_table links.new) }

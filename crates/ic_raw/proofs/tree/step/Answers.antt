@@ -1,13 +1,13 @@
 use Rattle.std.proofs.Common.{◌≡◌, [], Some, None, Option, refl, sym, ◌∙◌, subst}
 use Rattle.ic_link_ops.specs.Frames.{across}
-use Rattle.ic_rbtree.specs.Closed.{IsIn}
-use Rattle.ic_rbtree.proofs.Closed.{in_there}
 use Rattle.ic_rbtree.proofs.Removing.{shown_of, shows_of}
 use Rattle.ic_rbtree.specs.Sides.{IsBeside}
 use Rattle.ic_raw.specs.Answers.{IsFound}
 use Rattle.ic_raw.specs.Gaps.{Stands}
 use Rattle.ic_raw.specs.Tree.{node, lent_table}
-use Rattle.ic_raw.specs.Seen.{seen_node, has_place}
+use Rattle.ic_raw.specs.Seen.{seen, seen_node, has_place, HandsOutStep, StepEndsIn}
+use Rattle.ic_rbtree.specs.StepsTo.{StepsTo}
+use Rattle.ic_rbtree.specs.Tree.{root_of}
 use Rattle.ic_raw.specs.Words.{is_linked_three, place_of}
 use Rattle.ic_unsafe_ref.specs.declared.place.Place.{Place}
 use Rattle.ic_link_ops.proofs.SequenceLemmas.{none_not}
@@ -42,10 +42,6 @@ returns-then-tell-clause-found c cut member shown at is =
     let told = c.tell.ensures.told c.if-tell.true in
     subst (λ o. IsFound o 0 c.tell.new.found) (sym told.1 ∙ one_beside (across c.args.side) cut there is) (record { accepted = refl; done = told.3 })
 
-pub returns-then-tell-clause-linked : goal.returns-then-tell-clause-linked
-returns-then-tell-clause-linked c ok =
-    let told = c.tell.ensures.told c.if-tell.true in (told.0, told.2, told.3)
-
 pub returns-then-tell-clause-looked : goal.returns-then-tell-clause-looked
 returns-then-tell-clause-looked c made =
     let ok = c.if-not-stand.false in
@@ -73,17 +69,28 @@ returns-clause-why c made found =
     let stands = subst (λ o. Stands is_linked_three t o) (sym c.in-Some.is ∙ c.place_of.ensures) (c.stand.ensures.at c.if-not-stand.false) in
     c.nothing_found.ensures.why found ∙ by_others [] (sym (faultless is_linked_three t (place_of c.args.at) stands)) refl
 
-pub returns-then-tell-clause-reached : goal.returns-then-tell-clause-reached
-returns-then-tell-clause-reached c ok =
-    let told = c.tell.ensures.told c.if-tell.true in (
+-- the place that is named is the member from which the step begins
+pub returns-then-tell-clause-stepped : goal.returns-then-tell-clause-stepped
+returns-then-tell-clause-stepped c ok =
+    let told = c.tell.ensures.told c.if-tell.true in
+    let t = lent_table c.args.links.now in (
       told.0,
       told.2,
       told.3,
-      (λ S h ends.
-          let here : IsIn S (Some c.in-Some.member) = subst (IsIn S) (sym c.place_of.ensures ∙ c.in-Some.is) ends.0 in
-          in_there S (c.step_within-beside.ensures.safe S (rw c.root.ensures h) here) told.1),
+      subst (λ o. StepsTo seen_node (seen t) (root_of c.args.tree.now) c.args.side o told.0) (sym c.in-Some.is ∙ c.place_of.ensures)
+          (c.step_within-beside.ensures.reached told.0 told.1),
     )
 
-pub returns-in_default-clause-reached : goal.returns-in_default-clause-reached
-returns-in_default-clause-reached c ok =
-    let out = c.step_from_none.ensures.reached ok in (out.0, out.1, out.2, (λ S h ends. out.3 S h tt))
+pub returns-clause-ended : goal.returns-clause-ended
+returns-clause-ended c null =
+    subst (StepEndsIn (lent_table c.args.links.now) (root_of c.args.tree.now) c.args.side) (sym c.in-Some.is ∙ c.place_of.ensures)
+    (c.step_within-beside.ensures.ended (c.nothing_found.ensures.null.0 null))
+
+pub returns-in_default-clause-stepped : goal.returns-in_default-clause-stepped
+returns-in_default-clause-stepped c ok =
+    subst (λ o. HandsOutStep (lent_table c.args.links.now) (root_of c.args.tree.now) c.args.side o c.step_from_none.new.found) (sym c.in_default.is ∙ c.place_of.ensures)
+    (c.step_from_none.ensures.stepped ok)
+
+pub returns-in_default-clause-ended : goal.returns-in_default-clause-ended
+returns-in_default-clause-ended c null =
+    subst (StepEndsIn (lent_table c.args.links.now) (root_of c.args.tree.now) c.args.side) (sym c.in_default.is ∙ c.place_of.ensures) (c.step_from_none.ensures.ended null)

@@ -1,6 +1,5 @@
 use Rattle.std.proofs.Common.{[], subst}
 use Rattle.ic_link_ops.specs.Frames.{across}
-use Rattle.ic_rbtree.proofs.Closed.{in_there}
 use Rattle.ic_rbtree.proofs.Removing.{shown_of, shows_of}
 use Rattle.ic_raw.specs.Answers.{IsFound}
 use Rattle.ic_raw.specs.Gaps.{Stands}
@@ -31,11 +30,9 @@ returns-clause-found c cut member shown at is =
     subst (λ o. IsFound o c.hand_out.result c.hand_out.new.found) (one_beside (across c.args.side) cut there is)
     (c.hand_out.ensures.found (beside_stands (across c.args.side) cut shown there))
 
-pub returns-clause-reached : goal.returns-clause-reached
-returns-clause-reached c ok =
-    let told = c.hand_out.ensures.told ok in (
-      told.0,
-      told.2,
-      told.3,
-      (λ S h ends. in_there S (c.step_within.ensures.safe S (rw c.root-2.ensures h) tt) told.1),
-    )
+pub returns-clause-stepped : goal.returns-clause-stepped
+returns-clause-stepped c ok =
+    let told = c.hand_out.ensures.told ok in (told.0, told.2, told.3, rw c.root-2.ensures at (c.step_within.ensures.reached told.0 told.1))
+
+pub returns-clause-ended : goal.returns-clause-ended
+returns-clause-ended c null = rw c.root-2.ensures at (c.step_within.ensures.ended (c.hand_out.ensures.null.0 null))

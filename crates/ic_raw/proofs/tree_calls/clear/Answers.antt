@@ -2,6 +2,7 @@ use Rattle.std.proofs.Common.{refl, rules}
 use Rattle.ic_raw.specs.Words.{no_tree_words, is_linked_three}
 use Rattle.ic_raw.proofs.Gaps.{never}
 use Rattle.ic_raw.proofs.Trees.{kept}
+use Rattle.ic_raw.proofs.TreeSteps.{leads_back}
 use Rattle.ic_raw.proofs.TreeWalks.{unmarks_back}
 use Rattle.ic_raw.proofs.Views.{viewed, clears_back}
 use Rattle.ic_raw.proofs.tree_calls.clear.Goals as goal
@@ -10,6 +11,7 @@ pub returns-then-not-clear : goal.returns-then-not-clear
 returns-then-not-clear c = record {
   cleared = λ s shown. absurd (never c.if-not-clear.true (c.clear.ensures.cleared s (rw c.tree_of.ensures (viewed no_tree_words kept c.new-links.result c.new-links.ensures.1 shown))).0);
   root = search rules;
+  ended = search rules;
   emptied = search rules;
   marks = unmarks_back c.new-links.result c.clear.new.links c.new-links.ensures.1 (search rules) c.clear.ensures.marks;
   refused = search rules;
@@ -23,6 +25,7 @@ returns c = record {
       let done = (c.clear.ensures.cleared s (rw c.tree_of.ensures (viewed no_tree_words kept c.new-links.result c.new-links.ensures.1 shown))).1 in
       record { accepted = refl; done = clears_back no_tree_words is_linked_three c.new-links.result c.clear.new.links c.new-links.ensures.1 (search rules) done };
   root = search rules;
+  ended = λ ok. leads_back c.new-links.result c.new-links.ensures.1 (rw c.tree_of.ensures at (c.clear.ensures.ended c.if-not-clear.false));
   emptied = search rules;
   marks = unmarks_back c.new-links.result c.clear.new.links c.new-links.ensures.1 (search rules) c.clear.ensures.marks;
   refused = search rules;

@@ -1,14 +1,12 @@
-use Rattle.std.proofs.Common.{[], ◌∷◌, rules}
-use Rattle.ic_raw.specs.Words.{place_of}
-use Rattle.ic_raw.proofs.Trees.{names_back}
-use Rattle.ic_raw.proofs.TreeSets.{reached_back}
+use Rattle.std.proofs.Common.{rules}
+use Rattle.ic_raw.proofs.TreeSteps.{end_back, step_back}
 use Rattle.ic_raw.proofs.tree_calls.step_at.Goals as goal
 
 pub returns : goal.returns
 returns c = record {
   found = search rules;
-  linked = λ ok. names_back c.new-links.result _ c.new-links.ensures.1 (c.step.ensures.linked ok);
-  reached = λ ok. reached_back c.new-links.result (place_of c.args.at ∷ []) _ c.new-links.ensures.1 (rw c.tree_of.ensures at (c.step.ensures.reached ok));
+  stepped = λ ok. step_back c.new-links.result c.new-links.ensures.1 _ (rw c.tree_of.ensures at (c.step.ensures.stepped ok));
+  ended = λ null. end_back c.new-links.result c.new-links.ensures.1 _ (rw c.tree_of.ensures at (c.step.ensures.ended null));
   refused = search rules;
   same = search rules;
   looked = search rules;

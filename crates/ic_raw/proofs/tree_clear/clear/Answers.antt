@@ -19,3 +19,6 @@ returns-then-not-stands-clause-marks c = unmarks_none (lent_table c.args.links.n
 
 pub returns-then-not-leads_to_end-clause-marks : goal.returns-then-not-leads_to_end-clause-marks
 returns-then-not-leads_to_end-clause-marks c = unmarks_none (lent_table c.args.links.now)
+
+pub returns-clause-ended : goal.returns-clause-ended
+returns-clause-ended c made = c.leads_to_end.ensures.ended (rw c.root.ensures at (c.stands.ensures.0 c.if-not-stands.false)) c.if-not-leads_to_end.false

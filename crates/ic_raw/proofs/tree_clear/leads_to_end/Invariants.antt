@@ -1,14 +1,29 @@
-use Rattle.std.proofs.Common.{List}
+use Rattle.std.proofs.Common.{◌≡◌, List, Option, Some, None}
 use Rattle.ic_unsafe_ref.specs.declared.place.Place.{Place}
+use Rattle.ic_link_ops.specs.declared.side.Side.TheVariants.{Right}
+use Rattle.ic_rbtree.specs.Closed.{IsIn}
+use Rattle.ic_rbtree.specs.StepsTo.{StepsTo}
 use Rattle.ic_rbtree.specs.Tree.{root_of}
+use Rattle.ic_raw.specs.Gaps.{Stands}
+use Rattle.ic_raw.specs.Seen.{seen, seen_node, has_place, StepEndsIn}
 use Rattle.ic_raw.specs.Tree.{lent_table}
-use Rattle.ic_raw.specs.WholeTree.{IsSeen}
+use Rattle.ic_raw.specs.WholeTree.{IsSeen, LeadsToEnd}
+use Rattle.ic_raw.specs.Words.{is_linked_three}
 use Rattle.ic_raw.proofs.TreeWalks.{HasComeTo}
 use Rattle.ic_raw.proofs.tree_clear.leads_to_end.Given as goal
 
--- a walk through what is seen has come here
+-- a walk through what is seen has come here. Whatever the words say, a step leads here from a linked place, or from none, to which steps have led
 abbrev pub invariant-loop-left : goal.invariant-loop-left
-invariant-loop-left l = record { walked : (s : List Place) → IsSeen (lent_table l.fn.links) (root_of l.fn.tree) s → HasComeTo s l.at l.left }
+invariant-loop-left l =
+    let t = lent_table l.fn.links in
+    let root = root_of l.fn.tree in
+    record {
+      walked : (s : List Place) → IsSeen t root s → HasComeTo s l.at l.left;
+      led : (from : Option Place) × Stands is_linked_three t from
+          × ((q : Place) → l.at ≡ Some q → StepsTo seen_node (seen t) root Right from q)
+          × (IsIn (has_place t) root → l.at ≡ None → StepEndsIn t root Right from)
+          × (LeadsToEnd t root from → LeadsToEnd t root None);
+    }
 
 abbrev pub decreases-loop-left : goal.decreases-loop-left
 decreases-loop-left l = l.left

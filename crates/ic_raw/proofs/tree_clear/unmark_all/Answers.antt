@@ -31,7 +31,7 @@ loop-left-init c = record {
   marks = unmarks_none (lent_table c.args.links.now);
   walked = λ s shown.
       let there = seen_shows (lent_table c.args.links.now) (in_range c.args.links.now) shown in
-      (walk_starts (c.next_of-at.ensures (at_front s) there refl) (rw c.places-left.ensures (seen_length there)), there, (λ p member. absurd (member tt)), (λ q out. refl));
+      (walk_starts (c.next_of-at.ensures.leads (at_front s) there refl) (rw c.places-left.ensures (seen_length there)), there, (λ p member. absurd (member tt)), (λ q out. refl));
 }
 
 pub returns-in_default-clause-cleared : goal.returns-in_default-clause-cleared
@@ -57,7 +57,7 @@ loop-left-preserved c = record {
       let u = lent_table c.unmark.new.links in
       let p = c.in-Some.member in
       let was = rw c.in-Some.is at (c.loop-left.invariant.walked s shown) in
-      let more = walk_goes_on was.0 {t = t} was.1 c.next_of-at-in-loop-left.ensures in (
+      let more = walk_goes_on was.0 {t = t} was.1 c.next_of-at-in-loop-left.ensures.leads in (
         more.0,
         seen_kept t u c.unmark.ensures.seen was.1,
         (λ q member. elim (same_or_not q p) [
