@@ -51,11 +51,11 @@ pub record KeepsMarks (old new : Table RawThree) : Type 0 where
   pub marks : KeepsLinked is_linked_three old new
   pub names : (q : Place) → IsWithin old q → IsWithin new q
 
--- A PLACE IS REACHED by links from these ends and the root: it is in each set that has them, and out of which no link leads as the words are read
+-- LINKS LEAD TO A PLACE from these ends or from the root: it is in each set that has them, and out of which no link leads as the words are read
 abbrev pub IsReached : Table RawThree → (root : Option Place) → List (Option Place) → Place → Type 0
 IsReached t root ends q = (S : Place → Bool) → IsClosed seen_node (seen t) root S → AreIn S ends → S q ≡ true
 
--- the number is that of a linked place that is reached so
+-- the number is that of a linked place to which links lead from these ends or from the root
 abbrev pub HandsOutReached : Table RawThree → (root : Option Place) → List (Option Place) → ℕ → Type 0
 HandsOutReached t root ends number = (q : Place) × IsLinked is_linked_three t q × HasNumber q number × IsReached t root ends q
 
