@@ -10,13 +10,14 @@ use Rattle.ic_link_ops.proofs.ShownLists.{before_gap, behind_gap, shows_middle}
 use Rattle.ic_link_ops.proofs.DoublyLists.{between_linked}
 use Rattle.ic_raw.specs.declared.words.RawTwo.{RawTwo}
 use Rattle.ic_raw.specs.declared.table.RawTable.{RawTable}
+use Rattle.ic_raw.specs.declared.gap.Gap.{Gap}
 use Rattle.ic_raw.specs.declared.gap.Side.{Side}
 use Rattle.ic_raw.specs.declared.gap.Side.TheVariants.{After, Before}
 use Rattle.ic_raw.specs.declared.words.RawEnds.{RawEnds}
 use Rattle.ic_raw.specs.Words.{is_linked_two, no_words}
 use Rattle.ic_raw.specs.Gaps.{IsBeside, Stands, gap_of, outermost}
 use Rattle.ic_raw.specs.Tables.{raw_entries}
-use Rattle.ic_raw.specs.Doubly.{Shows, ShowsList, Split, SplitsBeside, TellsGap, ends_of, neighbors, next_from, prev_from, table_of, lent_table}
+use Rattle.ic_raw.specs.Doubly.{Shows, ShowsList, Split, SplitsBeside, TellsGap, around, ends_of, gap_from, neighbors, next_from, prev_from, table_of, lent_table}
 use Rattle.ic_raw.proofs.Lists.{before_stands, behind_stands, kept}
 use Rattle.ic_raw.proofs.Views.{splits_back}
 
@@ -51,6 +52,20 @@ told_back After t list at e told =
     let back : TellsGap After (table_of (raw_entries t)) list at = told in subst (λ es. TellsGap After (table_of es) list at) e back
 told_back Before t list at e told =
     let back : TellsGap Before (table_of (raw_entries t)) list at = told in subst (λ es. TellsGap Before (table_of es) list at) e back
+
+pub told_viewed : (side : Side) (t : RawTable RawTwo) {es : List RawTwo} {list edited : Ends} {at named : Option Place} → raw_entries t ≡ es → edited ≡ list → at ≡ named
+    → TellsGap side (lent_table t) edited at → TellsGap side (table_of es) list named
+told_viewed side t {list} {named} view read same told = told_back side t list named view (rw (← read, ← same) told)
+
+-- a gap that was found by a view, and the places on both sides of one, are those that its words tell of
+pub gap_viewed : (side : Side) (t : RawTable RawTwo) {es : List RawTwo} {list edited : Ends} {at named : Option Place} {found : Gap} → raw_entries t ≡ es → edited ≡ list
+    → at ≡ named → found ≡ gap_from side (lent_table t) edited at → gap_from side (table_of es) list named ≡ found
+gap_viewed After t view read same is = sym (is ∙ (λ k. gap_from After (table_of (view k)) (read k) (same k)))
+gap_viewed Before t view read same is = sym (is ∙ (λ k. gap_from Before (table_of (view k)) (read k) (same k)))
+
+pub around_viewed : (t : RawTable RawTwo) {es : List RawTwo} {list edited : Ends} {at named : Option Place} {found : Gap} → raw_entries t ≡ es → edited ≡ list
+    → at ≡ named → found ≡ around (lent_table t) edited at → around (table_of es) list named ≡ found
+around_viewed t view read same is = sym (is ∙ (λ k. around (table_of (view k)) (read k) (same k)))
 
 -- A CUT OF A VIEW is one of its words, once both lists are kept
 pub split_back : (side : Side) (a b : RawTable RawTwo) {es fs : List RawTwo} (list list' rest : RawEnds) {keeps handed : Ends} (cut : Cut)

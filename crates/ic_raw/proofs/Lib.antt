@@ -7,6 +7,7 @@ pub mod Lists
 pub mod Touches
 pub mod Own
 pub mod Doubly
+pub mod Ends
 pub mod Moves
 pub mod DoublyWalks
 pub mod Singly

@@ -1,7 +1,8 @@
 -- Where a member goes that is moved: a gap of the others is one of all members.
-use Rattle.std.proofs.Common.{◌≡◌, ◌⊎◌, inl, inr, Option, Some, None, List, [], ◌∷◌, ◌++◌, drop, refl, sym, ap, subst, ◌∙◌, append_assoc, append-nil}
+use Rattle.std.proofs.Common.{◌≡◌, ◌≢◌, ◌⊎◌, inl, inr, Option, Some, None, List, [], ◌∷◌, ◌++◌, drop, refl, sym, ap, subst, ◌∙◌, append_assoc, append-nil}
 use Rattle.ic_unsafe_ref.specs.declared.place.Place.{Place}
 use Rattle.ic_link_ops.specs.Sequences.{Cut, join, insert, first, last, IsAbsent, IsDistinct}
+use Rattle.ic_link_ops.specs.Tables.{Table}
 use Rattle.ic_link_ops.specs.Chains.{Ends}
 use Rattle.ic_link_ops.proofs.SequenceLemmas.{none_not, some_same, absent_right, distinct_middle, last_not, gap_not, last_or-append, last_of_push}
 use Rattle.ic_raw.specs.declared.words.RawTwo.{RawTwo}
@@ -9,10 +10,10 @@ use Rattle.ic_raw.specs.declared.table.RawTable.{RawTable}
 use Rattle.ic_raw.specs.declared.gap.Gap.{Gap}
 use Rattle.ic_raw.specs.declared.gap.Side.{Side}
 use Rattle.ic_raw.specs.declared.gap.Side.TheVariants.{After, Before}
-use Rattle.ic_raw.specs.Gaps.{IsApart, IsBeside, Stands, gap_of, outermost, toward}
+use Rattle.ic_raw.specs.Gaps.{IsApart, IsBeside, IsMoved, Stands, gap_of, outermost, toward}
 use Rattle.ic_raw.specs.Tables.{raw_entries}
 use Rattle.ic_raw.specs.Words.{is_linked_two}
-use Rattle.ic_raw.specs.Doubly.{IsEnd, end_on, lent_table, table_of}
+use Rattle.ic_raw.specs.Doubly.{IsEnd, TellsGap, around, end_on, gap_from, lent_table, next_from, prev_from, table_of}
 use Rattle.ic_raw.proofs.Doubly.{first_kept, last_kept}
 
 -- what stands in a view stands among its words
@@ -159,3 +160,26 @@ module _ (side : Side) {at : Option Place} (p : Place) (front back : List Place)
     ahead : (m : List Place) → front ≡ cut.front ++ m → cut.back ≡ m ++ back → Goes side at p front back cut
     ahead [] e f = goes_there (sym (e ∙ append-nil cut.front)) f
     ahead (x ∷ m) e f = goes_ahead x m e f
+
+-- what is said of a gap and a place is said of the same ones, named otherwise
+pub apart_same : {gap found : Gap} {p q : Place} → gap ≡ found → p ≡ q → IsApart gap p → IsApart found q
+apart_same same one apart = rw (← same, ← one) apart
+
+pub moved_same : {from from' to to' : Gap} {p p' : Option Place} {old old' new new' : Ends} → from' ≡ from → p' ≡ p → to' ≡ to → old' ≡ old → new' ≡ new
+    → IsMoved from p to old new → IsMoved from' p' to' old' new'
+moved_same a b c d e moved = rw (a, b, c, d, e) moved
+
+-- the outermost gap is apart from a place exactly if that is not the end there
+pub apart_at_end : (side : Side) (t : Table RawTwo) (list : Ends) {p : Place} → end_on side list ≢ Some p → IsApart (gap_from side t list None) p
+apart_at_end After t list {p} away = (none_not p, away)
+apart_at_end Before t list {p} away = (away, none_not p)
+
+pub not_apart_at_end : (side : Side) (t : Table RawTwo) (list : Ends) {p : Place} → end_on side list ≡ Some p → IsApart (gap_from side t list None) p → ⊥
+not_apart_at_end After t list end apart = apart.1 end
+not_apart_at_end Before t list end apart = apart.0 end
+
+-- and a member with another one toward that side is not at that end
+pub has_one_beyond : (side : Side) (t : Table RawTwo) (list : Ends) {p q : Place} → TellsGap side t list None → toward side (around t list (Some p)) ≡ Some q
+    → end_on side list ≡ Some p → ⊥
+has_one_beyond After t list {q} told beyond end = none_not q (sym (subst (λ at. prev_from t list at ≡ None) end told.1) ∙ beyond)
+has_one_beyond Before t list {q} told beyond end = none_not q (sym (subst (λ at. next_from t list at ≡ None) end told.1) ∙ beyond)

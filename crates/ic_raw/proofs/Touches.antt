@@ -1,5 +1,5 @@
 -- What an edit touches follows of what its parts change: the link that is acquired or released, and the neighbors that are turned.
-use Rattle.std.proofs.Common.{◌≡◌, ◌≢◌, Bool, Option, Some, List, [], ◌∷◌, ◌++◌, sym, ap, ◌∙◌}
+use Rattle.std.proofs.Common.{◌≡◌, ◌≢◌, Bool, Option, Some, List, [], ◌∷◌, sym, ap, subst, ◌∙◌}
 use Rattle.ic_unsafe_ref.specs.declared.place.Place.{Place}
 use Rattle.ic_link_ops.specs.Tables.{Table, ChangesOnly, IsLinked, KeepsLinked, LinksAlso, Unlinks}
 use Rattle.ic_link_ops.specs.LinkSteps.{LinkStep, acquires, releases}
@@ -7,7 +7,7 @@ use Rattle.ic_link_ops.specs.StepLaws.{replays_within}
 use Rattle.ic_link_ops.specs.PlainTables.{table_of}
 use Rattle.ic_raw.specs.declared.table.RawTable.{RawTable}
 use Rattle.ic_raw.specs.Tables.{IsFree, raw_entries, raw_table}
-use Rattle.ic_raw.specs.Touches.{IsNoneOf, Touches}
+use Rattle.ic_raw.specs.Touches.{Touches}
 
 -- two places differ where their ends do
 other_place : {p q : Place} → (Some p ≢ Some q) → q ≢ p
@@ -42,6 +42,7 @@ module _ {E : Type 0} {linked : E → Bool} where
       others = λ q out. only.others q (other_place out.0) ∙ others q out.1.0 (λ _. out.1.1.0);
     }
 
+  module _ {Names : Type 0} {old new : Table E} {before behind : Option Place} where
     -- SPLIT: both sides of a gap are turned to none
     pub touches_split : KeepsLinked linked old new → ((q : Place) → before ≢ Some q → (Names → behind ≢ Some q) → new.entry q ≡ old.entry q)
         → Touches linked old new [] (before ∷ behind ∷ [])
@@ -54,11 +55,11 @@ module _ {E : Type 0} {linked : E → Bool} where
     touches_splice keeps others = record { steps_are = keeps; others = λ q out. others q out.0 (λ _. out.1.0) (λ _. out.1.1.0) out.1.1.1.0 }
 
     -- MOVE: the neighbors of p are turned to each other, and then p is put between two others
-    pub touches_move : {p : Place} {ahead after : Option Place} → KeepsLinked linked old mid → KeepsLinked linked mid new
+    pub touches_move : (mid : Table E) {p : Place} {ahead after : Option Place} → KeepsLinked linked old mid → KeepsLinked linked mid new
         → ((q : Place) → before ≢ Some q → (Names → behind ≢ Some q) → mid.entry q ≡ old.entry q)
         → ((q : Place) → ahead ≢ Some q → q ≢ p → (Names → after ≢ Some q) → new.entry q ≡ mid.entry q)
         → Touches linked old new [] (Some p ∷ before ∷ behind ∷ ahead ∷ after ∷ [])
-    touches_move off on others others' = record {
+    touches_move mid off on others others' = record {
       steps_are = λ q. on q ∙ off q;
       others = λ q out. others' q out.1.1.1.0 (other_place out.0) (λ _. out.1.1.1.1.0) ∙ others q out.1.0 (λ _. out.1.1.0);
     }
@@ -76,11 +77,20 @@ module _ {E : Type 0} {linked : E → Bool} where
         gone_only.others q (other_place out.1.0) ∙ others q out.1.1.0 away (λ _. out.1.1.1.0) ∙ only.others q away;
   }
 
+  -- the same places, named otherwise
+  pub touches_same : {old new : Table E} {steps : List LinkStep} {places places' : List (Option Place)} → places ≡ places'
+      → Touches linked old new steps places → Touches linked old new steps places'
+  touches_same {old} {new} {steps} same touched = subst (λ named. Touches linked old new steps named) same touched
+
+  -- an edit that changes nothing
+  pub touches_nothing : {old new : Table E} {places : List (Option Place)} → new ≡ old → Touches linked old new [] places
+  touches_nothing same = record { steps_are = λ q. ap (λ t. linked (t.entry q)) same; others = λ q out. ap (λ t. t.entry q) same }
+
   -- what a view of words touches is touched among the words
-  pub touched_back : {unlinked : E} (a b : RawTable E) {es fs : List E} {steps : List LinkStep} {places places' : List (Option Place)} → raw_entries a ≡ es → fs ≡ raw_entries b
+  pub touched_back : (unlinked : E) (a b : RawTable E) {es fs : List E} {steps : List LinkStep} {places places' : List (Option Place)} → raw_entries a ≡ es → fs ≡ raw_entries b
       → places' ≡ places → Touches linked (raw_table unlinked a) (raw_table unlinked b) steps places
       → Touches linked (table_of unlinked es) (table_of unlinked fs) steps places'
-  touched_back {unlinked} a b {steps} {places} e f same touched =
+  touched_back unlinked a b {steps} {places} e f same touched =
       let back : Touches linked (table_of unlinked (raw_entries a)) (table_of unlinked (raw_entries b)) steps places =
       record { steps_are = replays_within linked _ _ steps _ _ touched.steps_are; others = touched.others } in
       rw (← e, f, same) back

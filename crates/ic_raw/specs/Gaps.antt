@@ -1,5 +1,5 @@
 -- The gap at which a call edits.
-use Rattle.std.specs.Prelude.{◌≡◌, ◌≢◌, ◌∷◌, List, Bool, Option, Some}
+use Rattle.std.specs.Prelude.{◌≡◌, ◌≢◌, ◌∷◌, List, Bool, Option, Some, None}
 use Rattle.ic_unsafe_ref.specs.declared.place.Place.{Place}
 use Rattle.ic_link_ops.specs.Sequences.{Cut, at_front, at_back, first, last, IsAfter, IsBefore}
 use Rattle.ic_link_ops.specs.Tables.{Table, IsLinked}
@@ -38,6 +38,31 @@ PutIn gap place = Turns gap place place
 -- nothing stands in the gap any longer: its two sides are neighbors
 abbrev pub TakenOut : Gap → (old new : Ends) → Type 0
 TakenOut gap = Turns gap gap.behind gap.before
+
+-- this end, or another one where it is none
+abbrev pub or_else : Option Place → Option Place → Option Place
+or_else None other = other
+or_else (Some p) other = Some p
+
+-- all members of the given list stand in the gap. Where it has none, the two sides of the gap are neighbors as before
+abbrev pub AllPutIn : Gap → (given old new : Ends) → Type 0
+AllPutIn gap given = Turns gap (or_else given.head gap.behind) (or_else given.tail gap.before)
+
+-- a member that stood between two places, and is taken out, is put in elsewhere
+abbrev pub IsMoved : (from : Gap) → (member : Option Place) → (to : Gap) → (old new : Ends) → Type 0
+IsMoved from member to old new = (without : Ends) × TakenOut from old without × PutIn to member without new
+
+-- A LIST IS CUT AT A GAP: the part in front begins as the list did, and the part behind ends as it did. A part without members has no ends
+pub record IsCutAt (gap : Gap) (old front back : Ends) : Type 0 where
+  pub front_head : front.head ≡ end_of gap.before None old.head
+  pub front_tail : front.tail ≡ gap.before
+  pub back_head : back.head ≡ gap.behind
+  pub back_tail : back.tail ≡ end_of gap.behind None old.tail
+
+-- what is handed out is the part on the side of the gap on which the call edits, and the list keeps the other one
+abbrev pub IsCutBeside : Side → Gap → (old kept handed : Ends) → Type 0
+IsCutBeside After gap old kept handed = IsCutAt gap old kept handed
+IsCutBeside Before gap old kept handed = IsCutAt gap old handed kept
 
 -- the place is on neither side of a gap
 abbrev pub IsApart : Gap → Place → Type 0

@@ -4,6 +4,7 @@ use Rattle.std.specs.Prelude.{◌≡◌, ◌≢◌, ◌↔◌, ◌++◌, ◌∷�
 use Rattle.ic_unsafe_ref.specs.declared.place.Place.{Place}
 use Rattle.ic_link_ops.specs.Sequences.{Cut, join, at_back}
 use Rattle.ic_link_ops.specs.Tables.{KeepsLinked}
+use Rattle.ic_link_ops.specs.LinkSteps.{acquires, releases}
 use Rattle.ic_link_ops.specs.Chains.{no_members}
 use Rattle.ic_raw.specs.declared.gap.Side.{Side}
 use Rattle.ic_raw.specs.declared.gap.Side.TheVariants.{After, Before}
@@ -14,7 +15,8 @@ use Rattle.ic_raw.specs.Answers.{IsStatus, refusal}
 use Rattle.ic_raw.specs.Doubly.{ShowsList, FreeIn, StandsIn, TellsGap, IsEnd, IsWritten, IsFreeRunIn, around, end_on, gap_from, table_of, ends_of, words_of, fault_at, fault_of}
 use Rattle.ic_raw.specs.Doubly.{Inserted, Removed, Popped, Replaced, Moved, Stayed, Spliced, Split, Cleared, Filled}
 use Rattle.ic_raw.specs.Fills.{run_faults}
-use Rattle.ic_raw.specs.Gaps.{IsBeside, PutIn, TakenOut, outermost}
+use Rattle.ic_raw.specs.Gaps.{AllPutIn, IsApart, IsBeside, IsCutBeside, IsMoved, PutIn, TakenOut, outermost}
+use Rattle.ic_raw.specs.Touches.{Touches, sides}
 use Rattle.ic_raw.specs.Words.{is_linked_two, HasNumber}
 
 -- `old`, `new`: the words of the table before the call and after it. `list`, `list'`: those of the list. `status`: what the call returns
@@ -27,6 +29,8 @@ module _ (old new : List RawTwo) (list list' : RawEnds) (status : ℕ) where
     pub stands : status ≡ OK → StandsIn old at
     pub told : status ≡ OK → TellsGap side (table_of old) (ends_of list) at
     pub own : status ≡ OK → PutIn (gap_from side (table_of old) (ends_of list) at) place (ends_of list) (ends_of list')
+    pub touched : (p : Place) → place ≡ Some p → status ≡ OK → Touches is_linked_two (table_of old) (table_of new) (acquires p ∷ [])
+        (Some p ∷ sides (gap_from side (table_of old) (ends_of list) at))
     pub words : IsWritten list → IsWritten list'
     pub refused : status ≢ OK → (new ≡ old) × (list' ≡ list)
     pub why : status ≢ OK → status ≡ refusal (fault_at old at ∷ fault_of old place ∷ [])
@@ -41,6 +45,8 @@ module _ (old new : List RawTwo) (list list' : RawEnds) (status : ℕ) where
     pub outer : status ≡ OK → TellsGap side (table_of old) (ends_of list) None
     pub inner : status ≡ OK → TellsGap side (table_of old) (ends_of list) (end_on side (ends_of list))
     pub own : status ≡ OK → TakenOut (around (table_of old) (ends_of list) (end_on side (ends_of list))) (ends_of list) (ends_of list')
+    pub touched : (p : Place) → end_on side (ends_of list) ≡ Some p → status ≡ OK → Touches is_linked_two (table_of old) (table_of new) (releases p ∷ [])
+        (Some p ∷ sides (around (table_of old) (ends_of list) (Some p)))
     pub words : IsWritten list → IsWritten list'
     pub refused : status ≢ OK → (new ≡ old) × (list' ≡ list) × (popped ≡ was)
     pub why : status ≢ OK → status ≢ NULL → status ≡ BROKEN
@@ -54,6 +60,8 @@ module _ (old new : List RawTwo) (list list' : RawEnds) (status : ℕ) where
     pub before : status ≡ OK → TellsGap Before (table_of old) (ends_of list) at
     pub behind : status ≡ OK → TellsGap After (table_of old) (ends_of list) at
     pub own : status ≡ OK → TakenOut (around (table_of old) (ends_of list) at) (ends_of list) (ends_of list')
+    pub touched : (p : Place) → at ≡ Some p → status ≡ OK → Touches is_linked_two (table_of old) (table_of new) (releases p ∷ [])
+        (Some p ∷ sides (around (table_of old) (ends_of list) at))
     pub words : IsWritten list → IsWritten list'
     pub refused : status ≢ OK → (new ≡ old) × (list' ≡ list)
     pub why : status ≢ OK → status ≢ NULL → status ≡ refusal (fault_at old at ∷ [])
@@ -69,6 +77,8 @@ module _ (old new : List RawTwo) (list list' : RawEnds) (status : ℕ) where
     pub before : status ≡ OK → TellsGap Before (table_of old) (ends_of list) at
     pub behind : status ≡ OK → TellsGap After (table_of old) (ends_of list) at
     pub own : status ≡ OK → PutIn (around (table_of old) (ends_of list) at) place (ends_of list) (ends_of list')
+    pub touched : (out p : Place) → at ≡ Some out → place ≡ Some p → status ≡ OK → Touches is_linked_two (table_of old) (table_of new) (acquires p ∷ releases out ∷ [])
+        (Some p ∷ Some out ∷ sides (around (table_of old) (ends_of list) at))
     pub words : status ≡ OK → IsWritten list'
     pub refused : status ≢ OK → (new ≡ old) × (list' ≡ list)
     pub why : status ≢ OK → status ≢ NULL → status ≡ refusal (fault_at old at ∷ fault_of old place ∷ [])
@@ -88,6 +98,11 @@ module _ (old new : List RawTwo) (list list' : RawEnds) (status : ℕ) where
     pub before : status ≡ OK → TellsGap Before (table_of old) (ends_of list) place
     pub behind : status ≡ OK → TellsGap After (table_of old) (ends_of list) place
     pub linked : KeepsLinked is_linked_two (table_of old) (table_of new)
+    pub touched : status ≡ OK → Touches is_linked_two (table_of old) (table_of new) []
+        (place ∷ sides (around (table_of old) (ends_of list) place) ++ sides (gap_from side (table_of old) (ends_of list) at))
+    pub own : (p : Place) → place ≡ Some p → status ≡ OK → IsApart (gap_from side (table_of old) (ends_of list) at) p
+        → IsMoved (around (table_of old) (ends_of list) place) place (gap_from side (table_of old) (ends_of list) at) (ends_of list) (ends_of list')
+    pub stays : (p : Place) → place ≡ Some p → status ≡ OK → (IsApart (gap_from side (table_of old) (ends_of list) at) p → ⊥) → (new ≡ old) × (list' ≡ list)
     pub words : IsWritten list → IsWritten list'
     pub refused : status ≢ OK → (new ≡ old) × (list' ≡ list)
     pub why : status ≢ OK → status ≢ NULL → status ≡ refusal (fault_at old at ∷ fault_at old place ∷ [])
@@ -103,6 +118,11 @@ module _ (old new : List RawTwo) (list list' : RawEnds) (status : ℕ) where
     pub before : status ≡ OK → TellsGap Before (table_of old) (ends_of list) place
     pub behind : status ≡ OK → TellsGap After (table_of old) (ends_of list) place
     pub linked : KeepsLinked is_linked_two (table_of old) (table_of new)
+    pub touched : status ≡ OK → Touches is_linked_two (table_of old) (table_of new) []
+        (place ∷ sides (around (table_of old) (ends_of list) place) ++ sides (gap_from side (table_of old) (ends_of list) None))
+    pub own : (p : Place) → place ≡ Some p → status ≡ OK → end_on side (ends_of list) ≢ Some p
+        → IsMoved (around (table_of old) (ends_of list) place) place (gap_from side (table_of old) (ends_of list) None) (ends_of list) (ends_of list')
+    pub stays : (p : Place) → place ≡ Some p → status ≡ OK → end_on side (ends_of list) ≡ Some p → (new ≡ old) × (list' ≡ list)
     pub words : IsWritten list → IsWritten list'
     pub refused : status ≢ OK → (new ≡ old) × (list' ≡ list)
     pub why : status ≢ OK → status ≢ NULL → status ≡ refusal (fault_at old place ∷ [])
@@ -117,6 +137,9 @@ module _ (old new : List RawTwo) (list list' : RawEnds) (status : ℕ) where
     pub front : status ≡ OK → TellsGap After (table_of old) (ends_of given) None
     pub back : status ≡ OK → TellsGap Before (table_of old) (ends_of given) None
     pub apart : status ≡ OK → (p : Place) → (ends_of given).head ≡ Some p → (ends_of list).head ≢ Some p
+    pub touched : status ≡ OK → Touches is_linked_two (table_of old) (table_of new) []
+        (sides (gap_from side (table_of old) (ends_of list) at) ++ (ends_of given).head ∷ (ends_of given).tail ∷ [])
+    pub own : status ≡ OK → AllPutIn (gap_from side (table_of old) (ends_of list) at) (ends_of given) (ends_of list) (ends_of list')
     pub words : status ≡ OK → IsWritten list'
     pub refused : status ≢ OK → (new ≡ old) × (list' ≡ list) × (given' ≡ given)
     pub why : status ≢ OK → status ≡ refusal (fault_at old at ∷ [])
@@ -129,6 +152,8 @@ module _ (old new : List RawTwo) (list list' : RawEnds) (status : ℕ) where
     pub empty : status ≡ OK → ends_of rest ≡ no_members
     pub stands : status ≡ OK → StandsIn old at
     pub told : status ≡ OK → TellsGap side (table_of old) (ends_of list) at
+    pub touched : status ≡ OK → Touches is_linked_two (table_of old) (table_of new) [] (sides (gap_from side (table_of old) (ends_of list) at))
+    pub own : status ≡ OK → IsCutBeside side (gap_from side (table_of old) (ends_of list) at) (ends_of list) (ends_of list') (ends_of rest')
     pub words : status ≡ OK → IsWritten list'
     pub rest_words : status ≡ OK → IsWritten rest'
     pub refused : status ≢ OK → (new ≡ old) × (list' ≡ list) × (rest' ≡ rest)

@@ -8,12 +8,14 @@ ghost use Rattle.std.specs.Prelude.{◌≡◌, ◌≢◌, ◌++◌, ◌∷◌, [
 ghost use Rattle.ic_unsafe_ref.specs.declared.place.Place.{Place};
 ghost use Rattle.ic_link_ops.specs.Sequences.{Cut, join, first, last, at_back, IsDisjoint};
 ghost use Rattle.ic_link_ops.specs.Tables.{IsUnlinked};
+ghost use Rattle.ic_link_ops.specs.LinkSteps.{acquires, releases};
 ghost use Rattle.ic_link_ops.specs.Chains.{Ends};
 ghost use Rattle.ic_link_ops.specs.Edits.{Inserts, Removes, Replaces, Splices};
 ghost use Rattle.ic_raw.specs.declared.gap.Gap.{Gap};
 ghost use Rattle.ic_raw.specs.declared.gap.Side.TheVariants.{After, Before};
-ghost use Rattle.ic_raw.specs.Gaps.{IsBeside, PutIn, Stands, StandBeside, TakenOut, before, gap_of, outermost};
+ghost use Rattle.ic_raw.specs.Gaps.{AllPutIn, IsBeside, IsCutBeside, PutIn, Stands, StandBeside, TakenOut, before, gap_of, outermost};
 ghost use Rattle.ic_raw.specs.Tables.{IsFree};
+ghost use Rattle.ic_raw.specs.Touches.{Touches, sides};
 ghost use Rattle.ic_raw.specs.Words.{is_linked_two};
 ghost use Rattle.ic_link_ops.specs.LinkedList.{neighbors_at};
 ghost use Rattle.ic_raw.specs.Doubly.{Shows, SplitsBeside, TellsGap, around, gap_from, IsEnd, end_on, lent_table, neighbors, next_from, prev_from};
@@ -258,6 +260,8 @@ pub(crate) fn push_behind_last(
     ensures free { result ≡ true → (p : Place) × (place ≡ Some p) × IsFree is_linked_two (lent_table links.old) p }
     ensures told { result ≡ true → TellsGap Before (lent_table links.old) list.old None }
     ensures own { result ≡ true → PutIn (gap_from Before (lent_table links.old) list.old None) place list.old list.new }
+    ensures touched { (p : Place) → result ≡ true → place ≡ Some p → Touches is_linked_two (lent_table links.old) (lent_table links.new)
+        (acquires p ∷ []) (Some p ∷ sides (gap_from Before (lent_table links.old) list.old None)) }
     ensures refused { result ≡ false → (links.new ≡ links.old) × (list.new ≡ list.old) }
     ensures extent { (lent_table links.new).extent ≡ (lent_table links.old).extent }
 {
@@ -283,6 +287,8 @@ pub(crate) fn pop_before_second(links: &mut RawTable<'_, RawTwo>, list: &mut Lis
     ensures outer { (q : Place) → result ≡ Some q → TellsGap After (lent_table links.old) list.old None }
     ensures inner { (q : Place) → result ≡ Some q → TellsGap After (lent_table links.old) list.old (Some q) }
     ensures own { (q : Place) → result ≡ Some q → TakenOut (around (lent_table links.old) list.old (Some q)) list.old list.new }
+    ensures touched { (q : Place) → result ≡ Some q → Touches is_linked_two (lent_table links.old) (lent_table links.new)
+        (releases q ∷ []) (Some q ∷ sides (around (lent_table links.old) list.old (Some q))) }
     ensures refused { result ≡ None → (links.new ≡ links.old) × (list.new ≡ list.old) }
     ensures extent { (lent_table links.new).extent ≡ (lent_table links.old).extent }
 {
@@ -317,6 +323,8 @@ pub(crate) fn remove_between(
     ensures before { result ≡ true → TellsGap Before (lent_table links.old) list.old (Some member) }
     ensures behind { result ≡ true → TellsGap After (lent_table links.old) list.old (Some member) }
     ensures own { result ≡ true → TakenOut (around (lent_table links.old) list.old (Some member)) list.old list.old }
+    ensures touched { result ≡ true → Touches is_linked_two (lent_table links.old) (lent_table links.new)
+        (releases member ∷ []) (Some member ∷ sides (around (lent_table links.old) list.old (Some member))) }
     ensures refused { result ≡ false → links.new ≡ links.old }
     ensures extent { (lent_table links.new).extent ≡ (lent_table links.old).extent }
 {
@@ -344,6 +352,8 @@ pub(crate) fn insert(
     ensures stands { result ≡ true → Stands is_linked_two (lent_table links.old) at }
     ensures told { result ≡ true → TellsGap side (lent_table links.old) list.old at }
     ensures own { result ≡ true → PutIn (gap_from side (lent_table links.old) list.old at) place list.old list.new }
+    ensures touched { (p : Place) → result ≡ true → place ≡ Some p → Touches is_linked_two (lent_table links.old) (lent_table links.new)
+        (acquires p ∷ []) (Some p ∷ sides (gap_from side (lent_table links.old) list.old at)) }
     ensures refused { result ≡ false → (links.new ≡ links.old) × (list.new ≡ list.old) }
     ensures extent { (lent_table links.new).extent ≡ (lent_table links.old).extent }
 {
@@ -367,6 +377,8 @@ pub(crate) fn remove(links: &mut RawTable<'_, RawTwo>, list: &mut List, member: 
     ensures before { result ≡ true → TellsGap Before (lent_table links.old) list.old (Some member) }
     ensures behind { result ≡ true → TellsGap After (lent_table links.old) list.old (Some member) }
     ensures own { result ≡ true → TakenOut (around (lent_table links.old) list.old (Some member)) list.old list.new }
+    ensures touched { result ≡ true → Touches is_linked_two (lent_table links.old) (lent_table links.new)
+        (releases member ∷ []) (Some member ∷ sides (around (lent_table links.old) list.old (Some member))) }
     ensures refused { result ≡ false → (links.new ≡ links.old) × (list.new ≡ list.old) }
     ensures extent { (lent_table links.new).extent ≡ (lent_table links.old).extent }
 {
@@ -384,6 +396,7 @@ pub(crate) fn gap_inside(links: &RawTable<'_, RawTwo>, side: Side, at: Option<Pl
     ensures at { (gap : Gap) → result ≡ Some gap → Stands is_linked_two (lent_table links.now) at }
     ensures stands { (gap : Gap) → result ≡ Some gap → StandBeside is_linked_two (lent_table links.now) gap }
     ensures told { (gap : Gap) (list : Ends) → result ≡ Some gap → TellsGap side (lent_table links.now) list at }
+    ensures sides { (gap : Gap) (list : Ends) → result ≡ Some gap → gap ≡ gap_from side (lent_table links.now) list at }
     ensures shown { (gap : Gap) (list : Ends) (cut : Cut) → result ≡ Some gap → Shows (lent_table links.now) list (join cut)
         → IsBeside side cut at → gap ≡ gap_of cut }
 {
@@ -486,6 +499,8 @@ pub(crate) fn pop(links: &mut RawTable<'_, RawTwo>, list: &mut List, side: Side)
     ensures outer { (p : Place) → result ≡ Some p → TellsGap side (lent_table links.old) list.old None }
     ensures inner { (p : Place) → result ≡ Some p → TellsGap side (lent_table links.old) list.old (Some p) }
     ensures own { (p : Place) → result ≡ Some p → TakenOut (around (lent_table links.old) list.old (Some p)) list.old list.new }
+    ensures touched { (p : Place) → result ≡ Some p → Touches is_linked_two (lent_table links.old) (lent_table links.new)
+        (releases p ∷ []) (Some p ∷ sides (around (lent_table links.old) list.old (Some p))) }
     ensures refused { result ≡ None → (links.new ≡ links.old) × (list.new ≡ list.old) }
     ensures extent { (lent_table links.new).extent ≡ (lent_table links.old).extent }
 {
@@ -514,6 +529,8 @@ pub(crate) fn replace(
     ensures before { result ≡ true → TellsGap Before (lent_table links.old) list.old (Some member) }
     ensures behind { result ≡ true → TellsGap After (lent_table links.old) list.old (Some member) }
     ensures own { result ≡ true → PutIn (around (lent_table links.old) list.old (Some member)) place list.old list.new }
+    ensures touched { (p : Place) → result ≡ true → place ≡ Some p → Touches is_linked_two (lent_table links.old) (lent_table links.new)
+        (acquires p ∷ releases member ∷ []) (Some p ∷ Some member ∷ sides (around (lent_table links.old) list.old (Some member))) }
     ensures refused { result ≡ false → (links.new ≡ links.old) × (list.new ≡ list.old) }
     ensures extent { (lent_table links.new).extent ≡ (lent_table links.old).extent }
 {
@@ -545,6 +562,9 @@ pub(crate) fn splice(
     ensures front { result ≡ true → TellsGap After (lent_table links.old) given None }
     ensures back { result ≡ true → TellsGap Before (lent_table links.old) given None }
     ensures apart { result ≡ true → (p : Place) → given.head ≡ Some p → list.old.head ≢ Some p }
+    ensures touched { result ≡ true → Touches is_linked_two (lent_table links.old) (lent_table links.new) []
+        (sides (gap_from side (lent_table links.old) list.old at) ++ given.head ∷ given.tail ∷ []) }
+    ensures own { result ≡ true → AllPutIn (gap_from side (lent_table links.old) list.old at) given list.old list.new }
     ensures refused { result ≡ false → (links.new ≡ links.old) × (list.new ≡ list.old) }
     ensures extent { (lent_table links.new).extent ≡ (lent_table links.old).extent }
 {
@@ -579,6 +599,9 @@ pub(crate) fn splice_at_end(
     ensures front { result ≡ true → TellsGap After (lent_table links.old) given None }
     ensures back { result ≡ true → TellsGap Before (lent_table links.old) given None }
     ensures apart { result ≡ true → (p : Place) → given.head ≡ Some p → list.old.head ≢ Some p }
+    ensures touched { result ≡ true → Touches is_linked_two (lent_table links.old) (lent_table links.new) []
+        (sides (gap_from side (lent_table links.old) list.old None) ++ given.head ∷ given.tail ∷ []) }
+    ensures own { result ≡ true → AllPutIn (gap_from side (lent_table links.old) list.old None) given list.old list.new }
     ensures refused { result ≡ false → (links.new ≡ links.old) × (list.new ≡ list.old) }
     ensures extent { (lent_table links.new).extent ≡ (lent_table links.old).extent }
 {
@@ -607,6 +630,8 @@ pub(crate) fn split(links: &mut RawTable<'_, RawTwo>, list: &mut List, side: Sid
     requires gap { StandBeside is_linked_two (lent_table links.old) gap }
     ensures split { (cut : Cut) → Shows (lent_table links.old) list.old (join cut) → gap ≡ gap_of cut
         → SplitsBeside side (lent_table links.old) (lent_table links.new) list.new result cut }
+    ensures touched { Touches is_linked_two (lent_table links.old) (lent_table links.new) [] (sides gap) }
+    ensures own { IsCutBeside side gap list.old list.new result }
     ensures extent { (lent_table links.new).extent ≡ (lent_table links.old).extent }
 {
     let back = list.split_between(links, gap.before, gap.behind);

@@ -5,7 +5,7 @@
 //! relocate(&mut links, &mut list, from, member, to);
 //! ```
 
-ghost use Rattle.std.specs.Prelude.{◌≡◌, ◌++◌, ◌∷◌, List, Option, Some, None, true};
+ghost use Rattle.std.specs.Prelude.{◌≡◌, ◌++◌, ◌∷◌, [], List, Option, Some, None, true};
 ghost use Rattle.ic_unsafe_ref.specs.declared.place.Place.{Place};
 ghost use Rattle.ic_link_ops.specs.Sequences.{Cut, join};
 ghost use Rattle.ic_link_ops.specs.Tables.{KeepsLinked};
@@ -13,9 +13,10 @@ ghost use Rattle.ic_link_ops.specs.Chains.{Ends};
 ghost use Rattle.ic_link_ops.specs.Edits.{Inserts};
 ghost use Rattle.ic_raw.specs.declared.gap.Gap.{Gap};
 ghost use Rattle.ic_raw.specs.declared.gap.Side.TheVariants.{After, Before};
-ghost use Rattle.ic_raw.specs.Gaps.{IsBeside, Stands, StandBeside, gap_of, toward};
+ghost use Rattle.ic_raw.specs.Gaps.{IsBeside, IsMoved, Stands, StandBeside, gap_of, toward};
+ghost use Rattle.ic_raw.specs.Touches.{Touches, sides};
 ghost use Rattle.ic_raw.specs.Words.{is_linked_two};
-ghost use Rattle.ic_raw.specs.Doubly.{Shows, TellsGap, end_on, lent_table};
+ghost use Rattle.ic_raw.specs.Doubly.{Shows, TellsGap, around, end_on, gap_from, lent_table};
 
 use crate::gap::{Gap, Side};
 use crate::list::{
@@ -77,6 +78,7 @@ pub(crate) fn beside_other_end(
     ensures stands { (gap : Gap) → result ≡ Some gap → StandBeside is_linked_two (lent_table links.now) gap }
     ensures before { (gap : Gap) → result ≡ Some gap → TellsGap Before (lent_table links.now) list.now (Some member) }
     ensures behind { (gap : Gap) → result ≡ Some gap → TellsGap After (lent_table links.now) list.now (Some member) }
+    ensures sides { (gap : Gap) → result ≡ Some gap → gap ≡ around (lent_table links.now) list.now (Some member) }
     ensures toward { (gap : Gap) → result ≡ Some gap → (q : Place) × (toward side gap ≡ Some q) }
     ensures shown { (gap : Gap) (front back : List Place) → result ≡ Some gap → Shows (lent_table links.now) list.now (front ++ member ∷ back)
         → gap ≡ gap_of (record { front = front; back = back }) }
@@ -128,6 +130,8 @@ pub(crate) fn gaps_inside(
     ensures before { (from to : Gap) (list : Ends) → result ≡ Some (from, to) → TellsGap Before (lent_table links.now) list (Some member) }
     ensures behind { (from to : Gap) (list : Ends) → result ≡ Some (from, to) → TellsGap After (lent_table links.now) list (Some member) }
     ensures from { (from to : Gap) → result ≡ Some (from, to) → StandBeside is_linked_two (lent_table links.now) from }
+    ensures sides { (from to : Gap) (list : Ends) → result ≡ Some (from, to)
+        → (from ≡ around (lent_table links.now) list (Some member)) × (to ≡ gap_from side (lent_table links.now) list at) }
 {
     let Some(from) = between(links, member) else {
         return None;
@@ -158,6 +162,8 @@ pub(crate) fn gaps_to_move(
     ensures before { (from to : Gap) → result ≡ Some (from, to) → TellsGap Before (lent_table links.now) list.now (Some member) }
     ensures behind { (from to : Gap) → result ≡ Some (from, to) → TellsGap After (lent_table links.now) list.now (Some member) }
     ensures from { (from to : Gap) → result ≡ Some (from, to) → StandBeside is_linked_two (lent_table links.now) from }
+    ensures sides { (from to : Gap) → result ≡ Some (from, to)
+        → (from ≡ around (lent_table links.now) list.now (Some member)) × (to ≡ gap_from side (lent_table links.now) list.now at) }
 {
     let Some(to) = gap_at(links, list, side, at) else {
         return None;
@@ -184,6 +190,8 @@ pub(crate) fn relocate(
         → join cut ≡ front ++ back → from ≡ gap_of (record { front = front; back = back }) → to ≡ gap_of cut
         → Inserts Shows (lent_table links.old) (lent_table links.new) list.new cut member }
     ensures linked { KeepsLinked is_linked_two (lent_table links.old) (lent_table links.new) }
+    ensures touched { Touches is_linked_two (lent_table links.old) (lent_table links.new) [] (Some member ∷ sides from ++ sides to) }
+    ensures own { IsMoved from (Some member) to list.old list.new }
     ensures extent { (lent_table links.new).extent ≡ (lent_table links.old).extent }
 {
     list.bypass(links, from.before, member, from.behind);

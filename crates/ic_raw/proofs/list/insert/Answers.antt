@@ -1,8 +1,10 @@
-use Rattle.std.proofs.Common.{◌≡◌, refl, sym, ap, ◌∙◌}
+use Rattle.std.proofs.Common.{◌≡◌, ◌∷◌, Some, refl, sym, ap, ◌∙◌}
 use Rattle.ic_link_ops.proofs.SequenceLemmas.{some_same}
 use Rattle.ic_raw.proofs.Doubly.{law}
 use Rattle.ic_raw.proofs.Lists.{inserted}
 use Rattle.ic_raw.proofs.Own.{put_in}
+use Rattle.ic_raw.specs.Touches.{sides}
+use Rattle.ic_raw.proofs.Touches.{touches_insert, touches_same}
 use Rattle.ic_raw.proofs.list.insert.Goals as goal
 
 pub returns-clause-inserted : goal.returns-clause-inserted
@@ -22,3 +24,12 @@ returns-clause-free c made =
 
 pub returns-clause-own : goal.returns-clause-own
 returns-clause-own c made = put_in (c.gap_at.ensures.sides _ c.in-Some.is) (c.acquire.ensures.same _ c.in-Some-acquire.is) c.insert_linked.ensures.ends
+
+pub returns-clause-touched : goal.returns-clause-touched
+returns-clause-touched c p made is =
+    let taken = c.in-Some-acquire.is in
+    let one : p ≡ c.in-Some-acquire.place = some_same (sym is ∙ c.acquire.ensures.same _ taken) in
+    let found = c.gap_at.ensures.sides _ c.in-Some.is in
+    let put = c.insert_linked.ensures in
+    rw one (touches_same (λ k. Some c.in-Some-acquire.place ∷ sides (found k))
+    (touches_insert (c.acquire.ensures.free _ taken) (c.acquire.ensures.linked _ taken) (c.acquire.ensures.frame _ taken) put.no_step put.others))

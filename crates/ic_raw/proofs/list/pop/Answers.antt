@@ -1,9 +1,11 @@
-use Rattle.std.proofs.Common.{◌≡◌, Some, sym, ap, ◌∙◌, subst}
+use Rattle.std.proofs.Common.{◌≡◌, ◌∷◌, Some, sym, ap, ◌∙◌, subst}
 use Rattle.ic_link_ops.proofs.SequenceLemmas.{some_same}
 use Rattle.ic_raw.proofs.Lists.{removed}
 use Rattle.ic_raw.specs.Doubly.{around, lent_table}
 use Rattle.ic_raw.specs.Gaps.{TakenOut}
 use Rattle.ic_raw.proofs.Own.{taken_out}
+use Rattle.ic_raw.specs.Touches.{sides}
+use Rattle.ic_raw.proofs.Touches.{touches_remove, touches_same}
 use Rattle.ic_raw.proofs.list.pop.Goals as goal
 
 pub returns-clause-popped : goal.returns-clause-popped
@@ -23,3 +25,10 @@ pub returns-clause-own : goal.returns-clause-own
 returns-clause-own c p is =
     subst (λ q. TakenOut (around (lent_table c.args.links.now) c.args.list.now (Some q)) c.args.list.now c.bypass.new.self) (some_same is)
     (taken_out (c.end_at.ensures.sides _ _ c.in-Some.is) c.bypass.ensures.ends)
+
+pub returns-clause-touched : goal.returns-clause-touched
+returns-clause-touched c p is =
+    let found = c.end_at.ensures.sides _ _ c.in-Some.is in
+    let off = c.bypass.ensures in
+    let released = c.release_link.ensures in
+    rw (← some_same is) (touches_same (λ k. Some c.in-Some.member ∷ sides (found k)) (touches_remove off.no_step off.others released.released released.frame))

@@ -1,4 +1,4 @@
-use Rattle.std.proofs.Common.{◌≡◌, Some, None, [], refl, sym, subst, ◌∙◌}
+use Rattle.std.proofs.Common.{◌≡◌, ◌∷◌, Some, None, [], refl, sym, subst, ◌∙◌}
 use Rattle.ic_link_ops.proofs.SequenceLemmas.{some_same}
 use Rattle.ic_link_ops.proofs.ShownLists.{shows_middle}
 use Rattle.ic_raw.specs.declared.gap.Side.TheVariants.{After}
@@ -7,6 +7,7 @@ use Rattle.ic_raw.proofs.Doubly.{told_after}
 use Rattle.ic_raw.proofs.Lists.{removed}
 use Rattle.ic_raw.specs.Gaps.{TakenOut}
 use Rattle.ic_raw.proofs.Own.{sides_are, taken_out}
+use Rattle.ic_raw.proofs.Touches.{touches_remove, touches_same}
 use Rattle.ic_raw.proofs.list.pop_before_second.Goals as goal
 
 pub returns-clause-removed : goal.returns-clause-removed
@@ -42,3 +43,11 @@ returns-clause-inner c q is =
     told_after (lent_table c.args.links.now) c.args.list.now (Some c.in-Some.first) (Some c.in-Some-next.second) (sym c.next.ensures ∙ c.in-Some-next.is)
     (c.is_behind-2.ensures.stands c.if-not-is_behind-2.false) (c.is_behind-2.ensures.prev c.if-not-is_behind-2.false) in
     subst (λ p. TellsGap After (lent_table c.args.links.now) c.args.list.now (Some p)) (some_same is) told
+
+pub returns-clause-touched : goal.returns-clause-touched
+returns-clause-touched c q is =
+    let prev = sym (c.is_behind.ensures.prev c.if-not-is_behind.false) in
+    let next = sym c.in-Some-next.is ∙ c.next.ensures in
+    let off = c.bypass.ensures in
+    let released = c.release_link.ensures in
+    rw (← some_same is) (touches_same (λ k. Some c.in-Some.first ∷ prev k ∷ next k ∷ []) (touches_remove off.no_step off.others released.released released.frame))

@@ -1,9 +1,11 @@
-use Rattle.std.proofs.Common.{◌≡◌, [], refl, sym, ap, ◌∙◌}
+use Rattle.std.proofs.Common.{◌≡◌, [], ◌∷◌, Some, refl, sym, ap, ◌∙◌}
 use Rattle.ic_link_ops.specs.Sequences.{at_back, join}
 use Rattle.ic_link_ops.proofs.SequenceLemmas.{some_same, last_of_front}
 use Rattle.ic_raw.proofs.Doubly.{law}
 use Rattle.ic_raw.proofs.Lists.{inserted}
 use Rattle.ic_raw.proofs.Own.{put_in, end_stays}
+use Rattle.ic_raw.specs.Touches.{sides}
+use Rattle.ic_raw.proofs.Touches.{touches_insert, touches_same}
 use Rattle.ic_raw.proofs.list.push_behind_last.Goals as goal
 
 pub returns-clause-inserted : goal.returns-clause-inserted
@@ -26,3 +28,12 @@ returns-clause-head c made =
 pub returns-clause-free : goal.returns-clause-free
 returns-clause-free c made =
     let taken = c.in-Some-acquire.is in (c.in-Some-acquire.place, c.acquire.ensures.same _ taken, c.acquire.ensures.free _ taken)
+
+pub returns-clause-touched : goal.returns-clause-touched
+returns-clause-touched c p made is =
+    let taken = c.in-Some-acquire.is in
+    let one : p ≡ c.in-Some-acquire.place = some_same (sym is ∙ c.acquire.ensures.same _ taken) in
+    let found = c.gap_at_end.ensures.sides _ c.in-Some.is in
+    let put = c.insert_linked.ensures in
+    rw one (touches_same (λ k. Some c.in-Some-acquire.place ∷ sides (found k))
+    (touches_insert (c.acquire.ensures.free _ taken) (c.acquire.ensures.linked _ taken) (c.acquire.ensures.frame _ taken) put.no_step put.others))

@@ -1,7 +1,9 @@
-use Rattle.std.proofs.Common.{refl, sym, ap, ◌∙◌}
+use Rattle.std.proofs.Common.{◌∷◌, Some, refl, sym, ap, ◌∙◌}
 use Rattle.ic_link_ops.proofs.SequenceLemmas.{some_same}
 use Rattle.ic_raw.proofs.Lists.{removed}
 use Rattle.ic_raw.proofs.Own.{taken_out}
+use Rattle.ic_raw.specs.Touches.{sides}
+use Rattle.ic_raw.proofs.Touches.{touches_remove, touches_same}
 use Rattle.ic_raw.proofs.list.remove.Goals as goal
 
 pub returns-clause-removed : goal.returns-clause-removed
@@ -16,3 +18,10 @@ returns-clause-removed c front back shown =
 
 pub returns-clause-own : goal.returns-clause-own
 returns-clause-own c made = taken_out (c.beside.ensures.sides _ c.in-Some.is) c.bypass.ensures.ends
+
+pub returns-clause-touched : goal.returns-clause-touched
+returns-clause-touched c made =
+    let found = c.beside.ensures.sides _ c.in-Some.is in
+    let off = c.bypass.ensures in
+    let released = c.release_link.ensures in
+    touches_same (λ k. Some c.args.member ∷ sides (found k)) (touches_remove off.no_step off.others released.released released.frame)

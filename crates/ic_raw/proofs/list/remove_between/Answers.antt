@@ -1,7 +1,9 @@
-use Rattle.std.proofs.Common.{◌∷◌, sym, ap, ◌∙◌}
+use Rattle.std.proofs.Common.{◌∷◌, Some, sym, ap, ◌∙◌}
 use Rattle.ic_raw.proofs.Doubly.{first_kept, last_kept}
 use Rattle.ic_raw.proofs.Lists.{removed}
 use Rattle.ic_raw.proofs.Own.{end_stays}
+use Rattle.ic_raw.specs.Touches.{sides}
+use Rattle.ic_raw.proofs.Touches.{touches_remove, touches_same}
 use Rattle.ic_raw.proofs.list.remove_between.Goals as goal
 
 pub returns-clause-removed : goal.returns-clause-removed
@@ -42,3 +44,10 @@ returns-clause-own c made =
       head = sym (end_stays _ (sym (ap (λ g. g.before) sides) ∙ (c.between.ensures.prev _ found).1));
       tail = sym (end_stays _ (sym (ap (λ g. g.behind) sides) ∙ (c.between.ensures.next _ found).1));
     }
+
+pub returns-clause-touched : goal.returns-clause-touched
+returns-clause-touched c made =
+    let found = c.between.ensures.sides _ c.args.list.now c.in-Some.is in
+    let off = c.bypass.ensures in
+    let released = c.release_link.ensures in
+    touches_same (λ k. Some c.args.member ∷ sides (found k)) (touches_remove off.no_step off.others released.released released.frame)

@@ -1,5 +1,7 @@
 use Rattle.std.proofs.Common.{ap}
 use Rattle.ic_link_ops.proofs.SequenceLemmas.{absent_turned}
+use Rattle.ic_raw.proofs.Ends.{cut_at}
+use Rattle.ic_raw.proofs.Touches.{touches_split}
 use Rattle.ic_raw.proofs.list.split.Goals as goal
 
 pub returns-in-After-clause-split : goal.returns-in-After-clause-split
@@ -14,3 +16,15 @@ returns-in-Before-clause-split c cut shown gap =
       hands_out = rw c.replace.ensures.value split.keeps;
       frame = record { extent = split.frame.extent; others = λ q out. split.frame.others q (absent_turned q cut.front cut.back out) };
     })
+
+pub returns-in-After-clause-touched : goal.returns-in-After-clause-touched
+returns-in-After-clause-touched c = touches_split c.split_between-back.ensures.no_step c.split_between-back.ensures.others
+
+pub returns-in-Before-clause-touched : goal.returns-in-Before-clause-touched
+returns-in-Before-clause-touched c = touches_split c.split_between-back.ensures.no_step c.split_between-back.ensures.others
+
+pub returns-in-After-clause-own : goal.returns-in-After-clause-own
+returns-in-After-clause-own c = rw c.in-After.is (cut_at c.split_between-back.ensures.ends)
+
+pub returns-in-Before-clause-own : goal.returns-in-Before-clause-own
+returns-in-Before-clause-own c = rw (c.in-Before.is, c.replace.ensures.after, c.replace.ensures.value) (cut_at c.split_between-back.ensures.ends)

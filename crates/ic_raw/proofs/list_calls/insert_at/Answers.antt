@@ -1,8 +1,11 @@
-use Rattle.std.proofs.Common.{refl, ◌∙◌, rules}
+use Rattle.std.proofs.Common.{◌∷◌, Some, refl, ◌∙◌, rules}
+use Rattle.ic_raw.specs.Touches.{sides}
 use Rattle.ic_raw.specs.Words.{no_words}
+use Rattle.ic_raw.proofs.Doubly.{gap_viewed}
 use Rattle.ic_raw.proofs.Gaps.{never}
 use Rattle.ic_raw.proofs.Views.{free_viewed, viewed, inserted_back}
 use Rattle.ic_raw.proofs.Lists.{kept}
+use Rattle.ic_raw.proofs.Touches.{touched_back}
 use Rattle.ic_raw.proofs.list_calls.insert_at.Goals as goal
 
 pub returns-then-not-insert : goal.returns-then-not-insert
@@ -17,6 +20,7 @@ returns-then-not-insert c = record {
   stands = search rules;
   told = search rules;
   own = search rules;
+  touched = search rules;
   words = search rules;
   refused = search rules;
   why = search rules;
@@ -35,6 +39,10 @@ returns c = record {
   stands = search rules;
   told = search rules;
   own = search rules;
+  touched = λ p is made.
+      let gap = gap_viewed c.args.side c.new-links.result c.new-links.ensures.1 c.list_of-edited.ensures c.place_of.ensures refl in
+      touched_back no_words c.new-links.result c.insert.new.links c.new-links.ensures.1 (search rules) (λ k. Some p ∷ sides (gap k))
+      (c.insert.ensures.touched p c.if-not-insert.false (c.place_of-2.ensures ∙ is));
   words = search rules;
   refused = search rules;
   why = search rules;

@@ -1,8 +1,10 @@
-use Rattle.std.proofs.Common.{sym, ap, ◌∙◌, subst, rules}
+use Rattle.std.proofs.Common.{◌∷◌, Some, refl, sym, ap, ◌∙◌, subst, rules}
 use Rattle.ic_link_ops.proofs.SequenceLemmas.{some_same}
-use Rattle.ic_raw.specs.Words.{HasNumber}
+use Rattle.ic_raw.specs.Words.{HasNumber, no_words}
 use Rattle.ic_raw.specs.Doubly.{TellsGap, end_on, table_of, ends_of}
-use Rattle.ic_raw.proofs.Doubly.{told_back}
+use Rattle.ic_raw.specs.Touches.{sides}
+use Rattle.ic_raw.proofs.Doubly.{around_viewed, told_back}
+use Rattle.ic_raw.proofs.Touches.{touched_back}
 use Rattle.ic_raw.proofs.list_calls.pop.Goals as goal
 
 pub returns : goal.returns
@@ -22,6 +24,11 @@ returns c = record {
       subst (λ at. TellsGap side (table_of c.args.table.now) list at) (sym end)
       (told_back side c.new-links.result list _ c.new-links.ensures.1 (rw (← c.list_of-edited.ensures) told));
   own = search rules;
+  touched = λ p is made.
+      let end = sym (ap (λ l. end_on c.args.side l) c.list_of-edited.ensures) ∙ c.pop.ensures.end _ c.in-Some.is in
+      let gap = around_viewed c.new-links.result {at = Some c.in-Some.member} c.new-links.ensures.1 c.list_of-edited.ensures refl refl in
+      rw (some_same (sym is ∙ end)) (touched_back no_words c.new-links.result c.pop.new.links c.new-links.ensures.1 (search rules)
+      (λ k. Some c.in-Some.member ∷ sides (gap k)) (c.pop.ensures.touched _ c.in-Some.is));
   words = search rules;
   refused = search rules;
   why = search rules;

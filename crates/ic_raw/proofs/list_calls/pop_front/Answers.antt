@@ -1,12 +1,15 @@
-use Rattle.std.proofs.Common.{◌∷◌, refl, sym, ap, ◌∙◌, subst, rules}
+use Rattle.std.proofs.Common.{◌∷◌, Some, refl, sym, ap, ◌∙◌, subst, rules}
 use Rattle.ic_link_ops.specs.Chains.{Ends}
 use Rattle.ic_link_ops.proofs.SequenceLemmas.{some_same}
 use Rattle.ic_raw.specs.declared.gap.Side.TheVariants.{After}
 use Rattle.ic_raw.specs.Words.{no_words, is_linked_two, HasNumber}
 use Rattle.ic_raw.specs.Doubly.{Shows, lent_table}
 use Rattle.ic_raw.specs.ListCalls.{PopCall}
+use Rattle.ic_raw.specs.Touches.{sides}
+use Rattle.ic_raw.proofs.Doubly.{around_viewed}
 use Rattle.ic_raw.proofs.Views.{viewed, removed_back, unlinked_back, renamed}
 use Rattle.ic_raw.proofs.Lists.{kept}
+use Rattle.ic_raw.proofs.Touches.{touched_back}
 use Rattle.ic_raw.proofs.list_calls.pop_front.Goals as goal
 
 pub returns-in-Some : goal.returns-in-Some
@@ -35,6 +38,11 @@ returns-in-Some c = record {
   outer = search rules;
   inner = search rules;
   own = search rules;
+  touched = λ p is made.
+      let first = sym (ap (λ (e : Ends). e.head) c.list_of-edited.ensures) ∙ c.pop_before_second.ensures.first _ c.in-Some.is in
+      let gap = around_viewed c.new-links.result {at = Some c.in-Some.first} c.new-links.ensures.1 c.list_of-edited.ensures refl refl in
+      rw (some_same (sym is ∙ first)) (touched_back no_words c.new-links.result c.pop_before_second.new.links c.new-links.ensures.1 (search rules)
+      (λ k. Some c.in-Some.first ∷ sides (gap k)) (c.pop_before_second.ensures.touched _ c.in-Some.is));
   words = search rules;
   refused = search rules;
   why = search rules;

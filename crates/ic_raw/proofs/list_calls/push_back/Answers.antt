@@ -1,13 +1,15 @@
-use Rattle.std.proofs.Common.{◌≡◌, None, refl, sym, ap, ◌∙◌, rules}
+use Rattle.std.proofs.Common.{◌≡◌, ◌∷◌, None, Some, refl, sym, ap, ◌∙◌, rules}
 use Rattle.ic_link_ops.specs.Chains.{Ends}
 use Rattle.ic_link_ops.specs.Sequences.{at_back, join}
 use Rattle.ic_raw.specs.declared.gap.Side.TheVariants.{Before}
 use Rattle.ic_raw.specs.Words.{no_words, place_of}
 use Rattle.ic_raw.specs.Doubly.{Shows, ShowsList, lent_table}
 use Rattle.ic_raw.specs.ListCalls.{InsertCall}
-use Rattle.ic_raw.proofs.Doubly.{at_end}
+use Rattle.ic_raw.specs.Touches.{sides}
+use Rattle.ic_raw.proofs.Doubly.{at_end, gap_viewed}
 use Rattle.ic_raw.proofs.Views.{viewed, inserted_back, renamed}
 use Rattle.ic_raw.proofs.Lists.{kept}
+use Rattle.ic_raw.proofs.Touches.{touched_back}
 use Rattle.ic_raw.proofs.list_calls.push_back.Goals as goal
 
 pub returns-then-push_behind_last : goal.returns-then-push_behind_last
@@ -30,6 +32,10 @@ returns-then-push_behind_last c = record {
   stands = search rules;
   told = search rules;
   own = search rules;
+  touched = λ p is made.
+      let gap = gap_viewed Before c.new-links.result {at = None} c.new-links.ensures.1 c.list_of-edited.ensures refl refl in
+      touched_back no_words c.new-links.result c.push_behind_last.new.links c.new-links.ensures.1 (search rules) (λ k. Some p ∷ sides (gap k))
+      (c.push_behind_last.ensures.touched p c.if-push_behind_last.true (c.place_of.ensures ∙ is));
   words = search rules;
   refused = search rules;
   why = search rules;

@@ -1,9 +1,12 @@
-use Rattle.std.proofs.Common.{◌≡◌, refl, sym, ◌∙◌, rules}
+use Rattle.std.proofs.Common.{◌≡◌, ◌∷◌, Some, refl, sym, ◌∙◌, rules}
 use Rattle.ic_link_ops.proofs.SequenceLemmas.{some_same}
 use Rattle.ic_raw.specs.Words.{no_words, is_linked_two}
+use Rattle.ic_raw.specs.Touches.{sides}
+use Rattle.ic_raw.proofs.Doubly.{around_viewed}
 use Rattle.ic_raw.proofs.Gaps.{never}
 use Rattle.ic_raw.proofs.Views.{free_viewed, viewed, replaced_back, unlinked_back}
 use Rattle.ic_raw.proofs.Lists.{kept}
+use Rattle.ic_raw.proofs.Touches.{touched_back}
 use Rattle.ic_raw.proofs.list_calls.replace.Goals as goal
 
 pub returns-then-not-replace : goal.returns-then-not-replace
@@ -22,6 +25,7 @@ returns-then-not-replace c = record {
   before = search rules;
   behind = search rules;
   own = search rules;
+  touched = search rules;
   words = search rules;
   refused = search rules;
   why = search rules;
@@ -50,6 +54,11 @@ returns c = record {
   before = search rules;
   behind = search rules;
   own = search rules;
+  touched = λ out p at is made.
+      let one : out ≡ c.in-Some.member = some_same (sym at ∙ sym c.place_of.ensures ∙ c.in-Some.is) in
+      let gap = around_viewed c.new-links.result c.new-links.ensures.1 c.list_of-edited.ensures (sym c.in-Some.is ∙ c.place_of.ensures) refl in
+      rw one (touched_back no_words c.new-links.result c.replace.new.links c.new-links.ensures.1 (search rules) (λ k. Some p ∷ Some c.in-Some.member ∷ sides (gap k))
+      (c.replace.ensures.touched p c.if-not-replace.false (c.place_of-2.ensures ∙ is)));
   words = search rules;
   refused = search rules;
   why = search rules;

@@ -1,11 +1,15 @@
 use Rattle.std.proofs.Common.{sym, ◌∙◌, rules}
 use Rattle.ic_link_ops.specs.Sequences.{join}
 use Rattle.ic_link_ops.proofs.SequenceLemmas.{some_same}
+use Rattle.ic_raw.specs.Touches.{sides}
 use Rattle.ic_raw.specs.Words.{no_words}
 use Rattle.ic_raw.specs.Doubly.{Shows, lent_table}
-use Rattle.ic_raw.proofs.Doubly.{split_back}
+use Rattle.ic_raw.proofs.Doubly.{gap_viewed, split_back, told_viewed}
+use Rattle.ic_raw.proofs.Ends.{cut_same}
+use Rattle.ic_raw.proofs.Moves.{stands_back}
 use Rattle.ic_raw.proofs.Views.{viewed}
 use Rattle.ic_raw.proofs.Lists.{kept}
+use Rattle.ic_raw.proofs.Touches.{touched_back}
 use Rattle.ic_raw.proofs.list_calls.split_any.Goals as goal
 
 pub returns-in-Some : goal.returns-in-Some
@@ -16,8 +20,14 @@ returns-in-Some c = record {
       let seen : Shows (lent_table c.new-links.result) c.list_of-edited.result (join cut) = rw c.list_of-edited.ensures (viewed no_words kept c.new-links.result view shown) in
       c.split-part.ensures.split cut seen (some_same (sym c.in-Some.is ∙ c.gap_at.ensures.shown cut seen (rw c.place_of.ensures beside))));
   empty = search rules;
-  stands = search rules;
-  told = search rules;
+  stands = λ made. stands_back c.new-links.result c.new-links.ensures.1 c.place_of.ensures (c.gap_at.ensures.at _ c.in-Some.is);
+  told = λ made. told_viewed c.args.side c.new-links.result c.new-links.ensures.1 c.list_of-edited.ensures c.place_of.ensures (c.gap_at.ensures.told _ c.in-Some.is);
+  touched = λ made.
+      let gap = gap_viewed c.args.side c.new-links.result c.new-links.ensures.1 c.list_of-edited.ensures c.place_of.ensures (c.gap_at.ensures.sides _ c.in-Some.is) in
+      touched_back no_words c.new-links.result c.split-part.new.links c.new-links.ensures.1 (search rules) (λ k. sides (gap k)) c.split-part.ensures.touched;
+  own = λ made.
+      let gap = gap_viewed c.args.side c.new-links.result c.new-links.ensures.1 c.list_of-edited.ensures c.place_of.ensures (c.gap_at.ensures.sides _ c.in-Some.is) in
+      cut_same c.args.side gap (sym c.list_of-edited.ensures) c.write_back.ensures.set c.write_back-in-Some.ensures.set c.split-part.ensures.own;
   words = search rules;
   rest_words = search rules;
   refused = search rules;

@@ -1,11 +1,15 @@
 use Rattle.std.proofs.Common.{◌≡◌, inl, inr, Some, ◌∷◌, ◌++◌, refl, sym, ap, ◌∙◌, rules}
 use Rattle.ic_link_ops.proofs.SequenceLemmas.{some_same, none_not, distinct_middle}
+use Rattle.ic_raw.specs.declared.gap.Side.TheVariants.{After, Before}
+use Rattle.ic_raw.specs.Touches.{sides}
 use Rattle.ic_raw.specs.Words.{no_words}
 use Rattle.ic_raw.specs.Doubly.{Shows, lent_table}
+use Rattle.ic_raw.proofs.Doubly.{around_viewed, gap_viewed, told_viewed}
 use Rattle.ic_raw.proofs.Gaps.{never}
 use Rattle.ic_raw.proofs.Views.{viewed, inserted_back}
 use Rattle.ic_raw.proofs.Lists.{kept}
-use Rattle.ic_raw.proofs.Moves.{own_gap, gap_beside_itself, goes, stands_back}
+use Rattle.ic_raw.proofs.Touches.{touched_back, touches_nothing}
+use Rattle.ic_raw.proofs.Moves.{apart_same, moved_same, own_gap, gap_beside_itself, goes, stands_back}
 use Rattle.ic_raw.proofs.move_calls.move_any.Goals as goal
 
 pub returns-in_default-gaps_to_move : goal.returns-in_default-gaps_to_move
@@ -36,6 +40,9 @@ returns-in_default-gaps_to_move c = record {
   before = search rules;
   behind = search rules;
   linked = search rules;
+  touched = search rules;
+  own = search rules;
+  stays = search rules;
   words = search rules;
   refused = search rules;
   why = search rules;
@@ -62,11 +69,18 @@ returns-then-not-is_apart c = record {
   there = search rules;
   null = search rules;
   stands = λ made. stands_back c.new-links.result c.new-links.ensures.1 c.place_of-2.ensures (c.gaps_to_move.ensures.at _ _ c.in-Some-gaps_to_move.is);
-  told = search rules;
+  told = λ made. told_viewed c.args.side c.new-links.result c.new-links.ensures.1 c.list_of-edited.ensures c.place_of-2.ensures (c.gaps_to_move.ensures.told _ _ c.in-Some-gaps_to_move.is);
   member = λ made. stands_back c.new-links.result c.new-links.ensures.1 (sym c.in-Some.is ∙ c.place_of.ensures) (c.gaps_to_move.ensures.member _ _ c.in-Some-gaps_to_move.is);
-  before = search rules;
-  behind = search rules;
+  before = λ made. told_viewed Before c.new-links.result c.new-links.ensures.1 c.list_of-edited.ensures (sym c.in-Some.is ∙ c.place_of.ensures) (c.gaps_to_move.ensures.before _ _ c.in-Some-gaps_to_move.is);
+  behind = λ made. told_viewed After c.new-links.result c.new-links.ensures.1 c.list_of-edited.ensures (sym c.in-Some.is ∙ c.place_of.ensures) (c.gaps_to_move.ensures.behind _ _ c.in-Some-gaps_to_move.is);
   linked = search rules;
+  touched = λ made. touches_nothing (search rules);
+  own = λ p is made apart.
+      let one : p ≡ c.in-Some.member = some_same (sym is ∙ sym c.place_of.ensures ∙ c.in-Some.is) in
+      let gaps = c.gaps_to_move.ensures.sides _ _ c.in-Some-gaps_to_move.is in
+      let to = gap_viewed c.args.side c.new-links.result c.new-links.ensures.1 c.list_of-edited.ensures c.place_of-2.ensures gaps.1 in
+      absurd (never c.if-not-is_apart.true (c.is_apart.ensures.1 (apart_same to one apart)));
+  stays = search rules;
   words = search rules;
   refused = search rules;
   why = search rules;
@@ -104,11 +118,29 @@ returns c = record {
       absurd (gap.2 (rw (ap (λ m. m.1) found) at (c.is_apart.ensures.0 c.if-not-is_apart.false)));
   null = search rules;
   stands = λ made. stands_back c.new-links.result c.new-links.ensures.1 c.place_of-2.ensures (c.gaps_to_move.ensures.at _ _ c.in-Some-gaps_to_move.is);
-  told = search rules;
+  told = λ made. told_viewed c.args.side c.new-links.result c.new-links.ensures.1 c.list_of-edited.ensures c.place_of-2.ensures (c.gaps_to_move.ensures.told _ _ c.in-Some-gaps_to_move.is);
   member = λ made. stands_back c.new-links.result c.new-links.ensures.1 (sym c.in-Some.is ∙ c.place_of.ensures) (c.gaps_to_move.ensures.member _ _ c.in-Some-gaps_to_move.is);
-  before = search rules;
-  behind = search rules;
+  before = λ made. told_viewed Before c.new-links.result c.new-links.ensures.1 c.list_of-edited.ensures (sym c.in-Some.is ∙ c.place_of.ensures) (c.gaps_to_move.ensures.before _ _ c.in-Some-gaps_to_move.is);
+  behind = λ made. told_viewed After c.new-links.result c.new-links.ensures.1 c.list_of-edited.ensures (sym c.in-Some.is ∙ c.place_of.ensures) (c.gaps_to_move.ensures.behind _ _ c.in-Some-gaps_to_move.is);
   linked = search rules;
+  touched = λ made.
+      let member = sym c.in-Some.is ∙ c.place_of.ensures in
+      let gaps = c.gaps_to_move.ensures.sides _ _ c.in-Some-gaps_to_move.is in
+      let from = around_viewed c.new-links.result c.new-links.ensures.1 c.list_of-edited.ensures member gaps.0 in
+      let to = gap_viewed c.args.side c.new-links.result c.new-links.ensures.1 c.list_of-edited.ensures c.place_of-2.ensures gaps.1 in
+      touched_back no_words c.new-links.result c.relocate.new.links c.new-links.ensures.1 (search rules)
+      (λ k. (sym member k) ∷ sides (from k) ++ sides (to k)) c.relocate.ensures.touched;
+  own = λ p is made apart.
+      let member = sym c.in-Some.is ∙ c.place_of.ensures in
+      let gaps = c.gaps_to_move.ensures.sides _ _ c.in-Some-gaps_to_move.is in
+      let from = around_viewed c.new-links.result c.new-links.ensures.1 c.list_of-edited.ensures member gaps.0 in
+      let to = gap_viewed c.args.side c.new-links.result c.new-links.ensures.1 c.list_of-edited.ensures c.place_of-2.ensures gaps.1 in
+      moved_same from (sym member) to (sym c.list_of-edited.ensures) c.write_back.ensures.set c.relocate.ensures.own;
+  stays = λ p is made near.
+      let one : p ≡ c.in-Some.member = some_same (sym is ∙ sym c.place_of.ensures ∙ c.in-Some.is) in
+      let gaps = c.gaps_to_move.ensures.sides _ _ c.in-Some-gaps_to_move.is in
+      let to = gap_viewed c.args.side c.new-links.result c.new-links.ensures.1 c.list_of-edited.ensures c.place_of-2.ensures gaps.1 in
+      absurd (near (apart_same (sym to) (sym one) (c.is_apart.ensures.0 c.if-not-is_apart.false)));
   words = search rules;
   refused = search rules;
   why = search rules;

@@ -1,13 +1,16 @@
 use Rattle.std.proofs.Common.{◌≡◌, inl, inr, Some, ◌∷◌, ◌++◌, refl, sym, ap, subst, ◌∙◌, rules}
 use Rattle.ic_link_ops.proofs.SequenceLemmas.{some_same, distinct_middle}
 use Rattle.ic_raw.specs.declared.gap.Side.TheVariants.{After, Before}
+use Rattle.ic_raw.specs.Touches.{sides}
 use Rattle.ic_raw.specs.Words.{no_words, place_of}
 use Rattle.ic_raw.specs.Doubly.{Shows, TellsGap, ends_of, lent_table}
-use Rattle.ic_raw.proofs.Doubly.{told_back}
+use Rattle.ic_raw.specs.ListCalls.{MoveCall}
+use Rattle.ic_raw.proofs.Doubly.{around_viewed, gap_viewed, told_back}
 use Rattle.ic_raw.proofs.Gaps.{never}
-use Rattle.ic_raw.proofs.Views.{viewed, inserted_back}
+use Rattle.ic_raw.proofs.Views.{viewed, inserted_back, renamed}
 use Rattle.ic_raw.proofs.Lists.{kept}
-use Rattle.ic_raw.proofs.Moves.{own_gap, gap_beside_itself, goes, stands_back}
+use Rattle.ic_raw.proofs.Touches.{touched_back, touches_nothing}
+use Rattle.ic_raw.proofs.Moves.{apart_same, moved_same, own_gap, gap_beside_itself, goes, stands_back}
 use Rattle.ic_raw.proofs.move_calls.move_at.Goals as goal
 
 pub returns-then-not-is_apart : goal.returns-then-not-is_apart
@@ -46,6 +49,13 @@ returns-then-not-is_apart c = record {
       told_back After c.new-links.result list (place_of c.args.place) c.new-links.ensures.1
       (subst (λ at. TellsGap After (lent_table c.new-links.result) list at) (sym c.in-Some.is ∙ c.place_of.ensures) told);
   linked = search rules;
+  touched = λ made. touches_nothing (search rules);
+  own = λ p is made apart.
+      let one : p ≡ c.in-Some.member = some_same (sym is ∙ sym c.place_of.ensures ∙ c.in-Some.is) in
+      let gaps = c.gaps_inside.ensures.sides _ _ (ends_of c.args.list.now) c.in-Some-gaps_inside.is in
+      let to = gap_viewed c.args.side c.new-links.result c.new-links.ensures.1 refl c.place_of-2.ensures gaps.1 in
+      absurd (never c.if-not-is_apart.true (c.is_apart.ensures.1 (apart_same to one apart)));
+  stays = search rules;
   words = search rules;
   refused = search rules;
   why = search rules;
@@ -99,6 +109,24 @@ returns c = record {
       told_back After c.new-links.result list (place_of c.args.place) c.new-links.ensures.1
       (subst (λ at. TellsGap After (lent_table c.new-links.result) list at) (sym c.in-Some.is ∙ c.place_of.ensures) told);
   linked = search rules;
+  touched = λ made.
+      let member = sym c.in-Some.is ∙ c.place_of.ensures in
+      let gaps = c.gaps_inside.ensures.sides _ _ (ends_of c.args.list.now) c.in-Some-gaps_inside.is in
+      let from = around_viewed c.new-links.result c.new-links.ensures.1 refl member gaps.0 in
+      let to = gap_viewed c.args.side c.new-links.result c.new-links.ensures.1 refl c.place_of-2.ensures gaps.1 in
+      touched_back no_words c.new-links.result c.relocate.new.links c.new-links.ensures.1 (search rules)
+      (λ k. (sym member k) ∷ sides (from k) ++ sides (to k)) c.relocate.ensures.touched;
+  own = λ p is made apart.
+      let member = sym c.in-Some.is ∙ c.place_of.ensures in
+      let gaps = c.gaps_inside.ensures.sides _ _ (ends_of c.args.list.now) c.in-Some-gaps_inside.is in
+      let from = around_viewed c.new-links.result c.new-links.ensures.1 refl member gaps.0 in
+      let to = gap_viewed c.args.side c.new-links.result c.new-links.ensures.1 refl c.place_of-2.ensures gaps.1 in
+      moved_same from (sym member) to (sym c.list_of-edited.ensures) c.write_back.ensures.set c.relocate.ensures.own;
+  stays = λ p is made near.
+      let one : p ≡ c.in-Some.member = some_same (sym is ∙ sym c.place_of.ensures ∙ c.in-Some.is) in
+      let gaps = c.gaps_inside.ensures.sides _ _ (ends_of c.args.list.now) c.in-Some-gaps_inside.is in
+      let to = gap_viewed c.args.side c.new-links.result c.new-links.ensures.1 refl c.place_of-2.ensures gaps.1 in
+      absurd (near (apart_same (sym to) (sym one) (c.is_apart.ensures.0 c.if-not-is_apart.false)));
   words = search rules;
   refused = search rules;
   why = search rules;
@@ -106,21 +134,6 @@ returns c = record {
 }
 
 pub returns-in_default-gaps_inside : goal.returns-in_default-gaps_inside
-returns-in_default-gaps_inside c = record {
-  moved = λ cut front back p beside is same.
-      let done = c.move_any.ensures.moved cut front back p beside is same in
-      search (rules, done);
-  itself = search rules;
-  there = search rules;
-  null = search rules;
-  stands = search rules;
-  told = search rules;
-  member = search rules;
-  before = search rules;
-  behind = search rules;
-  linked = search rules;
-  words = search rules;
-  refused = search rules;
-  why = search rules;
-  is_status = search rules;
-}
+returns-in_default-gaps_inside c =
+    renamed (λ old new. MoveCall old new c.args.list.now c.move_any.new.list c.move_any.result c.args.side (place_of c.args.at) (place_of c.args.place)) c.new-links.ensures.1 (search rules)
+    c.move_any.ensures

@@ -2,12 +2,14 @@ use Rattle.std.proofs.Common.{◌≡◌, Some, ◌∷◌, ◌++◌, refl, sym, a
 use Rattle.ic_link_ops.proofs.SequenceLemmas.{some_same}
 use Rattle.ic_raw.specs.Gaps.{outermost, toward}
 use Rattle.ic_raw.specs.declared.gap.Side.TheVariants.{After, Before}
+use Rattle.ic_raw.specs.Touches.{sides}
 use Rattle.ic_raw.specs.Words.{no_words, place_of}
 use Rattle.ic_raw.specs.Doubly.{Shows, TellsGap, end_on, ends_of, lent_table}
-use Rattle.ic_raw.proofs.Doubly.{told_back}
+use Rattle.ic_raw.proofs.Doubly.{around_viewed, gap_viewed, told_back, told_viewed}
 use Rattle.ic_raw.proofs.Views.{viewed, inserted_back}
 use Rattle.ic_raw.proofs.Lists.{kept}
-use Rattle.ic_raw.proofs.Moves.{ends, end_inserted, end_left, outermost_whole, not_inner, stands_at_end, toward_either}
+use Rattle.ic_raw.proofs.Touches.{touched_back, touches_nothing}
+use Rattle.ic_raw.proofs.Moves.{moved_same, has_one_beyond, ends, end_inserted, end_left, outermost_whole, not_inner, stands_at_end, stands_back, toward_either}
 use Rattle.ic_raw.proofs.move_calls.move_to_end.Goals as goal
 
 pub returns-in-Some-gap_at_end : goal.returns-in-Some-gap_at_end
@@ -33,8 +35,8 @@ returns-in-Some-gap_at_end c = record {
       let from = c.between.ensures.shown _ c.list_of-edited.result front back found seen in
       absurd (not_inner side front back end (sym (toward_either side _ (c.between.ensures.prev _ found) (c.between.ensures.next _ found)).1 ∙ ap (toward side) from));
   null = search rules;
-  told = search rules;
-  member = search rules;
+  told = λ made. told_viewed c.args.side c.new-links.result c.new-links.ensures.1 c.list_of-edited.ensures refl (c.gap_at_end.ensures.told _ c.in-Some-gap_at_end.is);
+  member = λ made. stands_back c.new-links.result c.new-links.ensures.1 (sym c.in-Some.is ∙ c.place_of.ensures) (c.between.ensures.member _ c.in-Some-between.is);
   before = λ made.
       let list = ends_of c.args.list.now in
       let told = c.between.ensures.before _ list c.in-Some-between.is in
@@ -46,6 +48,25 @@ returns-in-Some-gap_at_end c = record {
       told_back After c.new-links.result list (place_of c.args.place) c.new-links.ensures.1
       (subst (λ at. TellsGap After (lent_table c.new-links.result) list at) (sym c.in-Some.is ∙ c.place_of.ensures) told);
   linked = search rules;
+  touched = λ made.
+      let member = sym c.in-Some.is ∙ c.place_of.ensures in
+      let from = around_viewed c.new-links.result c.new-links.ensures.1 refl member (c.between.ensures.sides _ (ends_of c.args.list.now) c.in-Some-between.is) in
+      let to = gap_viewed c.args.side c.new-links.result c.new-links.ensures.1 c.list_of-edited.ensures refl (c.gap_at_end.ensures.sides _ c.in-Some-gap_at_end.is) in
+      touched_back no_words c.new-links.result c.relocate.new.links c.new-links.ensures.1 (search rules)
+      (λ k. (sym member k) ∷ sides (from k) ++ sides (to k)) c.relocate.ensures.touched;
+  own = λ p is made away.
+      let member = sym c.in-Some.is ∙ c.place_of.ensures in
+      let from = around_viewed c.new-links.result c.new-links.ensures.1 refl member (c.between.ensures.sides _ (ends_of c.args.list.now) c.in-Some-between.is) in
+      let to = gap_viewed c.args.side c.new-links.result c.new-links.ensures.1 c.list_of-edited.ensures refl (c.gap_at_end.ensures.sides _ c.in-Some-gap_at_end.is) in
+      moved_same from (sym member) to (sym c.list_of-edited.ensures) c.write_back.ensures.set c.relocate.ensures.own;
+  stays = λ p is made end.
+      let side = c.args.side in
+      let list = c.list_of-edited.result in
+      let one : p ≡ c.in-Some.member = some_same (sym is ∙ sym c.place_of.ensures ∙ c.in-Some.is) in
+      let found = c.in-Some-between.is in
+      let beyond = sym (ap (toward side) (c.between.ensures.sides _ list found)) ∙ (toward_either side _ (c.between.ensures.prev _ found) (c.between.ensures.next _ found)).1 in
+      absurd (has_one_beyond side (lent_table c.new-links.result) list (c.gap_at_end.ensures.told _ c.in-Some-gap_at_end.is) beyond
+      (ap (λ l. end_on side l) c.list_of-edited.ensures ∙ end ∙ ap (λ q. Some q) one));
   words = search rules;
   refused = search rules;
   why = search rules;
@@ -74,6 +95,12 @@ returns-then-is_at_end c = record {
   before = search rules;
   behind = search rules;
   linked = search rules;
+  touched = λ made. touches_nothing (search rules);
+  own = λ p is made away.
+      let side = c.args.side in
+      let one : p ≡ c.in-Some.member = some_same (sym is ∙ sym c.place_of.ensures ∙ c.in-Some.is) in
+      absurd (away (sym (ap (λ l. end_on side l) c.list_of-edited.ensures) ∙ c.is_at_end.ensures.end c.if-is_at_end.true ∙ ap (λ q. Some q) (sym one)));
+  stays = search rules;
   words = search rules;
   refused = search rules;
   why = search rules;

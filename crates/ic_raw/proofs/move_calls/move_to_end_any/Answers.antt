@@ -1,13 +1,17 @@
-use Rattle.std.proofs.Common.{◌≡◌, [], ◌∷◌, ◌++◌, refl, sym, ap, subst, ◌∙◌, rules}
+use Rattle.std.proofs.Common.{◌≡◌, Some, None, [], ◌∷◌, ◌++◌, refl, sym, ap, subst, ◌∙◌, rules}
 use Rattle.ic_link_ops.proofs.SequenceLemmas.{some_same}
 use Rattle.ic_raw.specs.Answers.{refusal}
-use Rattle.ic_raw.specs.Gaps.{outermost, toward}
-use Rattle.ic_raw.specs.Words.{no_words, place_of}
-use Rattle.ic_raw.specs.Doubly.{Shows, TellsGap, ends_of, fault_at, lent_table, table_of}
+use Rattle.ic_raw.specs.declared.gap.Side.TheVariants.{After, Before}
+use Rattle.ic_raw.specs.Gaps.{IsApart, IsMoved, outermost, toward}
+use Rattle.ic_raw.specs.Touches.{Touches, sides}
+use Rattle.ic_raw.specs.Words.{is_linked_two, no_words, place_of}
+use Rattle.ic_raw.specs.Doubly.{Shows, TellsGap, around, end_on, ends_of, fault_at, gap_from, lent_table, table_of}
+use Rattle.ic_raw.proofs.Doubly.{around_viewed, gap_viewed, told_viewed}
 use Rattle.ic_raw.proofs.Numbers.{none_named}
-use Rattle.ic_raw.proofs.Views.{viewed, inserted_back}
+use Rattle.ic_raw.proofs.Views.{viewed, inserted_back, renamed}
 use Rattle.ic_raw.proofs.Lists.{kept}
-use Rattle.ic_raw.proofs.Moves.{end_beside, end_left, not_inner, outermost_beside, outermost_whole}
+use Rattle.ic_raw.proofs.Touches.{touched_back}
+use Rattle.ic_raw.proofs.Moves.{apart_at_end, has_one_beyond, moved_same, not_apart_at_end, end_beside, end_left, not_inner, outermost_beside, outermost_whole, stands_back}
 use Rattle.ic_raw.proofs.move_calls.move_to_end_any.Goals as goal
 
 pub returns-in-Some-gap_at_end : goal.returns-in-Some-gap_at_end
@@ -32,11 +36,30 @@ returns-in-Some-gap_at_end c = record {
       let from = c.beside_other_end.ensures.shown _ front back found seen in
       absurd (not_inner c.args.side front back end (sym (c.beside_other_end.ensures.toward _ found).1 ∙ ap (toward c.args.side) from));
   null = search rules;
-  told = search rules;
-  member = search rules;
-  before = search rules;
-  behind = search rules;
+  told = λ made. told_viewed c.args.side c.new-links.result c.new-links.ensures.1 c.list_of-edited.ensures refl (c.gap_at_end.ensures.told _ c.in-Some-gap_at_end.is);
+  member = λ made. stands_back c.new-links.result c.new-links.ensures.1 (sym c.in-Some.is ∙ c.place_of.ensures) (c.beside_other_end.ensures.member _ c.in-Some-beside_other_end.is);
+  before = λ made. told_viewed Before c.new-links.result c.new-links.ensures.1 c.list_of-edited.ensures (sym c.in-Some.is ∙ c.place_of.ensures) (c.beside_other_end.ensures.before _ c.in-Some-beside_other_end.is);
+  behind = λ made. told_viewed After c.new-links.result c.new-links.ensures.1 c.list_of-edited.ensures (sym c.in-Some.is ∙ c.place_of.ensures) (c.beside_other_end.ensures.behind _ c.in-Some-beside_other_end.is);
   linked = search rules;
+  touched = λ made.
+      let member = sym c.in-Some.is ∙ c.place_of.ensures in
+      let from = around_viewed c.new-links.result c.new-links.ensures.1 c.list_of-edited.ensures member (c.beside_other_end.ensures.sides _ c.in-Some-beside_other_end.is) in
+      let to = gap_viewed c.args.side c.new-links.result c.new-links.ensures.1 c.list_of-edited.ensures refl (c.gap_at_end.ensures.sides _ c.in-Some-gap_at_end.is) in
+      touched_back no_words c.new-links.result c.relocate.new.links c.new-links.ensures.1 (search rules)
+      (λ k. (sym member k) ∷ sides (from k) ++ sides (to k)) c.relocate.ensures.touched;
+  own = λ p is made away.
+      let member = sym c.in-Some.is ∙ c.place_of.ensures in
+      let from = around_viewed c.new-links.result c.new-links.ensures.1 c.list_of-edited.ensures member (c.beside_other_end.ensures.sides _ c.in-Some-beside_other_end.is) in
+      let to = gap_viewed c.args.side c.new-links.result c.new-links.ensures.1 c.list_of-edited.ensures refl (c.gap_at_end.ensures.sides _ c.in-Some-gap_at_end.is) in
+      moved_same from (sym member) to (sym c.list_of-edited.ensures) c.write_back.ensures.set c.relocate.ensures.own;
+  stays = λ p is made end.
+      let side = c.args.side in
+      let list = c.list_of-edited.result in
+      let one : p ≡ c.in-Some.member = some_same (sym is ∙ sym c.place_of.ensures ∙ c.in-Some.is) in
+      let found = c.in-Some-beside_other_end.is in
+      let beyond = sym (ap (toward side) (c.beside_other_end.ensures.sides _ found)) ∙ (c.beside_other_end.ensures.toward _ found).1 in
+      absurd (has_one_beyond side (lent_table c.new-links.result) list (c.gap_at_end.ensures.told _ c.in-Some-gap_at_end.is) beyond
+      (ap (λ l. end_on side l) c.list_of-edited.ensures ∙ end ∙ ap (λ q. Some q) one));
   words = search rules;
   refused = search rules;
   why = search rules;
@@ -60,6 +83,27 @@ returns c = record {
   before = search rules;
   behind = search rules;
   linked = search rules;
+  touched = λ made.
+      let words = c.new-links.result.entries.now in
+      let list = ends_of c.args.list.now in
+      let at = place_of c.args.place in
+      renamed (λ old new. Touches is_linked_two (table_of old) (table_of new) [] (at ∷ sides (around (table_of old) list at) ++ sides (gap_from c.args.side (table_of old) list None)))
+      c.new-links.ensures.1 (search rules) (subst (λ end. Touches is_linked_two (table_of words) (table_of c.move_any.new.table) []
+      (at ∷ sides (around (table_of words) list at) ++ sides (gap_from c.args.side (table_of words) list end))) none_named (c.move_any.ensures.touched made));
+  own = λ p is made away.
+      let words = c.new-links.result.entries.now in
+      let list = ends_of c.args.list.now in
+      let at = place_of c.args.place in
+      let side = c.args.side in
+      subst (λ old. IsMoved (around (table_of old) list at) at (gap_from side (table_of old) list None) list (ends_of c.move_any.new.list)) c.new-links.ensures.1
+      (subst (λ end. IsApart (gap_from side (table_of words) list end) p → IsMoved (around (table_of words) list at) at (gap_from side (table_of words) list end) list (ends_of c.move_any.new.list))
+      none_named (c.move_any.ensures.own p is made) (apart_at_end side (table_of words) list away));
+  stays = λ p is made end'.
+      let words = c.new-links.result.entries.now in
+      let list = ends_of c.args.list.now in
+      let side = c.args.side in
+      renamed (λ old new. (new ≡ old) × (c.move_any.new.list ≡ c.args.list.now)) c.new-links.ensures.1 (search rules)
+      (subst (λ end. (IsApart (gap_from side (table_of words) list end) p → ⊥) → (c.move_any.new.table ≡ words) × (c.move_any.new.list ≡ c.args.list.now)) none_named (c.move_any.ensures.stays p is made) (not_apart_at_end side (table_of words) list end'));
   words = search rules;
   refused = search rules;
   why = λ refused named.

@@ -14,3 +14,8 @@ returns-clause-before c from to list is = c.between.ensures.before _ list c.in-S
 
 pub returns-clause-behind : goal.returns-clause-behind
 returns-clause-behind c from to list is = c.between.ensures.behind _ list c.in-Some.is
+
+pub returns-clause-sides : goal.returns-clause-sides
+returns-clause-sides c from to list is =
+    let both = some_same is in
+    (sym (ap (λ m. m.0) both) ∙ c.between.ensures.sides _ list c.in-Some.is, sym (ap (λ m. m.1) both) ∙ c.gap_inside.ensures.sides _ list c.in-Some-gap_inside.is)

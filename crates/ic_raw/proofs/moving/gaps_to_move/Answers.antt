@@ -1,4 +1,4 @@
-use Rattle.std.proofs.Common.{Some, refl, sym, ◌∙◌}
+use Rattle.std.proofs.Common.{Some, refl, sym, ap, ◌∙◌}
 use Rattle.ic_link_ops.proofs.SequenceLemmas.{some_same, none_not}
 use Rattle.ic_raw.proofs.moving.gaps_to_move.Goals as goal
 
@@ -15,3 +15,8 @@ returns-clause-shown c front back cut shown same beside =
     let to = some_same (sym c.in-Some.is ∙ c.gap_at.ensures.shown cut (rw same shown) beside) in
     let from = some_same (sym c.in-Some-beside.is ∙ c.beside.ensures.member front back c.args.member shown refl) in
     (λ k. Some (from k, to k))
+
+pub returns-clause-sides : goal.returns-clause-sides
+returns-clause-sides c from to is =
+    let both = some_same is in
+    (sym (ap (λ m. m.0) both) ∙ c.beside.ensures.sides _ c.in-Some-beside.is, sym (ap (λ m. m.1) both) ∙ c.gap_at.ensures.sides _ c.in-Some.is)

@@ -1,5 +1,8 @@
-use Rattle.std.proofs.Common.{ap}
+use Rattle.std.proofs.Common.{refl, ap}
+use Rattle.ic_raw.specs.Doubly.{lent_table}
 use Rattle.ic_raw.proofs.Lists.{moved}
+use Rattle.ic_raw.proofs.Own.{put_in, taken_out}
+use Rattle.ic_raw.proofs.Touches.{touches_move}
 use Rattle.ic_raw.proofs.moving.relocate.Goals as goal
 
 pub returns-clause-moved : goal.returns-clause-moved
@@ -8,3 +11,9 @@ returns-clause-moved c front back cut shown same from to =
     let put = c.insert_linked.ensures in
     moved front c.args.member back cut (ap (λ g. g.before) from) (ap (λ g. g.behind) from) (ap (λ g. g.before) to) (ap (λ g. g.behind) to) same shown off.shows off.extent off.others
     put.shows put.extent put.others
+
+pub returns-clause-touched : goal.returns-clause-touched
+returns-clause-touched c = touches_move (lent_table c.bypass.new.links) c.bypass.ensures.no_step c.insert_linked.ensures.no_step c.bypass.ensures.others c.insert_linked.ensures.others
+
+pub returns-clause-own : goal.returns-clause-own
+returns-clause-own c = (c.bypass.new.self, taken_out refl c.bypass.ensures.ends, put_in refl refl c.insert_linked.ensures.ends)
