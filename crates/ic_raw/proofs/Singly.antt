@@ -1,13 +1,14 @@
 -- What calls of a singly linked list read of what is shown, and of the places that lead to one another.
-use Rattle.std.proofs.Common.{◌≡◌, ◌≤◌, Option, Some, None, List, [], ◌∷◌, ◌++◌, length, true, refl, sym, ap, subst, ◌∙◌, arith}
+use Rattle.std.proofs.Common.{◌≡◌, ◌≢◌, ◌≤◌, Option, Some, None, List, [], ◌∷◌, ◌++◌, length, true, refl, sym, ap, subst, ◌∙◌, arith}
 use Rattle.ic_unsafe_ref.specs.declared.place.Place.{Place}
 use Rattle.ic_unsafe_ref.specs.Places.{index_of}
 use Rattle.ic_link_ops.specs.Sequences.{Cut, join, first_or, first, last, IsAbsent, IsDistinct, IsAfter}
-use Rattle.ic_link_ops.specs.Tables.{Table, IsCovered}
+use Rattle.ic_link_ops.specs.LinkSteps.{LinkStep, acquires, releases}
+use Rattle.ic_link_ops.specs.Tables.{Table, ChangesOnly, IsCovered, IsLinked, KeepsLinked, Unlinks}
 use Rattle.ic_link_ops.specs.Chains.{IsChain}
 use Rattle.ic_link_ops.specs.EntryLaws.{linked_in_range}
 use Rattle.ic_link_ops.specs.SinglyLinkedList.{Front, IsFollowed, list_from, successor_at}
-use Rattle.ic_link_ops.proofs.SequenceLemmas.{first_of_back, first_or-append, last_of_push}
+use Rattle.ic_link_ops.proofs.SequenceLemmas.{first_of_back, first_or-append, last_of_push, none_not}
 use Rattle.ic_link_ops.proofs.Chains.{chain_glue, chain_one}
 use Rattle.ic_link_ops.proofs.ShownLists.{before_gap}
 use Rattle.ic_link_ops.proofs.SinglyLists.{followed_linked, followed_one}
@@ -15,12 +16,14 @@ use Rattle.ic_raw.specs.declared.words.RawOne.{RawOne}
 use Rattle.ic_raw.specs.declared.words.RawFront.{RawFront}
 use Rattle.ic_raw.specs.declared.table.RawTable.{RawTable}
 use Rattle.ic_raw.specs.declared.gap.Gap.{Gap}
-use Rattle.ic_raw.specs.Gaps.{gap_of}
+use Rattle.ic_raw.specs.Gaps.{Stands, gap_of}
 use Rattle.ic_raw.specs.Words.{no_word, is_linked_one}
-use Rattle.ic_raw.specs.Tables.{raw_entries}
+use Rattle.ic_raw.specs.Tables.{IsFree, raw_entries}
+use Rattle.ic_raw.specs.Touches.{IsNoneOf, Touches}
 use Rattle.ic_raw.specs.Singly.{Shows, table_of, lent_table, list_of, successor, next_from}
 use Rattle.ic_raw.proofs.Views.{viewed}
 use Rattle.ic_raw.proofs.Lists.{kept}
+use Rattle.ic_raw.proofs.Touches.{touches_insert, touches_remove, touches_replace}
 
 -- what has something behind it is linked
 pub law : (e : RawOne) (b a : Option Place) → IsFollowed successor e b a → is_linked_one e ≡ true
@@ -51,6 +54,15 @@ behind_told t list {shown} {at} {named} {gap} {q} view same is found stands =
     let there = subst (λ l. next_from (lent_table t) l at ≡ Some q) same seen in
     let back : next_from (table_of (raw_entries t)) (list_of list) named ≡ Some q = subst (λ a. next_from (lent_table t) (list_of list) a ≡ Some q) is there in
     subst (λ es. next_from (table_of es) (list_of list) named ≡ Some q) view back
+
+-- and what a view finds linked behind a place is linked by the words
+pub stands_told : (t : RawTable RawOne) {words : List RawOne} {list shown : Front} {at named : Option Place} → raw_entries t ≡ words → shown ≡ list → at ≡ named
+    → Stands is_linked_one (lent_table t) (next_from (lent_table t) shown at) → Stands is_linked_one (table_of words) (next_from (table_of words) list named)
+stands_told t {list} {at = at} {named} view same is stands =
+    let there = subst (λ l. Stands is_linked_one (lent_table t) (next_from (lent_table t) l at)) same stands in
+    let back : Stands is_linked_one (table_of (raw_entries t)) (next_from (table_of (raw_entries t)) list named) =
+    subst (λ a. Stands is_linked_one (lent_table t) (next_from (lent_table t) list a)) is there in
+    subst (λ es. Stands is_linked_one (table_of es) (next_from (table_of es) list named)) view back
 
 -- A CHAIN THAT ENDS COMES TO NO PLACE TWICE: from there it would go on the same way, and end as soon
 module _ (t : Place → RawOne) where
@@ -100,3 +112,34 @@ module _ {t : Table RawOne} {front at : Place} (leads : LeadsTo t front at) (lin
         record { distinct = ended_distinct t.entry None (leads.walked ++ at ∷ []) chain; chain = chain; head = starts_on None; tail = refl },
         sym (last_of_push leads.walked at),
       )
+
+-- none among the places that are touched is no place
+apart_none : (places : List (Option Place)) (q : Place) → IsNoneOf places q → IsNoneOf (places ++ None ∷ []) q
+apart_none [] q out = (none_not q, tt)
+apart_none (end ∷ places) q out = (out.0, apart_none places q out.1)
+
+pub touches_places : {old new : Table RawOne} {steps : List LinkStep} (places : List (Option Place)) → Touches is_linked_one old new steps (places ++ None ∷ [])
+    → Touches is_linked_one old new steps places
+touches_places places k = record { steps_are = k.steps_are; others = λ q out. k.others q (apart_none places q out) }
+
+-- AN EDIT TOUCHES NOTHING BEHIND IT, because no entry says what stands in front of its place
+module _ {old mid new : Table RawOne} {before behind : Option Place} {p : Place} where
+  pub touches_put : IsFree is_linked_one old p → IsLinked is_linked_one mid p → ChangesOnly old mid p → KeepsLinked is_linked_one mid new
+      → ((q : Place) → before ≢ Some q → q ≢ p → (⊥ → behind ≢ Some q) → new.entry q ≡ mid.entry q)
+      → Touches is_linked_one old new (acquires p ∷ []) (Some p ∷ before ∷ [])
+  touches_put free is only keeps others =
+      touches_places (Some p ∷ before ∷ []) (touches_insert {Names = ⊥} {behind = None} free is only keeps (λ q away other none. others q away other (λ no. absurd no)))
+
+  pub touches_off : KeepsLinked is_linked_one old mid → ((q : Place) → before ≢ Some q → (⊥ → behind ≢ Some q) → mid.entry q ≡ old.entry q)
+      → Unlinks is_linked_one mid new p → ChangesOnly mid new p → Touches is_linked_one old new (releases p ∷ []) (Some p ∷ before ∷ [])
+  touches_off keeps others off only =
+      touches_places (Some p ∷ before ∷ []) (touches_remove {Names = ⊥} {behind = None} keeps (λ q away none. others q away (λ no. absurd no)) off only)
+
+pub touches_exchanged : {old mid turned new : Table RawOne} {before behind : Option Place} {p gone : Place} → IsFree is_linked_one old p → IsLinked is_linked_one mid p
+    → ChangesOnly old mid p → KeepsLinked is_linked_one mid turned
+    → ((q : Place) → before ≢ Some q → q ≢ p → (⊥ → behind ≢ Some q) → turned.entry q ≡ mid.entry q)
+    → Unlinks is_linked_one turned new gone → ChangesOnly turned new gone
+    → Touches is_linked_one old new (acquires p ∷ releases gone ∷ []) (Some p ∷ Some gone ∷ before ∷ [])
+touches_exchanged {before} {p} {gone} free is only keeps others off gone_only =
+    touches_places (Some p ∷ Some gone ∷ before ∷ [])
+        (touches_replace {Names = ⊥} {behind = None} free is only keeps (λ q away other none. others q away other (λ no. absurd no)) off gone_only)

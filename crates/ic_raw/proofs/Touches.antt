@@ -1,5 +1,5 @@
 -- What an edit touches follows of what its parts change: the link that is acquired or released, and the neighbors that are turned.
-use Rattle.std.proofs.Common.{◌≡◌, ◌≢◌, Bool, Option, Some, List, [], ◌∷◌, sym, ap, subst, ◌∙◌}
+use Rattle.std.proofs.Common.{◌≡◌, ◌≢◌, Bool, Option, Some, List, [], ◌∷◌, ◌++◌, sym, ap, subst, ◌∙◌}
 use Rattle.ic_unsafe_ref.specs.declared.place.Place.{Place}
 use Rattle.ic_link_ops.specs.Tables.{Table, ChangesOnly, IsLinked, KeepsLinked, LinksAlso, Unlinks}
 use Rattle.ic_link_ops.specs.LinkSteps.{LinkStep, acquires, releases}

@@ -2,6 +2,7 @@
 use Rattle.std.specs.Prelude.{◌≡◌, ◌≢◌, ◌≤◌, ◌↔◌, ◌⊎◌, ◌++◌, ◌∷◌, ℕ, List, [], Option, Some, None, length}
 use Rattle.ic_unsafe_ref.specs.declared.place.Place.{Place}
 use Rattle.ic_hash_table.specs.Searches.{Finds}
+use Rattle.ic_link_ops.specs.LinkSteps.{acquires}
 use Rattle.ic_link_ops.specs.NumberedCollections.{with_at}
 use Rattle.ic_link_ops.specs.Sequences.{at_front, IsMember}
 use Rattle.ic_raw.specs.declared.status.TheConstants.{OK, NULL}
@@ -10,7 +11,8 @@ use Rattle.ic_raw.specs.declared.words.RawOne.{RawOne}
 use Rattle.ic_raw.specs.Answers.{IsStatus, HandsOut, refusal}
 use Rattle.ic_raw.specs.Hash.{slot_of, chain_of, buckets_fault, ChangesOnlyChain, HoldsChains, has_key, NamesKey}
 use Rattle.ic_raw.specs.Keys.{key_of, keys_fault}
-use Rattle.ic_raw.specs.Singly.{ShowsList, FreeIn, StandsIn, IsWritten, LosesFront, table_of, front_of, word_of_front, list_of, fault_at, fault_of, Inserted, Removed}
+use Rattle.ic_raw.specs.Singly.{ShowsList, FreeIn, StandsIn, IsWritten, LosesFront, table_of, front_of, word_of_front, list_of, fault_at, fault_of}
+use Rattle.ic_raw.specs.Singly.{Inserted, Removed, TakenOut, Touched}
 
 -- `old`, `new`: the words of the table before the call and after it. `buckets`, `buckets'`: those of the buckets
 module _ (old new : List RawOne) (buckets buckets' : List RawFront) (status hash : ℕ) where
@@ -26,6 +28,7 @@ module _ (old new : List RawOne) (buckets buckets' : List RawFront) (status hash
     pub any : status ≡ OK → 1 ≤ length buckets
     pub told : status ≡ OK → StandsIn old (front_of (chain_of buckets hash))
     pub own : status ≡ OK → front_of (chain_of buckets' hash) ≡ place
+    pub touched : (p : Place) → place ≡ Some p → status ≡ OK → Touched old new (acquires p ∷ []) (Some p ∷ [])
     pub words : status ≡ OK → IsWritten (chain_of buckets' hash)
     pub refused : status ≢ OK → (new ≡ old) × (buckets' ≡ buckets)
     pub why : status ≢ OK → status ≡ refusal (buckets_fault buckets ∷ fault_of old place ∷ [])
@@ -44,6 +47,7 @@ module _ (old new : List RawOne) (buckets buckets' : List RawFront) (status hash
     pub any : status ≡ OK → 1 ≤ length buckets
     pub stands : status ≡ OK → StandsIn old place
     pub own : status ≡ OK → LosesFront (table_of old) place (list_of (chain_of buckets hash)) (list_of (chain_of buckets' hash))
+    pub touched : (p : Place) → place ≡ Some p → status ≡ OK → TakenOut old new (chain_of buckets hash) p
     pub words : status ≡ OK → IsWritten (chain_of buckets' hash)
     pub refused : status ≢ OK → (new ≡ old) × (buckets' ≡ buckets)
     pub why : status ≢ OK → status ≢ NULL → status ≡ refusal (buckets_fault buckets ∷ fault_at old place ∷ [])

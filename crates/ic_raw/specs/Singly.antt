@@ -1,8 +1,9 @@
 -- Singly linked lists over a caller's words.
-use Rattle.std.specs.Prelude.{◌≡◌, ◌≢◌, ℕ, List, Option, Some, None}
+use Rattle.std.specs.Prelude.{◌≡◌, ◌≢◌, ◌∷◌, ℕ, List, [], Option, Some, None}
 use Rattle.ic_unsafe_ref.specs.declared.place.Place.{Place}
 use Rattle.ic_unsafe_ref.specs.Places.{word_of}
 use Rattle.ic_link_ops.specs.Sequences.{Cut}
+use Rattle.ic_link_ops.specs.LinkSteps.{LinkStep, releases}
 use Rattle.ic_link_ops.specs.Tables.{Table}
 use Rattle.ic_link_ops.specs.SinglyLinkedList as singly
 use Rattle.ic_link_ops.specs.SinglyLinkedList.{Front, list_from, Successor, successor_at}
@@ -14,6 +15,7 @@ use Rattle.ic_raw.specs.Words.{place_in, no_word, is_linked_one, next_of_one}
 use Rattle.ic_raw.specs.Tables.{raw_table, successor_of}
 use Rattle.ic_raw.specs.Calls as calls
 use Rattle.ic_raw.specs.Fills as fills
+use Rattle.ic_raw.specs.Touches.{Touches}
 
 -- the words of a table, and those that are lent, as clauses see them
 abbrev pub table_of : List RawOne → Table RawOne
@@ -95,6 +97,18 @@ Cleared = calls.Cleared Shows is_linked_one no_word list_of
 
 abbrev pub Filled : (old new : List RawOne) (list list' : RawFront) (status : ℕ) → Cut → (first count : ℕ) → Type 0
 Filled = fills.Filled Shows is_linked_one no_word list_of
+
+-- the words are linked and unlinked in these steps alone, and none changes but those of these places
+abbrev pub Touched : (old new : List RawOne) → List LinkStep → (places : List (Option Place)) → Type 0
+Touched old new = Touches is_linked_one (table_of old) (table_of new)
+
+-- A PLACE IS TAKEN OUT OF A LIST to which its words lead: what stands in front of it is linked, or none at the front. It alone is unlinked, and
+-- no words change but its own and those of the place in front
+pub record TakenOut (old new : List RawOne) (list : RawFront) (p : Place) : Type 0 where
+  pub before : Option Place
+  pub stands : StandsIn old before
+  pub leads : next_from (table_of old) (list_of list) before ≡ Some p
+  pub touched : Touched old new (releases p ∷ []) (Some p ∷ before ∷ [])
 
 -- the run of so many places from this number on is free in the table of these words
 abbrev pub IsFreeRunIn : List RawOne → (first count : ℕ) → Type 0

@@ -4,13 +4,14 @@ use Rattle.std.specs.Prelude.{◌≡◌, ◌≢◌, ◌↔◌, ◌∷◌, ℕ, L
 use Rattle.ic_unsafe_ref.specs.declared.place.Place.{Place}
 use Rattle.ic_link_ops.specs.Sequences.{Cut, at_front, last, IsAfter}
 use Rattle.ic_link_ops.specs.Chains.{end_of}
+use Rattle.ic_link_ops.specs.LinkSteps.{acquires, releases}
 use Rattle.ic_raw.specs.declared.status.TheConstants.{OK, NULL, BROKEN}
 use Rattle.ic_raw.specs.declared.words.RawFront.{RawFront}
 use Rattle.ic_raw.specs.declared.words.RawOne.{RawOne}
 use Rattle.ic_raw.specs.Answers.{IsStatus, refusal}
 use Rattle.ic_raw.specs.Fills.{run_faults}
 use Rattle.ic_raw.specs.Singly.{ShowsList, FreeIn, StandsIn, IsWritten, IsFreeRunIn, table_of, front_of, word_of_front, list_of, next_from, fault_at, fault_of}
-use Rattle.ic_raw.specs.Singly.{Inserted, Popped, Exchanged, Spliced, Split, Cleared, Filled}
+use Rattle.ic_raw.specs.Singly.{Inserted, Popped, Exchanged, Spliced, Split, Cleared, Filled, Touched}
 use Rattle.ic_raw.specs.Words.{HasNumber}
 
 -- `old`, `new`: the words of the table before the call and after it. `list`, `list'`: that of the list. `status`: what the call returns
@@ -27,6 +28,7 @@ module _ (old new : List RawOne) (list list' : RawFront) (status : ℕ) where
     pub stands : status ≡ OK → StandsIn old at
     pub told : status ≡ OK → StandsIn old (behind at)
     pub own : status ≡ OK → front_of list' ≡ end_of at place (front_of list)
+    pub touched : (p : Place) → place ≡ Some p → status ≡ OK → Touched old new (acquires p ∷ []) (Some p ∷ at ∷ [])
     pub words : status ≡ OK → IsWritten list'
     pub refused : status ≢ OK → (new ≡ old) × (list' ≡ list)
     pub why : status ≢ OK → status ≡ refusal (fault_at old at ∷ fault_of old place ∷ [])
@@ -39,6 +41,7 @@ module _ (old new : List RawOne) (list list' : RawFront) (status : ℕ) where
     pub null : (status ≡ NULL) ↔ (front_of list ≡ None)
     pub stands : status ≡ OK → StandsIn old (front_of list)
     pub own : status ≡ OK → front_of list' ≡ behind (front_of list)
+    pub touched : (p : Place) → front_of list ≡ Some p → status ≡ OK → Touched old new (releases p ∷ []) (Some p ∷ [])
     pub words : status ≡ OK → IsWritten list'
     pub refused : status ≢ OK → (new ≡ old) × (list' ≡ list) × (popped ≡ was)
     pub why : status ≢ OK → status ≢ NULL → status ≡ BROKEN
@@ -53,6 +56,7 @@ module _ (old new : List RawOne) (list list' : RawFront) (status : ℕ) where
     pub stands : status ≡ OK → StandsIn old at
     pub told : status ≡ OK → StandsIn old (behind at)
     pub own : status ≡ OK → front_of list' ≡ end_of at (behind (behind at)) (front_of list)
+    pub touched : (p : Place) → behind at ≡ Some p → status ≡ OK → Touched old new (releases p ∷ []) (Some p ∷ at ∷ [])
     pub words : status ≡ OK → IsWritten list'
     pub refused : status ≢ OK → (new ≡ old) × (list' ≡ list) × (removed ≡ was)
     pub why : status ≢ OK → status ≢ NULL → status ≡ refusal (fault_at old at ∷ [])
@@ -69,6 +73,8 @@ module _ (old new : List RawOne) (list list' : RawFront) (status : ℕ) where
     pub stands : status ≡ OK → StandsIn old at
     pub told : status ≡ OK → StandsIn old (behind at)
     pub own : status ≡ OK → front_of list' ≡ end_of at place (front_of list)
+    pub touched : (q p : Place) → behind at ≡ Some q → place ≡ Some p → status ≡ OK
+        → Touched old new (acquires p ∷ releases q ∷ []) (Some p ∷ Some q ∷ at ∷ [])
     pub words : status ≡ OK → IsWritten list'
     pub refused : status ≢ OK → (new ≡ old) × (list' ≡ list) × (out ≡ was)
     pub why : status ≢ OK → status ≢ NULL → status ≡ refusal (fault_at old at ∷ fault_of old place ∷ [])
@@ -82,6 +88,9 @@ module _ (old new : List RawOne) (list list' : RawFront) (status : ℕ) where
     pub told : status ≡ OK → StandsIn old (behind at)
     pub apart : status ≡ OK → (p : Place) → front_of given ≡ Some p → front_of list ≢ Some p
     pub ended : status ≡ OK → (t : List Place) × ShowsList old given t
+    pub own : status ≡ OK → front_of given ≢ None → front_of list' ≡ end_of at (front_of given) (front_of list)
+    pub nothing : status ≡ OK → front_of given ≡ None → (new ≡ old) × (front_of list' ≡ front_of list)
+    pub touched : (t : List Place) → ShowsList old given t → status ≡ OK → Touched old new [] (at ∷ last t ∷ [])
     pub words : status ≡ OK → IsWritten list'
     pub refused : status ≢ OK → (new ≡ old) × (list' ≡ list) × (given' ≡ given)
     pub why : status ≢ OK → status ≡ refusal (fault_at old at ∷ [])
@@ -94,6 +103,8 @@ module _ (old new : List RawOne) (list list' : RawFront) (status : ℕ) where
     pub empty : status ≡ OK → front_of rest ≡ None
     pub stands : status ≡ OK → StandsIn old at
     pub told : status ≡ OK → StandsIn old (behind at)
+    pub own : status ≡ OK → (front_of list' ≡ end_of at None (front_of list)) × (front_of rest' ≡ behind at)
+    pub touched : status ≡ OK → Touched old new [] (at ∷ [])
     pub words : status ≡ OK → IsWritten list'
     pub rest_words : status ≡ OK → IsWritten rest'
     pub refused : status ≢ OK → (new ≡ old) × (list' ≡ list) × (rest' ≡ rest)

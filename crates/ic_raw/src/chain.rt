@@ -14,7 +14,7 @@ ghost use Rattle.ic_raw.specs.declared.status.TheConstants.{OK, NULL, BROKEN};
 ghost use Rattle.ic_raw.specs.Answers.{HandsOut};
 ghost use Rattle.ic_raw.specs.Gaps.{Stands};
 ghost use Rattle.ic_raw.specs.Hash.{has_key};
-ghost use Rattle.ic_raw.specs.Singly.{Shows, lent_table};
+ghost use Rattle.ic_raw.specs.Singly.{Shows, lent_table, next_from};
 ghost use Rattle.ic_raw.specs.Words.{is_linked_one, HasNumber};
 
 use crate::number::number_of;
@@ -33,6 +33,7 @@ pub(crate) fn place_before(
     ensures linked { (b : Option Place) → result ≡ Some b → IsLinked is_linked_one (lent_table links.now) member }
     ensures stands { (b : Option Place) → result ≡ Some b → Stands is_linked_one (lent_table links.now) b }
     ensures first { (b : Option Place) → result ≡ Some b → (b ≡ None) ↔ (front ≡ Some member) }
+    ensures leads { (b : Option Place) → result ≡ Some b → next_from (lent_table links.now) (list_from front) b ≡ Some member }
     ensures found { (ahead back : List Place) → Shows (lent_table links.now) (list_from front) (ahead ++ member ∷ back)
         → result ≡ Some (last ahead) }
     ensures member { (s : List Place) (b : Option Place) → Shows (lent_table links.now) (list_from front) s → result ≡ Some b

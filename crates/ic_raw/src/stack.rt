@@ -4,9 +4,10 @@
 //! let made = insert(&mut links, &mut stack, at, place);
 //! ```
 
-ghost use Rattle.std.specs.Prelude.{◌≡◌, ◌≢◌, ◌++◌, ◌∷◌, List, Some, true, false};
+ghost use Rattle.std.specs.Prelude.{◌≡◌, ◌≢◌, ◌++◌, ◌∷◌, [], List, Some, None, true, false};
 ghost use Rattle.ic_unsafe_ref.specs.declared.place.Place.{Place};
 ghost use Rattle.ic_link_ops.specs.Sequences.{Cut, join, last, IsDisjoint, IsAfter};
+ghost use Rattle.ic_link_ops.specs.LinkSteps.{acquires, releases};
 ghost use Rattle.ic_link_ops.specs.Tables.{IsLinked, IsUnlinked};
 ghost use Rattle.ic_link_ops.specs.Chains.{end_of};
 ghost use Rattle.ic_link_ops.specs.Edits.{Inserts, Removes, Replaces, Splices, Splits};
@@ -14,6 +15,7 @@ ghost use Rattle.ic_link_ops.specs.SinglyLinkedList.{list_from};
 ghost use Rattle.ic_raw.specs.declared.gap.Gap.{Gap};
 ghost use Rattle.ic_raw.specs.Gaps.{Stands, before, gap_of};
 ghost use Rattle.ic_raw.specs.Tables.{IsFree};
+ghost use Rattle.ic_raw.specs.Touches.{Touches};
 ghost use Rattle.ic_raw.specs.Words.{is_linked_one};
 ghost use Rattle.ic_raw.specs.Singly.{Shows, lent_table, next_from};
 
@@ -82,6 +84,8 @@ pub(crate) fn insert(
     ensures stands { result ≡ true → Stands is_linked_one (lent_table links.old) at }
     ensures told { result ≡ true → Stands is_linked_one (lent_table links.old) (next_from (lent_table links.old) list.old at) }
     ensures own { result ≡ true → list.new.head ≡ end_of at place list.old.head }
+    ensures touched { (p : Place) → place ≡ Some p → result ≡ true
+        → Touches is_linked_one (lent_table links.old) (lent_table links.new) (acquires p ∷ []) (Some p ∷ at ∷ []) }
     ensures refused { result ≡ false → (links.new ≡ links.old) × (list.new ≡ list.old) }
     ensures extent { (lent_table links.new).extent ≡ (lent_table links.old).extent }
 {
@@ -109,6 +113,7 @@ pub(crate) fn remove(
         → Removes Shows (lent_table links.old) (lent_table links.new) list.new (before member front back)
         × IsUnlinked is_linked_one (lent_table links.new) member }
     ensures own { list.new.head ≡ end_of at (next_from (lent_table links.old) list.old (Some member)) list.old.head }
+    ensures touched { Touches is_linked_one (lent_table links.old) (lent_table links.new) (releases member ∷ []) (Some member ∷ at ∷ []) }
     ensures extent { (lent_table links.new).extent ≡ (lent_table links.old).extent }
 {
     let behind = links.next(member);
@@ -134,6 +139,8 @@ pub(crate) fn replace(
         × IsUnlinked is_linked_one (lent_table links.new) member }
     ensures free { result ≡ true → (p : Place) × (place ≡ Some p) × IsFree is_linked_one (lent_table links.old) p }
     ensures own { result ≡ true → list.new.head ≡ end_of at place list.old.head }
+    ensures touched { (p : Place) → place ≡ Some p → result ≡ true → Touches is_linked_one (lent_table links.old) (lent_table links.new)
+        (acquires p ∷ releases member ∷ []) (Some p ∷ Some member ∷ at ∷ []) }
     ensures refused { result ≡ false → (links.new ≡ links.old) × (list.new ≡ list.old) }
     ensures extent { (lent_table links.new).extent ≡ (lent_table links.old).extent }
 {
@@ -182,6 +189,10 @@ pub(crate) fn splice(
     ensures told { result ≡ true → Stands is_linked_one (lent_table links.old) (next_from (lent_table links.old) list.old at) }
     ensures apart { result ≡ true → (p : Place) → given.head ≡ Some p → list.old.head ≢ Some p }
     ensures ended { result ≡ true → (t : List Place) × Shows (lent_table links.old) given t }
+    ensures own { result ≡ true → given.head ≢ None → list.new.head ≡ end_of at given.head list.old.head }
+    ensures nothing { result ≡ true → given.head ≡ None → (links.new ≡ links.old) × (list.new ≡ list.old) }
+    ensures touched { (t : List Place) → Shows (lent_table links.old) given t → result ≡ true
+        → Touches is_linked_one (lent_table links.old) (lent_table links.new) [] (at ∷ last t ∷ []) }
     ensures refused { result ≡ false → (links.new ≡ links.old) × (list.new ≡ list.old) }
     ensures extent { (lent_table links.new).extent ≡ (lent_table links.old).extent }
 {
@@ -213,6 +224,9 @@ pub(crate) fn split(
         → (result ≡ true) × Splits Shows (lent_table links.old) (lent_table links.new) list.new rest.new cut.front cut.back }
     ensures stands { result ≡ true → Stands is_linked_one (lent_table links.old) at }
     ensures told { result ≡ true → Stands is_linked_one (lent_table links.old) (next_from (lent_table links.old) list.old at) }
+    ensures own { result ≡ true → list.new.head ≡ end_of at None list.old.head }
+    ensures rest { result ≡ true → rest.new.head ≡ next_from (lent_table links.old) list.old at }
+    ensures touched { result ≡ true → Touches is_linked_one (lent_table links.old) (lent_table links.new) [] (at ∷ []) }
     ensures refused { result ≡ false → (links.new ≡ links.old) × (list.new ≡ list.old) × (rest.new ≡ rest.old) }
     ensures extent { (lent_table links.new).extent ≡ (lent_table links.old).extent }
 {

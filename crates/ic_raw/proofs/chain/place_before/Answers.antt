@@ -1,4 +1,4 @@
-use Rattle.std.proofs.Common.{◌≡◌, ◌++◌, ◌∷◌, Some, sym, ap, ◌∙◌, eqb-true, arith, eq-eqb}
+use Rattle.std.proofs.Common.{◌≡◌, ◌++◌, ◌∷◌, Option, Some, refl, sym, ap, subst, ◌∙◌, eqb-true, arith, eq-eqb}
 use Rattle.ic_unsafe_ref.specs.Places.{same_word}
 use Rattle.ic_link_ops.proofs.SequenceLemmas.{none_not, some_same}
 use Rattle.ic_raw.proofs.Gaps.{never}
@@ -11,6 +11,7 @@ use Rattle.ic_raw.proofs.chain.place_before.Goals as goal
 pub loop-left-init : goal.loop-left-init
 loop-left-init c = record {
   stands = λ q none. absurd (none_not q none);
+  leads = refl;
   past = past_none c.args.front c.args.member;
   comes = λ s shown. rw c.places-left.ensures (comes_first (covered c.args.links.now) shown);
 }
@@ -40,11 +41,17 @@ returns-then-eq-clause-first c b is =
     let same : c.in-Some.place ≡ c.args.member = same_word c.in-Some.place c.args.member (eqb-true _ _ (sym c.eq.ensures ∙ c.if-eq.true)) in
     rw (← some_same is) (is_first c.in-Some.is c.loop-left.before c.loop-left.invariant.past same)
 
+pub returns-then-eq-clause-leads : goal.returns-then-eq-clause-leads
+returns-then-eq-clause-leads c b is =
+    let same : c.in-Some.place ≡ c.args.member = same_word c.in-Some.place c.args.member (eqb-true _ _ (sym c.eq.ensures ∙ c.if-eq.true)) in
+    rw (← some_same is) (c.loop-left.invariant.leads ∙ c.in-Some.is ∙ ap Some same)
+
 pub loop-left-preserved : goal.loop-left-preserved
 loop-left-preserved c = record {
   past = goes_past c.in-Some.is c.loop-left.before c.loop-left.invariant.past
       (λ same. never (sym c.eq.ensures ∙ c.if-eq.false) (eq-eqb _ _ (ap (λ (p : Place). p.word) same))) c.next-current.result;
   stands = λ q is. rw (some_same is) at (sym c.is_linked.ensures ∙ c.if-not-is_linked.false);
+  leads = sym c.next-current.ensures;
   comes = λ s shown.
       let k = rw c.in-Some.is at (c.loop-left.invariant.comes s shown) in
       comes_on k shown.distinct (sym c.eq.ensures ∙ c.if-eq.false) c.next-current.ensures;

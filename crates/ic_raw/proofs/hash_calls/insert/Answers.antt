@@ -1,9 +1,10 @@
-use Rattle.std.proofs.Common.{◌<◌, length, refl, subst, rules, arith}
+use Rattle.std.proofs.Common.{◌<◌, Some, [], ◌∷◌, length, refl, subst, rules, arith}
 use Rattle.std.proofs.lemmas.Grind.{common_steps}
 use Rattle.ic_link_ops.specs.Sequences.{at_front}
 use Rattle.ic_raw.specs.Hash.{slot_of}
 use Rattle.ic_raw.specs.Singly.{ShowsList}
 use Rattle.ic_raw.proofs.HashTables.{chain_read, chain_written, changes_chain, holds_inserted}
+use Rattle.ic_raw.proofs.Singly.{touches_places}
 use Rattle.ic_raw.proofs.hash_calls.insert.Goals as goal
 
 pub returns : goal.returns
@@ -26,6 +27,7 @@ returns c = record {
   any = search rules;
   told = search rules;
   own = search rules;
+  touched = λ p is made. touches_places (Some p ∷ []) (c.push_front.ensures.touched p is made);
   words = search rules;
   refused = λ off. let same = c.push_front.ensures.refused off in (same.0, grind (arith, common_steps, same));
   why = search rules;

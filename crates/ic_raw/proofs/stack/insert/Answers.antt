@@ -1,6 +1,6 @@
 use Rattle.std.proofs.Common.{◌≡◌, refl, sym, ap, ◌∙◌}
 use Rattle.ic_link_ops.proofs.SequenceLemmas.{some_same}
-use Rattle.ic_raw.proofs.Singly.{law}
+use Rattle.ic_raw.proofs.Singly.{law, touches_put}
 use Rattle.ic_raw.proofs.Lists.{inserted}
 use Rattle.ic_raw.proofs.stack.insert.Goals as goal
 
@@ -24,3 +24,12 @@ returns-clause-free c made =
 pub returns-clause-own : goal.returns-clause-own
 returns-clause-own c made =
     rw (← ap (λ g. g.before) (c.gap_after.ensures.is _ c.in-Some.is), c.acquire.ensures.same _ c.in-Some-acquire.is) c.insert_linked.ensures.ends.head
+
+pub returns-clause-touched : goal.returns-clause-touched
+returns-clause-touched c p is made =
+    let place = c.in-Some-acquire.place in
+    let taken = c.in-Some-acquire.is in
+    let one : p ≡ place = some_same (sym is ∙ c.acquire.ensures.same place taken) in
+    let put = c.insert_linked.ensures in
+    rw (one, ← ap (λ g. g.before) (c.gap_after.ensures.is _ c.in-Some.is))
+    (touches_put (c.acquire.ensures.free place taken) (c.acquire.ensures.linked place taken) (c.acquire.ensures.frame place taken) put.no_step put.others)

@@ -1,6 +1,7 @@
 use Rattle.std.proofs.Common.{◌∙◌}
 use Rattle.ic_link_ops.proofs.ShownLists.{shows_middle}
 use Rattle.ic_raw.proofs.Lists.{removed}
+use Rattle.ic_raw.proofs.Singly.{touches_off}
 use Rattle.ic_raw.proofs.stack.remove.Goals as goal
 
 pub returns-clause-removed : goal.returns-clause-removed
@@ -12,3 +13,8 @@ returns-clause-removed c front back shown after =
 
 pub returns-clause-own : goal.returns-clause-own
 returns-clause-own c = rw (← c.next-behind.ensures) c.bypass.ensures.ends.head
+
+pub returns-clause-touched : goal.returns-clause-touched
+returns-clause-touched c =
+    let off = c.bypass.ensures in
+    touches_off off.no_step off.others c.release_link.ensures.released c.release_link.ensures.frame

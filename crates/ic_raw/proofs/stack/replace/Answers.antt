@@ -1,7 +1,7 @@
 use Rattle.std.proofs.Common.{◌≡◌, refl, sym, ◌∙◌}
 use Rattle.ic_link_ops.proofs.SequenceLemmas.{some_same}
 use Rattle.ic_link_ops.proofs.ShownLists.{shows_middle}
-use Rattle.ic_raw.proofs.Singly.{law}
+use Rattle.ic_raw.proofs.Singly.{law, touches_exchanged}
 use Rattle.ic_raw.proofs.Lists.{replaced}
 use Rattle.ic_raw.proofs.stack.replace.Goals as goal
 
@@ -24,3 +24,13 @@ returns-clause-free c made =
 
 pub returns-clause-own : goal.returns-clause-own
 returns-clause-own c made = rw (c.acquire.ensures.same _ c.in-Some.is) c.replace_linked.ensures.ends.head
+
+pub returns-clause-touched : goal.returns-clause-touched
+returns-clause-touched c p is made =
+    let place = c.in-Some.place in
+    let taken = c.in-Some.is in
+    let one : p ≡ place = some_same (sym is ∙ c.acquire.ensures.same place taken) in
+    let put = c.replace_linked.ensures in
+    let released = c.release_link.ensures in
+    rw one (touches_exchanged (c.acquire.ensures.free place taken) (c.acquire.ensures.linked place taken) (c.acquire.ensures.frame place taken) put.no_step put.others
+        released.released released.frame)

@@ -1,4 +1,4 @@
-use Rattle.std.proofs.Common.{Some, sym, ap, ◌∙◌}
+use Rattle.std.proofs.Common.{Some, refl, sym, ap, ◌∙◌}
 use Rattle.ic_link_ops.specs.Sequences.{first, join}
 use Rattle.ic_link_ops.specs.SinglyLinkedList.{list_from}
 use Rattle.ic_link_ops.proofs.SequenceLemmas.{none_not, nothing_last}
@@ -24,3 +24,19 @@ pub splice_between-requires-clause-end : goal.splice_between-requires-clause-end
 splice_between-requires-clause-end c q e =
     let walked = c.last_from.ensures.ended c.in-Some-last_from.back c.in-Some-last_from.is in
     last_linked law walked.1 (sym e ∙ walked.2)
+
+pub returns-in_default-first-clause-touched : goal.returns-in_default-first-clause-touched
+returns-in_default-first-clause-touched c t given made = record { steps_are = λ q. refl; others = λ q out. refl }
+
+pub returns-clause-touched : goal.returns-clause-touched
+returns-clause-touched c t given made =
+    let whole : Shows (lent_table c.args.links.now) (list_from (Some c.in-Some-first.front)) t = rw (sym c.first.ensures ∙ c.in-Some-first.is) at given in
+    let end = sym c.in-Some-last_from.is ∙ c.last_from.ensures.shown t whole in
+    let put = c.splice_between.ensures in
+    rw (← end, ← ap (λ g. g.before) (c.gap_after.ensures.is _ c.in-Some.is))
+    (record { steps_are = put.no_step; others = λ q out. put.others q out.0 (λ no. absurd no) (λ no. absurd no) out.1.0 })
+
+pub returns-clause-own : goal.returns-clause-own
+returns-clause-own c made some =
+    let first = sym c.first.ensures ∙ c.in-Some-first.is in
+    rw (first, ← ap (λ g. g.before) (c.gap_after.ensures.is _ c.in-Some.is)) (c.splice_between.ensures.ends c.in-Some-first.front first).head

@@ -1,4 +1,4 @@
-use Rattle.std.proofs.Common.{◌≡◌, Option, None, [], ◌∷◌, refl, sym, ap, subst, ◌∙◌, rules}
+use Rattle.std.proofs.Common.{◌≡◌, Option, Some, None, [], ◌∷◌, refl, sym, ap, subst, ◌∙◌, rules}
 use Rattle.ic_unsafe_ref.specs.declared.place.Place.{Place}
 use Rattle.ic_link_ops.proofs.SequenceLemmas.{some_same}
 use Rattle.ic_link_ops.specs.SinglyLinkedList.{Front}
@@ -7,6 +7,8 @@ use Rattle.ic_raw.specs.Singly.{Shows, lent_table}
 use Rattle.ic_raw.proofs.Views.{viewed, removed_back, unlinked_back}
 use Rattle.ic_raw.proofs.Lists.{kept}
 use Rattle.ic_raw.proofs.Own.{front_left}
+use Rattle.ic_raw.proofs.Singly.{touches_places}
+use Rattle.ic_raw.proofs.Touches.{touched_back}
 use Rattle.ic_raw.proofs.stack_calls.pop_front.Goals as goal
 
 pub returns-then-is_linked : goal.returns-then-is_linked
@@ -34,6 +36,10 @@ returns-then-is_linked c = record {
       let first = sym c.in-Some.is ∙ c.first.ensures ∙ ap (λ (l : Front). l.head) c.stack_of-edited.ensures in
       let front : ◌≡◌ {A = Option Place} None None = refl in
       front_left c.new-links.result c.args.list.now c.write_back.new.words c.new-links.ensures.1 c.stack_of-edited.ensures c.write_back.ensures.set front (sym first) c.remove.ensures.own;
+  touched = λ p is made.
+      let first = sym c.in-Some.is ∙ c.first.ensures ∙ ap (λ (l : Front). l.head) c.stack_of-edited.ensures in
+      let one : p ≡ c.in-Some.member = some_same (sym is ∙ sym first) in
+      rw one (touched_back no_word c.new-links.result c.remove.new.links c.new-links.ensures.1 (search rules) refl (touches_places (Some c.in-Some.member ∷ []) c.remove.ensures.touched));
   words = search rules;
   refused = search rules;
   why = search rules;

@@ -1,5 +1,6 @@
-use Rattle.std.proofs.Common.{[], refl, rules}
+use Rattle.std.proofs.Common.{Some, [], ◌∷◌, refl, rules}
 use Rattle.ic_raw.proofs.Numbers.{none_named}
+use Rattle.ic_raw.proofs.Singly.{touches_places}
 use Rattle.ic_raw.proofs.stack_calls.pop_front_any.Goals as goal
 
 pub returns : goal.returns
@@ -9,6 +10,7 @@ returns c = record {
   null = let null = rw none_named at c.remove_after.ensures.null in ((λ e. (null.0 e).1), (λ e. null.1 (refl, e)));
   stands = λ made. rw none_named at (c.remove_after.ensures.told made);
   own = λ made. rw none_named at (c.remove_after.ensures.own made);
+  touched = λ p is made. touches_places (Some p ∷ []) ((rw none_named at c.remove_after.ensures.touched) p is made);
   words = search rules;
   refused = search rules;
   why = λ refused other. rw none_named at (c.remove_after.ensures.why refused other);

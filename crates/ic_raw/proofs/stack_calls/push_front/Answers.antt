@@ -5,6 +5,7 @@ use Rattle.ic_raw.specs.Singly.{Shows, lent_table}
 use Rattle.ic_raw.proofs.Views.{viewed, free_viewed, inserted_back}
 use Rattle.ic_raw.proofs.Lists.{kept}
 use Rattle.ic_raw.proofs.Gaps.{never}
+use Rattle.ic_raw.proofs.Touches.{touched_back}
 use Rattle.ic_raw.proofs.stack_calls.push_front.Goals as goal
 
 pub returns-then-not-insert : goal.returns-then-not-insert
@@ -18,6 +19,7 @@ returns-then-not-insert c = record {
   stands = search rules;
   told = search rules;
   own = search rules;
+  touched = search rules;
   words = search rules;
   refused = search rules;
   why = search rules;
@@ -36,6 +38,8 @@ returns c = record {
   stands = search rules;
   told = search rules;
   own = search rules;
+  touched = λ p is made.
+      touched_back no_word c.new-links.result c.insert.new.links c.new-links.ensures.1 (search rules) refl (c.insert.ensures.touched p (c.place_of.ensures ∙ is) c.if-not-insert.false);
   words = search rules;
   refused = search rules;
   why = search rules;

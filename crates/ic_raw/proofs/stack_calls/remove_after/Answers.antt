@@ -8,6 +8,7 @@ use Rattle.ic_raw.proofs.Views.{viewed, removed_back, unlinked_back}
 use Rattle.ic_raw.proofs.Lists.{kept}
 use Rattle.ic_raw.proofs.Singly.{behind_told, gap_viewed}
 use Rattle.ic_raw.proofs.Own.{front_left}
+use Rattle.ic_raw.proofs.Touches.{touched_back}
 use Rattle.ic_raw.proofs.stack_calls.remove_after.Goals as goal
 
 pub returns-in_default : goal.returns-in_default
@@ -25,6 +26,7 @@ returns-in_default c = record {
   stands = search rules;
   told = search rules;
   own = search rules;
+  touched = search rules;
   words = search rules;
   refused = search rules;
   why = search rules;
@@ -43,6 +45,7 @@ returns-in_default-behind c = record {
   stands = search rules;
   told = search rules;
   own = search rules;
+  touched = search rules;
   words = search rules;
   refused = search rules;
   why = search rules;
@@ -81,6 +84,12 @@ returns c = record {
       let there = behind_told c.new-links.result c.args.list.now view c.stack_of-edited.ensures c.place_of.ensures (c.gap_after.ensures.is _ c.in-Some.is) c.in-Some-behind.is in
       let at = ap (λ g. g.before) (c.gap_after.ensures.is _ c.in-Some.is) ∙ c.place_of.ensures in
       front_left c.new-links.result c.args.list.now c.write_back.new.words view c.stack_of-edited.ensures c.write_back.ensures.set at there c.remove.ensures.own;
+  touched = λ p is made.
+      let view = c.new-links.ensures.1 in
+      let there = behind_told c.new-links.result c.args.list.now view c.stack_of-edited.ensures c.place_of.ensures (c.gap_after.ensures.is _ c.in-Some.is) c.in-Some-behind.is in
+      let at = ap (λ g. g.before) (c.gap_after.ensures.is _ c.in-Some.is) ∙ c.place_of.ensures in
+      let one : p ≡ c.in-Some-behind.member = some_same (sym is ∙ there) in
+      rw (one, ← at) (touched_back no_word c.new-links.result c.remove.new.links view (search rules) refl c.remove.ensures.touched);
   words = search rules;
   refused = search rules;
   why = search rules;

@@ -7,8 +7,9 @@ use Rattle.ic_raw.specs.Singly.{Shows, lent_table}
 use Rattle.ic_raw.proofs.Gaps.{never}
 use Rattle.ic_raw.proofs.Views.{free_viewed, viewed, replaced_back, unlinked_back}
 use Rattle.ic_raw.proofs.Lists.{kept}
-use Rattle.ic_raw.proofs.Singly.{behind_told, gap_viewed}
+use Rattle.ic_raw.proofs.Singly.{behind_told, gap_viewed, stands_told}
 use Rattle.ic_raw.proofs.Own.{front_put}
+use Rattle.ic_raw.proofs.Touches.{touched_back}
 use Rattle.ic_raw.proofs.stack_calls.replace_after.Goals as goal
 
 pub returns-in_default : goal.returns-in_default
@@ -28,6 +29,7 @@ returns-in_default c = record {
   stands = search rules;
   told = search rules;
   own = search rules;
+  touched = search rules;
   words = search rules;
   refused = search rules;
   why = search rules;
@@ -48,6 +50,7 @@ returns-in_default-behind c = record {
   stands = search rules;
   told = search rules;
   own = search rules;
+  touched = search rules;
   words = search rules;
   refused = search rules;
   why = search rules;
@@ -76,6 +79,7 @@ returns-then-not-replace c = record {
   stands = search rules;
   told = search rules;
   own = search rules;
+  touched = search rules;
   words = search rules;
   refused = search rules;
   why = search rules;
@@ -111,10 +115,16 @@ returns c = record {
       absurd (none_not _ (sym (ap (λ g. g.behind) (some_same (sym c.in-Some.is ∙ gap))) ∙ c.in-Some-behind.is));
   null = search rules;
   stands = search rules;
-  told = search rules;
+  told = λ made. stands_told c.new-links.result c.new-links.ensures.1 c.stack_of-edited.ensures c.place_of.ensures (c.gap_after.ensures.told _ c.in-Some.is);
   own = λ made.
       let at = ap (λ g. g.before) (c.gap_after.ensures.is _ c.in-Some.is) ∙ c.place_of.ensures in
       front_put c.new-links.result c.args.list.now c.write_back.new.words c.new-links.ensures.1 c.stack_of-edited.ensures c.write_back.ensures.set at c.place_of-2.ensures (c.replace.ensures.own c.if-not-replace.false);
+  touched = λ q p there is made.
+      let view = c.new-links.ensures.1 in
+      let behind = behind_told c.new-links.result c.args.list.now view c.stack_of-edited.ensures c.place_of.ensures (c.gap_after.ensures.is _ c.in-Some.is) c.in-Some-behind.is in
+      let at = ap (λ g. g.before) (c.gap_after.ensures.is _ c.in-Some.is) ∙ c.place_of.ensures in
+      let one : q ≡ c.in-Some-behind.member = some_same (sym there ∙ behind) in
+      rw (one, ← at) (touched_back no_word c.new-links.result c.replace.new.links view (search rules) refl (c.replace.ensures.touched p (c.place_of-2.ensures ∙ is) c.if-not-replace.false));
   words = search rules;
   refused = search rules;
   why = search rules;
