@@ -7,17 +7,20 @@ use Rattle.ic_link_ops.specs.Sequences.{IsAbsent, IsDisjoint, first, last}
 use Rattle.ic_link_ops.proofs.Chains.{last_between}
 use Rattle.ic_link_ops.proofs.SequenceLemmas.{absent_both, absent_left, absent_right, absent_turned, disjoint_both, last_not, last_or-append, none_not, some_same}
 use Rattle.ic_link_ops.specs.Tables.{Table, ChangesOnly}
+use Rattle.ic_link_ops.specs.LinkSteps.{LinkStep}
 use Rattle.ic_ring.proofs.Circles.{circle_after_free, next_not, next_some, next_stands, prev_not, prev_some, prev_stands, rotated}
 use Rattle.ic_raw.specs.declared.words.RawTwo.{RawTwo}
 use Rattle.ic_raw.specs.declared.table.RawTable.{RawTable}
 use Rattle.ic_raw.specs.declared.gap.Side.{Side}
 use Rattle.ic_raw.specs.declared.gap.Side.TheVariants.{After, Before}
 use Rattle.ic_raw.specs.Doubly.{lent_table, neighbors, table_of}
-use Rattle.ic_raw.specs.Ring.{IsCircle, IsTold, Makes, MakesTwo, own_on, neighbor_on, put_in, all_put_in}
+use Rattle.ic_raw.specs.Ring.{IsCircle, IsTold, Makes, MakesTwo, beside, own_on, neighbor_on, put_in, all_put_in}
 use Rattle.ic_raw.specs.RingCalls.{IsAmid}
 use Rattle.ic_raw.specs.Tables.{raw_entries}
+use Rattle.ic_raw.specs.Touches.{Touches}
 use Rattle.ic_raw.specs.Words.{no_words, is_linked_two}
 use Rattle.ic_raw.proofs.Gaps.{never}
+use Rattle.ic_raw.proofs.Touches.{touched_back}
 use Rattle.ic_raw.proofs.Views.{frame_back}
 
 -- the place that is there
@@ -128,6 +131,11 @@ pub told_back : (t : RawTable RawTwo) {es : List RawTwo} {x y : Place} → raw_e
 told_back t {x = x} {y = y} e k =
     let back : IsTold (table_of (raw_entries t)) x y = record { linked = k.linked; next = k.next; stands = k.stands; prev = k.prev } in rw (← e) back
 
+-- what stands beside a place by the words stands there in the view
+pub beside_back : (side : Side) (t : RawTable RawTwo) {es : List RawTwo} (p : Place) → raw_entries t ≡ es → beside side (table_of es) p ≡ beside side (lent_table t) p
+beside_back After t p e = ap (λ es. beside After (table_of es) p) (sym e)
+beside_back Before t p e = ap (λ es. beside Before (table_of es) p) (sym e)
+
 module _ (a b : RawTable RawTwo) {es fs : List RawTwo} (e : raw_entries a ≡ es) (f : fs ≡ raw_entries b) where
   pub makes_back : {touched made : List Place} → Makes (lent_table a) (lent_table b) touched made → Makes (table_of es) (table_of fs) touched made
   makes_back {touched} {made} m =
@@ -145,6 +153,10 @@ module _ (a b : RawTable RawTwo) {es fs : List RawTwo} (e : raw_entries a ≡ es
       let back : ChangesOnly (table_of (raw_entries a)) (table_of (raw_entries b)) p =
       record { extent = ap (λ e. record { places = e.places; identity = [] }) only.extent; others = only.others } in
       rw (← e, f) back
+
+  pub touched_words : {steps : List LinkStep} {places places' : List (Option Place)} → places' ≡ places → Touches is_linked_two (lent_table a) (lent_table b) steps places
+      → Touches is_linked_two (table_of es) (table_of fs) steps places'
+  touched_words same touched = touched_back no_words a b e f same touched
 
   pub closed_back : {r : List Place} → IsCircle (lent_table b) r → IsCircle (table_of fs) r
   closed_back {r} c = let back : IsCircle (table_of (raw_entries b)) r = c in rw f back
@@ -266,6 +278,28 @@ absent_all Before at r s q out off = (out.0, absent_both q r s out.1 off)
 pub own_linked : (side : Side) {t : Table RawTwo} {at : Place} (x : Place × Place) → IsTold t x.0 x.1 → own_on side x ≡ at → is_linked_two (t.entry at) ≡ true
 own_linked After x told own = rw (sym own) told.linked
 own_linked Before x told own = rw (sym own) told.stands
+
+-- WHAT STANDS BESIDE A PLACE, by its word: of two neighbors that are told, the other one
+pub beside_told : (side : Side) {t : Table RawTwo} {at : Place} (x : Place × Place) → IsTold t x.0 x.1 → own_on side x ≡ at → beside side t at ≡ Some (neighbor_on side x)
+beside_told After {t} x told own = ap (λ z. (neighbors (t.entry z)).next) (sym own) ∙ told.next
+beside_told Before {t} x told own = ap (λ z. (neighbors (t.entry z)).prev) (sym own) ∙ told.prev
+
+-- so a place that is none of these is none of the two
+pub apart_beside : (side : Side) {t : Table RawTwo} {at q : Place} (x : Place × Place) → IsTold t x.0 x.1 → own_on side x ≡ at → (Some at ≢ Some q)
+    → (beside side t at ≢ Some q) → (q ≢ x.0) × (q ≢ x.1)
+apart_beside After x told own off away = ((λ e. off (ap Some (sym own ∙ sym e))), (λ e. away (beside_told After x told own ∙ ap Some (sym e))))
+apart_beside Before x told own off away = ((λ e. away (beside_told Before x told own ∙ ap Some (sym e))), (λ e. off (ap Some (sym own ∙ sym e))))
+
+-- and one that is neither of both neighbors of a place
+pub apart_around : {t : Table RawTwo} {p q x y : Place} → IsTold t x p → IsTold t p y → (beside Before t p ≢ Some q) → (beside After t p ≢ Some q) → (q ≢ x) × (q ≢ y)
+apart_around comes goes before behind = ((λ e. before (comes.prev ∙ ap Some (sym e))), (λ e. behind (goes.next ∙ ap Some (sym e))))
+
+-- what stands behind a place that is put in where `at` did is its new neighbor or the place itself
+pub apart_without : {next at own other q : Place} → (next ≡ at → other ≡ own) → (next ≢ at → other ≡ next) → q ≢ own → q ≢ next → q ≢ other
+apart_without {next} {at} alone stays off away e = elim (same_or_not next at) [
+  | inl same ↦ off (e ∙ alone same)
+  | inr apart ↦ away (e ∙ stays apart)
+]
 
 -- A GAP THAT IS NOT BESIDE A HEAD, as its two tests tell, is not beside the head's own place
 pub splices_elsewhere : (side : Side) {t : Table RawTwo} {at given b : Place} (to : Place × Place) → IsTold t to.0 to.1 → own_on side to ≡ at → IsTold t b given

@@ -10,7 +10,7 @@ use Rattle.ic_raw.specs.Tables.{IsFree, raw_entries, raw_table}
 use Rattle.ic_raw.specs.Touches.{Touches}
 
 -- two places differ where their ends do
-other_place : {p q : Place} → (Some p ≢ Some q) → q ≢ p
+pub other_place : {p q : Place} → (Some p ≢ Some q) → q ≢ p
 other_place away same = away (ap (λ x. Some x) (sym same))
 
 module _ {E : Type 0} {linked : E → Bool} where

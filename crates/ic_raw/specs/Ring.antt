@@ -1,5 +1,5 @@
 -- Rings over a caller's words: a head is a place of the table, and stands in a circle with its members.
-use Rattle.std.specs.Prelude.{◌≡◌, List, ◌∷◌, ◌++◌, Some, true}
+use Rattle.std.specs.Prelude.{◌≡◌, List, [], ◌∷◌, ◌++◌, Option, Some, true}
 use Rattle.ic_unsafe_ref.specs.declared.place.Place.{Place}
 use Rattle.ic_link_ops.specs.Tables.{Table, KeepsBeside}
 use Rattle.ic_link_ops.specs.LinkedList.{neighbors_at}
@@ -20,6 +20,15 @@ pub record IsTold (t : Table RawTwo) (x y : Place) : Type 0 where
   pub next : (neighbors_at neighbors t x).next ≡ Some y
   pub stands : is_linked_two (t.entry y) ≡ true
   pub prev : (neighbors_at neighbors t y).prev ≡ Some x
+
+-- what stands on this side of a place, by its word
+abbrev pub beside : Side → Table RawTwo → Place → Option Place
+beside After t p = (neighbors_at neighbors t p).next
+beside Before t p = (neighbors_at neighbors t p).prev
+
+-- and on both sides of it
+abbrev pub around : Table RawTwo → Place → List (Option Place)
+around t p = beside Before t p ∷ beside After t p ∷ []
 
 -- a circle is there, and nothing but entries of these places is changed
 pub record Makes (old new : Table RawTwo) (touched made : List Place) : Type 0 where

@@ -4,12 +4,15 @@ use Rattle.std.specs.Prelude.{◌≡◌, ◌≢◌, ◌↔◌, ◌⊎◌, ◌++�
 use Rattle.ic_unsafe_ref.specs.declared.place.Place.{Place}
 use Rattle.ic_link_ops.specs.Sequences.{IsDisjoint, last}
 use Rattle.ic_link_ops.specs.Tables.{ChangesOnly, IsLinked, IsUnlinked}
+use Rattle.ic_link_ops.specs.LinkSteps.{acquires, releases}
 use Rattle.ic_raw.specs.declared.gap.Side.{Side}
+use Rattle.ic_raw.specs.declared.gap.Side.TheVariants.{After}
 use Rattle.ic_raw.specs.declared.words.RawTwo.{RawTwo}
 use Rattle.ic_raw.specs.declared.status.TheConstants.{OK, NULL}
 use Rattle.ic_raw.specs.Answers.{IsStatus, IsAccepted, refusal}
 use Rattle.ic_raw.specs.Doubly.{table_of, FreeIn, fault_at, fault_of}
-use Rattle.ic_raw.specs.Ring.{IsCircle, IsTold, Makes, MakesTwo, own_on, put_in, all_put_in}
+use Rattle.ic_raw.specs.Ring.{IsCircle, IsTold, Makes, MakesTwo, around, beside, own_on, put_in, all_put_in}
+use Rattle.ic_raw.specs.Touches.{Touches}
 use Rattle.ic_raw.specs.Words.{is_linked_two, HasNumber}
 
 -- both neighbors of the place are told
@@ -39,6 +42,8 @@ module _ (old new : List RawTwo) (status : ℕ) where
     pub no_place : place ≡ None → status ≢ OK
     pub null : (status ≡ NULL) ↔ (at ≡ None)
     pub told : (h : Place) → at ≡ Some h → status ≡ OK → (x : Place × Place) × IsTold (table_of old) x.0 x.1 × (own_on side x ≡ h)
+    pub touched : (h p : Place) → at ≡ Some h → place ≡ Some p → status ≡ OK
+        → Touches is_linked_two (table_of old) (table_of new) (acquires p ∷ []) (Some p ∷ Some h ∷ beside side (table_of old) h ∷ [])
     pub refused : status ≢ OK → new ≡ old
     pub why : status ≢ OK → status ≢ NULL → status ≡ refusal (fault_at old at ∷ fault_of old place ∷ [])
     pub is_status : IsStatus status
@@ -49,6 +54,8 @@ module _ (old new : List RawTwo) (status : ℕ) where
         → IsAccepted status (Makes (table_of old) (table_of new) (p ∷ r) r × IsUnlinked is_linked_two (table_of new) p)
     pub null : (status ≡ NULL) ↔ (place ≡ None)
     pub told : (p : Place) → place ≡ Some p → status ≡ OK → IsAmid old p
+    pub touched : (p : Place) → place ≡ Some p → status ≡ OK
+        → Touches is_linked_two (table_of old) (table_of new) (releases p ∷ []) (Some p ∷ around (table_of old) p)
     pub refused : status ≢ OK → new ≡ old
     pub why : status ≢ OK → status ≢ NULL → status ≡ refusal (fault_at old place ∷ [])
     pub is_status : IsStatus status
@@ -62,6 +69,8 @@ module _ (old new : List RawTwo) (status : ℕ) where
     pub null : (status ≡ NULL) ↔ ((one ≡ None) ⊎ (other ≡ None))
     pub told : (x : Place) → one ≡ Some x → status ≡ OK → (q : Place) × IsTold (table_of old) x q
     pub told_other : (y : Place) → other ≡ Some y → status ≡ OK → (q : Place) × IsTold (table_of old) y q
+    pub touched : (x y : Place) → one ≡ Some x → other ≡ Some y → status ≡ OK
+        → Touches is_linked_two (table_of old) (table_of new) [] (Some x ∷ beside After (table_of old) x ∷ Some y ∷ beside After (table_of old) y ∷ [])
     pub refused : status ≢ OK → new ≡ old
     pub why : status ≢ OK → status ≢ NULL → status ≡ refusal (fault_at old one ∷ fault_at old other ∷ [])
     pub is_status : IsStatus status
@@ -75,6 +84,8 @@ module _ (old new : List RawTwo) (status : ℕ) where
     pub linked : status ≡ OK → (p : Place) × HasNumber p popped × IsLinked is_linked_two (table_of old) p
     pub none : head ≡ None → status ≡ NULL
     pub null : (h : Place) → head ≡ Some h → status ≡ NULL → IsTold (table_of old) h h
+    pub touched : (h : Place) → head ≡ Some h → status ≡ OK → (p : Place) × (beside side (table_of old) h ≡ Some p) × HasNumber p popped
+        × Touches is_linked_two (table_of old) (table_of new) (releases p ∷ []) (Some p ∷ around (table_of old) p)
     pub refused : status ≢ OK → (new ≡ old) × (popped ≡ was)
     pub why : status ≢ OK → status ≢ NULL → status ≡ refusal (fault_at old head ∷ [])
     pub is_status : IsStatus status
@@ -87,6 +98,8 @@ module _ (old new : List RawTwo) (status : ℕ) where
     pub no_place : place ≡ None → status ≢ OK
     pub told : (h : Place) → at ≡ Some h → status ≡ OK → IsAmid old h
     pub null : (status ≡ NULL) ↔ (at ≡ None)
+    pub touched : (h p : Place) → at ≡ Some h → place ≡ Some p → status ≡ OK
+        → Touches is_linked_two (table_of old) (table_of new) (acquires p ∷ releases h ∷ []) (Some p ∷ Some h ∷ around (table_of old) h)
     pub refused : status ≢ OK → new ≡ old
     pub why : status ≢ OK → status ≢ NULL → status ≡ refusal (fault_at old at ∷ fault_of old place ∷ [])
     pub is_status : IsStatus status
@@ -101,6 +114,8 @@ module _ (old new : List RawTwo) (status : ℕ) where
     pub told : (p : Place) → place ≡ Some p → status ≡ OK → IsAmid old p
     pub linked : (h : Place) → at ≡ Some h → status ≡ OK → IsLinked is_linked_two (table_of old) h
     pub null : (status ≡ NULL) ↔ ((at ≡ None) ⊎ (place ≡ None))
+    pub touched : (h p : Place) → at ≡ Some h → place ≡ Some p → status ≡ OK
+        → Touches is_linked_two (table_of old) (table_of new) [] (Some p ∷ around (table_of old) p ++ Some h ∷ beside side (table_of old) h ∷ [])
     pub refused : status ≢ OK → new ≡ old
     pub why : status ≢ OK → status ≢ NULL → status ≡ refusal (fault_at old at ∷ fault_at old place ∷ [])
     pub is_status : IsStatus status
@@ -114,6 +129,8 @@ module _ (old new : List RawTwo) (status : ℕ) where
     pub linked : (h : Place) → at ≡ Some h → status ≡ OK → IsLinked is_linked_two (table_of old) h
     pub other : (h g : Place) → at ≡ Some h → given ≡ Some g → status ≡ OK → h ≢ g
     pub null : (status ≡ NULL) ↔ ((at ≡ None) ⊎ (given ≡ None))
+    pub touched : (h g : Place) → at ≡ Some h → given ≡ Some g → status ≡ OK
+        → Touches is_linked_two (table_of old) (table_of new) [] (Some g ∷ around (table_of old) g ++ Some h ∷ beside side (table_of old) h ∷ [])
     pub refused : status ≢ OK → new ≡ old
     pub why : status ≢ OK → status ≢ NULL → status ≡ refusal (fault_at old at ∷ fault_at old given ∷ [])
     pub is_status : IsStatus status

@@ -8,9 +8,12 @@ ghost use Rattle.std.specs.Prelude.{◌≡◌, ◌≢◌, ◌∷◌, ◌++◌, L
 ghost use Rattle.ic_unsafe_ref.specs.declared.place.Place.{Place};
 ghost use Rattle.ic_link_ops.specs.Sequences.{IsAbsent, IsDisjoint, first, last};
 ghost use Rattle.ic_link_ops.specs.Tables.{IsLinked, IsUnlinked, ChangesOnly};
+ghost use Rattle.ic_link_ops.specs.LinkSteps.{acquires, releases};
+ghost use Rattle.ic_raw.specs.declared.gap.Side.TheVariants.{After};
 ghost use Rattle.ic_raw.specs.Doubly.{lent_table};
-ghost use Rattle.ic_raw.specs.Ring.{IsCircle, IsTold, Makes, MakesTwo, own_on, put_in};
+ghost use Rattle.ic_raw.specs.Ring.{IsCircle, IsTold, Makes, MakesTwo, around, beside, own_on, put_in};
 ghost use Rattle.ic_raw.specs.Tables.{IsFree};
+ghost use Rattle.ic_raw.specs.Touches.{Touches};
 ghost use Rattle.ic_raw.specs.Words.{is_linked_two};
 
 use crate::gap::Side;
@@ -146,6 +149,9 @@ pub(crate) fn cross(links: &mut RawTable<'_, RawTwo>, first: Pair, second: Pair)
         → last r ≡ Some first.0 → last s ≡ Some second.0 → Makes (lent_table links.old) (lent_table links.new) (r ++ s) (r ++ s) }
     ensures cuts { (r s : List Place) → IsCircle (lent_table links.old) (r ++ s) → last r ≡ Some first.0 → last s ≡ Some second.0
         → MakesTwo (lent_table links.old) (lent_table links.new) (r ++ s) r s }
+    ensures others { (q : Place) → q ≢ first.0 → q ≢ first.1 → q ≢ second.0 → q ≢ second.1
+        → (lent_table links.new).entry q ≡ (lent_table links.old).entry q }
+    ensures extent { (lent_table links.new).extent ≡ (lent_table links.old).extent }
     ensures no_step { (q : Place) → is_linked_two ((lent_table links.new).entry q) ≡ is_linked_two ((lent_table links.old).entry q) }
 {
     links.set_next(first.0, Some(second.1));
@@ -162,7 +168,10 @@ pub(crate) fn remove(links: &mut RawTable<'_, RawTwo>, place: Place) -> bool
     ensures unlinked { result ≡ true → IsUnlinked is_linked_two (lent_table links.new) place }
     ensures before { result ≡ true → (q : Place) × IsTold (lent_table links.old) q place }
     ensures behind { result ≡ true → (q : Place) × IsTold (lent_table links.old) place q }
+    ensures touched { result ≡ true → Touches is_linked_two (lent_table links.old) (lent_table links.new) (releases place ∷ [])
+        (Some place ∷ around (lent_table links.old) place) }
     ensures refused { result ≡ false → links.new ≡ links.old }
+    ensures extent { (lent_table links.new).extent ≡ (lent_table links.old).extent }
 {
     let Some(pair) = around(&*links, place) else {
         return false;
@@ -185,7 +194,10 @@ pub(crate) fn insert(
         → (result ≡ true) × Makes (lent_table links.old) (lent_table links.new) (p ∷ at ∷ r) (put_in side at p r) }
     ensures free { result ≡ true → (p : Place) × (place ≡ Some p) × IsFree is_linked_two (lent_table links.old) p }
     ensures told { result ≡ true → (x : Place × Place) × IsTold (lent_table links.old) x.0 x.1 × (own_on side x ≡ at) }
+    ensures touched { (p : Place) → place ≡ Some p → result ≡ true → Touches is_linked_two (lent_table links.old) (lent_table links.new) (acquires p ∷ [])
+        (Some p ∷ Some at ∷ beside side (lent_table links.old) at ∷ []) }
     ensures refused { result ≡ false → links.new ≡ links.old }
+    ensures extent { (lent_table links.new).extent ≡ (lent_table links.old).extent }
 {
     let Some(pair) = beside(&*links, side, at) else {
         return false;
@@ -207,7 +219,10 @@ pub(crate) fn exchange(links: &mut RawTable<'_, RawTwo>, one: Place, other: Plac
         → (result ≡ true) × MakesTwo (lent_table links.old) (lent_table links.new) (r ++ s) r s }
     ensures told { result ≡ true → (q : Place) × IsTold (lent_table links.old) one q }
     ensures other { result ≡ true → (q : Place) × IsTold (lent_table links.old) other q }
+    ensures touched { result ≡ true → Touches is_linked_two (lent_table links.old) (lent_table links.new) []
+        (Some one ∷ beside After (lent_table links.old) one ∷ Some other ∷ beside After (lent_table links.old) other ∷ []) }
     ensures refused { result ≡ false → links.new ≡ links.old }
+    ensures extent { (lent_table links.new).extent ≡ (lent_table links.old).extent }
 {
     let Some(first) = beside(&*links, Side::After, one) else {
         return false;

@@ -10,9 +10,11 @@ ghost use Rattle.std.specs.Prelude.{◌≡◌, ◌≢◌, ◌∷◌, ◌++◌, L
 ghost use Rattle.ic_unsafe_ref.specs.declared.place.Place.{Place};
 ghost use Rattle.ic_link_ops.specs.Sequences.{IsDisjoint};
 ghost use Rattle.ic_link_ops.specs.Tables.{IsLinked, IsUnlinked};
+ghost use Rattle.ic_link_ops.specs.LinkSteps.{acquires, releases};
 ghost use Rattle.ic_raw.specs.Doubly.{lent_table};
-ghost use Rattle.ic_raw.specs.Ring.{IsCircle, IsTold, Makes, MakesTwo, neighbor_on, put_in, all_put_in};
+ghost use Rattle.ic_raw.specs.Ring.{IsCircle, IsTold, Makes, MakesTwo, around, beside, neighbor_on, put_in, all_put_in};
 ghost use Rattle.ic_raw.specs.Tables.{IsFree};
+ghost use Rattle.ic_raw.specs.Touches.{Touches};
 ghost use Rattle.ic_raw.specs.Words.{is_linked_two};
 
 use crate::gap::Side;
@@ -42,7 +44,11 @@ pub(crate) fn pop(links: &mut RawTable<'_, RawTwo>, side: Side, head: Place) -> 
     ensures empty { IsCircle (lent_table links.old) (head ∷ []) → result ≡ None }
     ensures linked { (p : Place) → result ≡ Some p → IsLinked is_linked_two (lent_table links.old) p }
     ensures unlinked { (p : Place) → result ≡ Some p → IsUnlinked is_linked_two (lent_table links.new) p }
+    ensures beside { (p : Place) → result ≡ Some p → beside side (lent_table links.old) head ≡ Some p }
+    ensures touched { (p : Place) → result ≡ Some p → Touches is_linked_two (lent_table links.old) (lent_table links.new) (releases p ∷ [])
+        (Some p ∷ around (lent_table links.old) p) }
     ensures refused { result ≡ None → links.new ≡ links.old }
+    ensures extent { (lent_table links.new).extent ≡ (lent_table links.old).extent }
 {
     let Some(pair) = beside(&*links, side, head) else {
         return None;
@@ -76,7 +82,11 @@ pub(crate) fn replace(links: &mut RawTable<'_, RawTwo>, at: Place, place: Option
     ensures unlinked { result ≡ true → IsUnlinked is_linked_two (lent_table links.new) at }
     ensures before { result ≡ true → (q : Place) × IsTold (lent_table links.old) q at }
     ensures behind { result ≡ true → (q : Place) × IsTold (lent_table links.old) at q }
+    ensures touched { (p : Place) → place ≡ Some p → result ≡ true
+        → Touches is_linked_two (lent_table links.old) (lent_table links.new) (acquires p ∷ releases at ∷ [])
+        (Some p ∷ Some at ∷ around (lent_table links.old) at) }
     ensures refused { result ≡ false → links.new ≡ links.old }
+    ensures extent { (lent_table links.new).extent ≡ (lent_table links.old).extent }
 {
     let Some(pair) = around(&*links, at) else {
         return false;
@@ -107,7 +117,10 @@ pub(crate) fn move_beside(
     ensures before { result ≡ true → (q : Place) × IsTold (lent_table links.old) q place }
     ensures behind { result ≡ true → (q : Place) × IsTold (lent_table links.old) place q }
     ensures linked { result ≡ true → IsLinked is_linked_two (lent_table links.old) at }
+    ensures touched { result ≡ true → Touches is_linked_two (lent_table links.old) (lent_table links.new) []
+        (Some place ∷ around (lent_table links.old) place ++ Some at ∷ beside side (lent_table links.old) at ∷ []) }
     ensures refused { result ≡ false → links.new ≡ links.old }
+    ensures extent { (lent_table links.new).extent ≡ (lent_table links.old).extent }
 {
     let Some(from) = around(&*links, place) else {
         return false;
@@ -137,7 +150,10 @@ pub(crate) fn splice(links: &mut RawTable<'_, RawTwo>, side: Side, at: Place, gi
     ensures behind { result ≡ true → (q : Place) × IsTold (lent_table links.old) given q }
     ensures linked { result ≡ true → IsLinked is_linked_two (lent_table links.old) at }
     ensures other { result ≡ true → at ≢ given }
+    ensures touched { result ≡ true → Touches is_linked_two (lent_table links.old) (lent_table links.new) []
+        (Some given ∷ around (lent_table links.old) given ++ Some at ∷ beside side (lent_table links.old) at ∷ []) }
     ensures refused { result ≡ false → links.new ≡ links.old }
+    ensures extent { (lent_table links.new).extent ≡ (lent_table links.old).extent }
 {
     let Some(from) = around(&*links, given) else {
         return false;

@@ -53,3 +53,11 @@ returns-clause-cuts c (x ∷ r) (y ∷ s) circle last_r last_s =
             ∙ c.set_prev.ensures.frame.others q (λ e. one.0 (e ∙ to_x)) ∙ c.set_next.ensures.frame.others q (not_last q c.args.first.0 (x ∷ r) last_r one);
       };
     }
+
+pub returns-clause-others : goal.returns-clause-others
+returns-clause-others c q before behind ahead after =
+    c.set_prev-2.ensures.frame.others q behind ∙ c.set_next-2.ensures.frame.others q ahead ∙ c.set_prev.ensures.frame.others q after ∙ c.set_next.ensures.frame.others q before
+
+pub returns-clause-extent : goal.returns-clause-extent
+returns-clause-extent c =
+    c.set_prev-2.ensures.frame.extent ∙ c.set_next-2.ensures.frame.extent ∙ c.set_prev.ensures.frame.extent ∙ c.set_next.ensures.frame.extent

@@ -2,7 +2,8 @@ use Rattle.std.proofs.Common.{Some, [], ◌∷◌, refl, sym, ap, ◌∙◌}
 use Rattle.ic_link_ops.proofs.SequenceLemmas.{none_not}
 use Rattle.ic_ring.proofs.Circles.{rotated}
 use Rattle.ic_raw.specs.Doubly.{lent_table, neighbors}
-use Rattle.ic_raw.proofs.Rings.{last_tells, part_tells}
+use Rattle.ic_raw.proofs.Rings.{apart_beside, last_tells, part_tells}
+use Rattle.ic_raw.specs.declared.gap.Side.TheVariants.{After}
 use Rattle.ic_raw.proofs.ring.exchange.Goals as goal
 
 pub returns-in_default-clause-joins : goal.returns-in_default-clause-joins
@@ -51,3 +52,14 @@ returns-clause-told c made = let a = c.beside.ensures.told c.in-Some.first c.in-
 
 pub returns-clause-other : goal.returns-clause-other
 returns-clause-other c made = let b = c.beside-2.ensures.told c.in-Some-beside.second c.in-Some-beside.is in (c.in-Some-beside.second.1, rw b.1 at b.0)
+
+pub returns-clause-touched : goal.returns-clause-touched
+returns-clause-touched c made =
+    let a = c.beside.ensures.told c.in-Some.first c.in-Some.is in
+    let b = c.beside-2.ensures.told c.in-Some-beside.second c.in-Some-beside.is in record {
+      steps_are = c.cross.ensures.no_step;
+      others = λ q out.
+          let one = apart_beside After c.in-Some.first a.0 a.1 out.0 out.1.0 in
+          let two = apart_beside After c.in-Some-beside.second b.0 b.1 out.1.1.0 out.1.1.1.0 in
+          c.cross.ensures.others q one.0 one.1 two.0 two.1;
+    }

@@ -3,7 +3,8 @@ use Rattle.ic_link_ops.proofs.SequenceLemmas.{none_not, some_same}
 use Rattle.ic_ring.proofs.Circles.{circle_beside, free_outside}
 use Rattle.ic_raw.specs.Doubly.{lent_table, neighbors}
 use Rattle.ic_raw.specs.Ring.{Makes, put_in}
-use Rattle.ic_raw.proofs.Rings.{circle_tells, not_beside, told_beside}
+use Rattle.ic_raw.proofs.Rings.{apart_beside, circle_tells, not_beside, told_beside}
+use Rattle.ic_raw.proofs.Touches.{links_first, other_place}
 use Rattle.ic_raw.proofs.ring.insert.Goals as goal
 
 pub returns-in_default-clause-inserted : goal.returns-in_default-clause-inserted
@@ -41,3 +42,20 @@ pub returns-clause-free : goal.returns-clause-free
 returns-clause-free c made =
     let own = c.in-Some-acquire.own in
     (own, c.acquire.ensures.same own c.in-Some-acquire.is, c.acquire.ensures.free own c.in-Some-acquire.is)
+
+pub returns-clause-touched : goal.returns-clause-touched
+returns-clause-touched c p is made =
+    let own = c.in-Some-acquire.own in
+    let got = c.acquire.ensures in
+    let one : p ≡ own = some_same (sym is ∙ got.same own c.in-Some-acquire.is) in
+    let told = c.beside.ensures.told c.in-Some.pair c.in-Some.is in
+    let frame = got.frame own c.in-Some-acquire.is in
+    rw one (record {
+      steps_are = links_first (got.free own c.in-Some-acquire.is) (got.linked own c.in-Some-acquire.is) frame c.link_between.ensures.no_step;
+      others = λ q out.
+          let away = other_place out.0 in
+          let apart = apart_beside c.args.side c.in-Some.pair told.0 told.1 out.1.0 out.1.1.0 in c.link_between.ensures.others q away apart.0 apart.1 ∙ frame.others q away;
+    })
+
+pub returns-clause-extent : goal.returns-clause-extent
+returns-clause-extent c = c.link_between.ensures.extent ∙ (c.acquire.ensures.frame c.in-Some-acquire.own c.in-Some-acquire.is).extent

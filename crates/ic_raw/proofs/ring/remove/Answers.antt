@@ -1,7 +1,8 @@
 use Rattle.std.proofs.Common.{◌≡◌, refl, sym, ◌∙◌}
 use Rattle.ic_ring.proofs.Circles.{circle_taken, circle_beside, ring_frame}
 use Rattle.ic_raw.specs.Doubly.{lent_table, neighbors}
-use Rattle.ic_raw.proofs.Rings.{some_there}
+use Rattle.ic_raw.proofs.Rings.{apart_around, some_there}
+use Rattle.ic_raw.proofs.Touches.{other_place, unlinks_last}
 use Rattle.ic_raw.proofs.ring.remove.Goals as goal
 
 pub returns-in_default-clause-removed : goal.returns-in_default-clause-removed
@@ -35,3 +36,15 @@ returns-clause-before c made = (c.in-Some.pair.0, (c.around.ensures.told c.in-So
 
 pub returns-clause-behind : goal.returns-clause-behind
 returns-clause-behind c made = (c.in-Some.pair.1, (c.around.ensures.told c.in-Some.pair c.in-Some.is).1)
+
+pub returns-clause-touched : goal.returns-clause-touched
+returns-clause-touched c made =
+    let told = c.around.ensures.told c.in-Some.pair c.in-Some.is in
+    let off = c.release_link.ensures in record {
+      steps_are = unlinks_last c.bypass.ensures.no_step off.released;
+      others = λ q out.
+          let apart = apart_around told.0 told.1 out.1.0 out.1.1.0 in off.frame.others q (other_place out.0) ∙ c.bypass.ensures.others q apart.0 apart.1;
+    }
+
+pub returns-clause-extent : goal.returns-clause-extent
+returns-clause-extent c = c.release_link.ensures.frame.extent ∙ c.bypass.ensures.extent

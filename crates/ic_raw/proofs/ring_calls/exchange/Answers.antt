@@ -1,7 +1,10 @@
-use Rattle.std.proofs.Common.{◌≡◌, Some, refl, sym, ap, ◌∙◌, rules}
+use Rattle.std.proofs.Common.{◌≡◌, Some, [], ◌∷◌, refl, sym, ap, ◌∙◌, rules}
 use Rattle.ic_link_ops.proofs.SequenceLemmas.{some_same}
 use Rattle.ic_raw.proofs.Gaps.{never}
-use Rattle.ic_raw.proofs.Rings.{circle_viewed, told_back, makes_back, makes_two_back}
+use Rattle.ic_raw.proofs.Rings.{circle_viewed, told_back, makes_back, makes_two_back, touched_words}
+use Rattle.ic_raw.specs.declared.gap.Side.TheVariants.{After}
+use Rattle.ic_raw.specs.Doubly.{table_of}
+use Rattle.ic_raw.specs.Ring.{beside}
 use Rattle.ic_raw.proofs.ring_calls.exchange.Goals as goal
 
 pub returns-then-not-exchange : goal.returns-then-not-exchange
@@ -20,6 +23,7 @@ returns-then-not-exchange c = record {
   null = search rules;
   told = search rules;
   told_other = search rules;
+  touched = search rules;
   refused = search rules;
   why = search rules;
   is_status = search rules;
@@ -49,6 +53,13 @@ returns c = record {
       let k = c.exchange.ensures.other c.if-not-exchange.false in
       let other : c.in-Some-place_of.second ≡ y = some_same (sym c.in-Some-place_of.is ∙ c.place_of-2.ensures ∙ is_other) in
       (k.0, rw other at (told_back c.new-links.result c.new-links.ensures.1 k.1));
+  touched = λ x y is_one is_other made.
+      let view = c.new-links.ensures.1 in
+      let one : c.in-Some.first ≡ x = some_same (sym c.in-Some.is ∙ c.place_of.ensures ∙ is_one) in
+      let other : c.in-Some-place_of.second ≡ y = some_same (sym c.in-Some-place_of.is ∙ c.place_of-2.ensures ∙ is_other) in
+      let named = rw (one, other) at (c.exchange.ensures.touched c.if-not-exchange.false) in
+      touched_words c.new-links.result c.exchange.new.links view (search rules)
+      (ap (λ es. Some x ∷ beside After (table_of es) x ∷ Some y ∷ beside After (table_of es) y ∷ []) (sym view)) named;
   refused = search rules;
   why = search rules;
   is_status = search rules;

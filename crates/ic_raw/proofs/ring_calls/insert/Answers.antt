@@ -1,10 +1,10 @@
-use Rattle.std.proofs.Common.{◌≡◌, ◌∷◌, refl, sym, ◌∙◌, rules}
+use Rattle.std.proofs.Common.{◌≡◌, Some, [], ◌∷◌, refl, sym, ap, ◌∙◌, rules}
 use Rattle.ic_link_ops.proofs.SequenceLemmas.{some_same}
 use Rattle.ic_raw.specs.Doubly.{lent_table}
 use Rattle.ic_raw.specs.Ring.{IsCircle, Makes, put_in}
 use Rattle.ic_raw.specs.Words.{no_words}
 use Rattle.ic_raw.proofs.Gaps.{never}
-use Rattle.ic_raw.proofs.Rings.{circle_viewed, told_back, makes_back}
+use Rattle.ic_raw.proofs.Rings.{circle_viewed, told_back, makes_back, touched_words, beside_back}
 use Rattle.ic_raw.proofs.Views.{free_viewed}
 use Rattle.ic_raw.proofs.ring_calls.insert.Goals as goal
 
@@ -19,6 +19,7 @@ returns-then-not-insert c = record {
   no_place = search rules;
   null = search rules;
   told = search rules;
+  touched = search rules;
   refused = search rules;
   why = search rules;
   is_status = search rules;
@@ -39,6 +40,11 @@ returns c = record {
   told = λ h is_at made.
       let told = c.insert.ensures.told c.if-not-insert.false in
       (told.0, told_back c.new-links.result c.new-links.ensures.1 told.1, told.2 ∙ some_same (sym c.in-Some.is ∙ c.place_of.ensures ∙ is_at));
+  touched = λ h p is_at is_place made.
+      let view = c.new-links.ensures.1 in
+      let same : c.in-Some.member ≡ h = some_same (sym c.in-Some.is ∙ c.place_of.ensures ∙ is_at) in
+      let named = rw same at (c.insert.ensures.touched p (c.place_of-2.ensures ∙ is_place) c.if-not-insert.false) in
+      touched_words c.new-links.result c.insert.new.links view (search rules) (ap (λ at. Some p ∷ Some h ∷ at ∷ []) (beside_back c.args.side c.new-links.result h view)) named;
   refused = search rules;
   why = search rules;
   is_status = search rules;

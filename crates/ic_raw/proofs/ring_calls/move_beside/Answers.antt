@@ -1,11 +1,11 @@
 use Rattle.std.proofs.Common.{◌≡◌, Some, [], ◌∷◌, ◌++◌, refl, sym, ap, subst, ◌∙◌, rules}
 use Rattle.ic_link_ops.specs.Sequences.{IsDisjoint}
 use Rattle.ic_link_ops.proofs.SequenceLemmas.{none_not, some_same}
-use Rattle.ic_raw.specs.Doubly.{lent_table}
-use Rattle.ic_raw.specs.Ring.{IsCircle, Makes, MakesTwo, put_in, all_put_in}
+use Rattle.ic_raw.specs.Doubly.{lent_table, table_of}
+use Rattle.ic_raw.specs.Ring.{IsCircle, Makes, MakesTwo, around, put_in, all_put_in}
 use Rattle.ic_raw.specs.Words.{no_words, is_linked_two}
 use Rattle.ic_raw.proofs.Gaps.{never}
-use Rattle.ic_raw.proofs.Rings.{circle_viewed, makes_back, makes_two_back, linked_back, amid_back, same_back}
+use Rattle.ic_raw.proofs.Rings.{circle_viewed, makes_back, makes_two_back, linked_back, amid_back, same_back, touched_words, beside_back}
 use Rattle.ic_raw.proofs.Views.{free_viewed, unlinked_back}
 use Rattle.ic_raw.proofs.ring_calls.move_beside.Goals as goal
 
@@ -44,6 +44,12 @@ returns c =
       linked = λ h is ok.
           let to : beside ≡ h = some_same (sym c.in-Some.is ∙ c.place_of.ensures ∙ is) in
           rw to at (linked_back links beside view (c.move_beside.ensures.linked c.if-not-move_beside.false));
+      touched = λ h p is_at is_place ok.
+          let to : beside ≡ h = some_same (sym c.in-Some.is ∙ c.place_of.ensures ∙ is_at) in
+          let place : member ≡ p = some_same (sym c.in-Some-place_of.is ∙ c.place_of-2.ensures ∙ is_place) in
+          let named = rw (place, to) at (c.move_beside.ensures.touched c.if-not-move_beside.false) in
+          touched_words links c.move_beside.new.links view (search rules)
+          (λ k. Some p ∷ around (table_of (sym view k)) p ++ Some h ∷ beside_back c.args.side links h view k ∷ []) named;
       null = search rules;
       refused = search rules;
       why = search rules;

@@ -1,9 +1,9 @@
 use Rattle.std.proofs.Common.{◌≡◌, Some, [], ◌∷◌, ◌++◌, refl, sym, ap, ◌∙◌, rules}
 use Rattle.ic_link_ops.proofs.SequenceLemmas.{none_not, some_same}
-use Rattle.ic_raw.specs.Doubly.{lent_table}
-use Rattle.ic_raw.specs.Ring.{IsCircle, Makes, put_in}
+use Rattle.ic_raw.specs.Doubly.{lent_table, table_of}
+use Rattle.ic_raw.specs.Ring.{IsCircle, Makes, around, put_in}
 use Rattle.ic_raw.specs.Words.{no_words, is_linked_two}
-use Rattle.ic_raw.proofs.Rings.{circle_viewed, makes_back, linked_back}
+use Rattle.ic_raw.proofs.Rings.{circle_viewed, makes_back, linked_back, touched_words, beside_back}
 use Rattle.ic_raw.proofs.Views.{unlinked_back}
 use Rattle.ic_raw.proofs.ring_calls.pop.Goals as goal
 
@@ -31,6 +31,13 @@ returns c =
       linked = λ ok. (member, c.number_of.ensures, linked_back links member view (c.pop.ensures.linked member c.in-Some-pop.is));
       none = search rules;
       null = search rules;
+      touched = λ h is made.
+          let same : c.in-Some.place ≡ h = some_same (sym c.in-Some.is ∙ c.place_of.ensures ∙ is) in (
+            member,
+            beside_back c.args.side links h view ∙ rw same at (c.pop.ensures.beside member c.in-Some-pop.is),
+            c.number_of.ensures,
+            touched_words links c.pop.new.links view (search rules) (ap (λ es. Some member ∷ around (table_of es) member) (sym view)) (c.pop.ensures.touched member c.in-Some-pop.is),
+          );
       refused = search rules;
       why = search rules;
       is_status = search rules;

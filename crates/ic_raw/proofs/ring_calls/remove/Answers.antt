@@ -1,10 +1,10 @@
-use Rattle.std.proofs.Common.{◌≡◌, ◌∷◌, refl, sym, ◌∙◌, rules}
+use Rattle.std.proofs.Common.{◌≡◌, Some, ◌∷◌, refl, sym, ap, ◌∙◌, rules}
 use Rattle.ic_link_ops.proofs.SequenceLemmas.{some_same}
-use Rattle.ic_raw.specs.Doubly.{lent_table}
-use Rattle.ic_raw.specs.Ring.{IsCircle, Makes}
+use Rattle.ic_raw.specs.Doubly.{lent_table, table_of}
+use Rattle.ic_raw.specs.Ring.{IsCircle, Makes, around}
 use Rattle.ic_raw.specs.Words.{no_words, is_linked_two}
 use Rattle.ic_raw.proofs.Gaps.{never}
-use Rattle.ic_raw.proofs.Rings.{circle_viewed, makes_back, amid_back}
+use Rattle.ic_raw.proofs.Rings.{circle_viewed, makes_back, amid_back, touched_words}
 use Rattle.ic_raw.proofs.Views.{unlinked_back}
 use Rattle.ic_raw.proofs.ring_calls.remove.Goals as goal
 
@@ -16,6 +16,7 @@ returns-then-not-remove c = record {
       absurd (never c.if-not-remove.true (c.remove.ensures.removed r here).0);
   null = search rules;
   told = search rules;
+  touched = search rules;
   refused = search rules;
   why = search rules;
   is_status = search rules;
@@ -41,6 +42,11 @@ returns c = record {
   told = λ p is made.
       let same : c.in-Some.member ≡ p = some_same (sym c.in-Some.is ∙ c.place_of.ensures ∙ is) in
       rw same at (amid_back c.new-links.result c.new-links.ensures.1 (c.remove.ensures.before c.if-not-remove.false) (c.remove.ensures.behind c.if-not-remove.false));
+  touched = λ p is made.
+      let view = c.new-links.ensures.1 in
+      let same : c.in-Some.member ≡ p = some_same (sym c.in-Some.is ∙ c.place_of.ensures ∙ is) in
+      let named = rw same at (c.remove.ensures.touched c.if-not-remove.false) in
+      touched_words c.new-links.result c.remove.new.links view (search rules) (ap (λ es. Some p ∷ around (table_of es) p) (sym view)) named;
   refused = search rules;
   why = search rules;
   is_status = search rules;

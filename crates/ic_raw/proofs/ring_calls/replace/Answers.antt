@@ -1,10 +1,10 @@
 use Rattle.std.proofs.Common.{◌≡◌, Some, [], ◌∷◌, ◌++◌, refl, sym, ap, ◌∙◌, rules}
 use Rattle.ic_link_ops.proofs.SequenceLemmas.{none_not, some_same}
-use Rattle.ic_raw.specs.Doubly.{lent_table}
-use Rattle.ic_raw.specs.Ring.{IsCircle, Makes}
+use Rattle.ic_raw.specs.Doubly.{lent_table, table_of}
+use Rattle.ic_raw.specs.Ring.{IsCircle, Makes, around}
 use Rattle.ic_raw.specs.Words.{no_words, is_linked_two}
 use Rattle.ic_raw.proofs.Gaps.{never}
-use Rattle.ic_raw.proofs.Rings.{circle_viewed, makes_back, amid_back}
+use Rattle.ic_raw.proofs.Rings.{circle_viewed, makes_back, amid_back, touched_words}
 use Rattle.ic_raw.proofs.Views.{free_viewed, unlinked_back}
 use Rattle.ic_raw.proofs.ring_calls.replace.Goals as goal
 
@@ -20,6 +20,7 @@ returns-then-not-replace c =
       free = search rules;
       no_place = search rules;
       told = search rules;
+      touched = search rules;
       null = search rules;
       refused = search rules;
       why = search rules;
@@ -46,6 +47,10 @@ returns c =
       told = λ h is ok.
           let same : c.in-Some.member ≡ h = some_same (sym c.in-Some.is ∙ c.place_of.ensures ∙ is) in
           rw same at (amid_back links view (c.replace.ensures.before c.if-not-replace.false) (c.replace.ensures.behind c.if-not-replace.false));
+      touched = λ h p is_at is_place ok.
+          let same : c.in-Some.member ≡ h = some_same (sym c.in-Some.is ∙ c.place_of.ensures ∙ is_at) in
+          let named = rw same at (c.replace.ensures.touched p (c.place_of-2.ensures ∙ is_place) c.if-not-replace.false) in
+          touched_words links c.replace.new.links view (search rules) (ap (λ es. Some p ∷ Some h ∷ around (table_of es) h) (sym view)) named;
       null = search rules;
       refused = search rules;
       why = search rules;

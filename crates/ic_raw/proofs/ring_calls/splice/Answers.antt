@@ -1,11 +1,11 @@
 use Rattle.std.proofs.Common.{◌≡◌, Some, [], ◌∷◌, ◌++◌, refl, sym, ap, subst, ◌∙◌, rules}
 use Rattle.ic_link_ops.specs.Sequences.{IsDisjoint}
 use Rattle.ic_link_ops.proofs.SequenceLemmas.{none_not, some_same}
-use Rattle.ic_raw.specs.Doubly.{lent_table}
-use Rattle.ic_raw.specs.Ring.{IsCircle, Makes, MakesTwo, put_in, all_put_in}
+use Rattle.ic_raw.specs.Doubly.{lent_table, table_of}
+use Rattle.ic_raw.specs.Ring.{IsCircle, Makes, MakesTwo, around, put_in, all_put_in}
 use Rattle.ic_raw.specs.Words.{no_words, is_linked_two}
 use Rattle.ic_raw.proofs.Gaps.{never}
-use Rattle.ic_raw.proofs.Rings.{circle_viewed, makes_back, makes_two_back, linked_back, amid_back, same_back}
+use Rattle.ic_raw.proofs.Rings.{circle_viewed, makes_back, makes_two_back, linked_back, amid_back, same_back, touched_words, beside_back}
 use Rattle.ic_raw.proofs.Views.{free_viewed, unlinked_back}
 use Rattle.ic_raw.proofs.ring_calls.splice.Goals as goal
 
@@ -35,6 +35,12 @@ returns c =
           let to : beside ≡ h = some_same (sym c.in-Some.is ∙ c.place_of.ensures ∙ is_at) in
           let from : given ≡ g = some_same (sym c.in-Some-place_of.is ∙ c.place_of-2.ensures ∙ is_given) in
           c.splice.ensures.other c.if-not-splice.false (to ∙ e ∙ sym from);
+      touched = λ h g is_at is_given ok.
+          let to : beside ≡ h = some_same (sym c.in-Some.is ∙ c.place_of.ensures ∙ is_at) in
+          let from : given ≡ g = some_same (sym c.in-Some-place_of.is ∙ c.place_of-2.ensures ∙ is_given) in
+          let named = rw (from, to) at (c.splice.ensures.touched c.if-not-splice.false) in
+          touched_words links c.splice.new.links view (search rules)
+          (λ k. Some g ∷ around (table_of (sym view k)) g ++ Some h ∷ beside_back c.args.side links h view k ∷ []) named;
       null = search rules;
       refused = search rules;
       why = search rules;

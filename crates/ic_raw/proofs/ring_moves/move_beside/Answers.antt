@@ -6,7 +6,8 @@ use Rattle.ic_ring.proofs.Circles.{circle_taken, next_not, prev_not, rotated, te
 use Rattle.ic_ring.proofs.OtherRings.{circle_stays}
 use Rattle.ic_raw.specs.Doubly.{lent_table, neighbors}
 use Rattle.ic_raw.specs.Ring.{Makes, MakesTwo}
-use Rattle.ic_raw.proofs.Rings.{circle_tells, neighbor_not, not_beside, own_linked, stays_told, put_already, some_there}
+use Rattle.ic_raw.proofs.Rings.{apart_around, apart_beside, circle_tells, neighbor_not, not_beside, own_linked, stays_told, put_already, some_there}
+use Rattle.ic_raw.proofs.Touches.{other_place}
 use Rattle.ic_raw.proofs.ring_moves.move_beside.Goals as goal
 
 pub returns-in_default-clause-apart : goal.returns-in_default-clause-apart
@@ -156,3 +157,23 @@ returns-then-eq-2-clause-before c made = (c.in-Some.from.0, (c.around.ensures.to
 
 pub returns-then-eq-2-clause-behind : goal.returns-then-eq-2-clause-behind
 returns-then-eq-2-clause-behind c made = (c.in-Some.from.1, (c.around.ensures.told c.in-Some.from c.in-Some.is).1)
+
+pub returns-then-eq-clause-touched : goal.returns-then-eq-clause-touched
+returns-then-eq-clause-touched c made = record { steps_are = λ q. refl; others = λ q out. refl }
+
+pub returns-then-eq-2-clause-touched : goal.returns-then-eq-2-clause-touched
+returns-then-eq-2-clause-touched c made = record { steps_are = λ q. refl; others = λ q out. refl }
+
+pub returns-clause-touched : goal.returns-clause-touched
+returns-clause-touched c made =
+    let from = c.around.ensures.told c.in-Some.from c.in-Some.is in
+    let to = c.beside.ensures.told c.in-Some-beside.to c.in-Some-beside.is in record {
+      steps_are = λ q. c.link_between.ensures.no_step q ∙ c.close_gap.ensures.no_step q;
+      others = λ q out.
+          let off = apart_around from.0 from.1 out.1.0 out.1.1.0 in
+          let on = apart_beside c.args.side c.in-Some-beside.to to.0 to.1 out.1.1.1.0 out.1.1.1.1.0 in
+          c.link_between.ensures.others q (other_place out.0) on.0 on.1 ∙ c.close_gap.ensures.others q off.0 off.1;
+    }
+
+pub returns-clause-extent : goal.returns-clause-extent
+returns-clause-extent c = c.link_between.ensures.extent ∙ c.close_gap.ensures.extent

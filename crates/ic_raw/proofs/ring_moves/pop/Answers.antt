@@ -4,7 +4,7 @@ use Rattle.ic_ring.proofs.Circles.{tested_same, tested_other}
 use Rattle.ic_raw.specs.Doubly.{lent_table}
 use Rattle.ic_raw.specs.Ring.{IsCircle, Makes, neighbor_on}
 use Rattle.ic_raw.proofs.Gaps.{never}
-use Rattle.ic_raw.proofs.Rings.{others_of, put_tells, from_put, put_apart, without_put, alone_tells}
+use Rattle.ic_raw.proofs.Rings.{beside_told, others_of, put_tells, from_put, put_apart, without_put, alone_tells}
 use Rattle.ic_raw.proofs.ring_moves.pop.Goals as goal
 
 pub returns-in_default-clause-popped : goal.returns-in_default-clause-popped
@@ -38,3 +38,11 @@ returns-clause-empty c circle =
     let x = alone_tells c.args.side circle in
     let is = c.neighbor_on-member.ensures ∙ ap (neighbor_on c.args.side) (some_same (sym c.in-Some.is ∙ c.beside.ensures.tells x.0 x.1 x.2)) ∙ x.3 in
     absurd (tested_other _ _ (sym c.eq.ensures ∙ c.if-eq.false) is)
+
+pub returns-clause-beside : goal.returns-clause-beside
+returns-clause-beside c p is =
+    let told = c.beside.ensures.told c.in-Some.pair c.in-Some.is in
+    beside_told c.args.side c.in-Some.pair told.0 told.1 ∙ ap Some (sym c.neighbor_on-member.ensures) ∙ is
+
+pub returns-clause-touched : goal.returns-clause-touched
+returns-clause-touched c p is = rw (sym (some_same is)) (c.remove.ensures.touched c.if-not-remove.false)

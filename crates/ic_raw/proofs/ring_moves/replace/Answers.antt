@@ -5,7 +5,8 @@ use Rattle.ic_ring.proofs.Circles.{circle_beside, free_outside, rotated}
 use Rattle.ic_raw.specs.declared.gap.Side.TheVariants.{Before}
 use Rattle.ic_raw.specs.Doubly.{lent_table, neighbors}
 use Rattle.ic_raw.specs.Ring.{Makes}
-use Rattle.ic_raw.proofs.Rings.{next_first, not_beside, some_there, told_beside}
+use Rattle.ic_raw.proofs.Rings.{apart_around, apart_without, next_first, not_beside, some_there, told_beside}
+use Rattle.ic_raw.proofs.Touches.{links_first, other_place}
 use Rattle.ic_raw.proofs.ring_moves.replace.Goals as goal
 
 pub returns-in_default-clause-replaced : goal.returns-in_default-clause-replaced
@@ -75,3 +76,31 @@ returns-clause-before c made = (c.in-Some.pair.0, (c.around.ensures.told c.in-So
 
 pub returns-clause-behind : goal.returns-clause-behind
 returns-clause-behind c made = (c.in-Some.pair.1, (c.around.ensures.told c.in-Some.pair c.in-Some.is).1)
+
+pub returns-clause-touched : goal.returns-clause-touched
+returns-clause-touched c p is made =
+    let own = c.in-Some-acquire.own in
+    let got = c.acquire.ensures in
+    let one : p ≡ own = some_same (sym is ∙ got.same own c.in-Some-acquire.is) in
+    let told = c.around.ensures.told c.in-Some.pair c.in-Some.is in
+    let frame = got.frame own c.in-Some-acquire.is in
+    let put = c.link_between.ensures in
+    let gap = c.close_gap.ensures in
+    let off = c.release_link.ensures in
+    rw one (record {
+      steps_are = (
+        lent_table c.close_gap.new.links,
+        links_first (got.free own c.in-Some-acquire.is) (got.linked own c.in-Some-acquire.is) frame (λ q. gap.no_step q ∙ put.no_step q),
+        off.released,
+      );
+      others = λ q out.
+          let away = other_place out.0 in
+          let gone = other_place out.1.0 in
+          let apart = apart_around told.0 told.1 out.1.1.0 out.1.1.1.0 in
+          off.frame.others q gone ∙ gap.others q away (apart_without c.next_without.ensures.alone c.next_without.ensures.other away apart.1)
+          ∙ put.others q away apart.0 gone ∙ frame.others q away;
+    })
+
+pub returns-clause-extent : goal.returns-clause-extent
+returns-clause-extent c =
+    c.release_link.ensures.frame.extent ∙ c.close_gap.ensures.extent ∙ c.link_between.ensures.extent ∙ (c.acquire.ensures.frame c.in-Some-acquire.own c.in-Some-acquire.is).extent

@@ -5,7 +5,8 @@ use Rattle.ic_ring.proofs.Circles.{circle_beside, circle_taken, last_some, next_
 use Rattle.ic_ring.proofs.OtherRings.{circle_stays}
 use Rattle.ic_raw.specs.declared.gap.Side.TheVariants.{After, Before}
 use Rattle.ic_raw.specs.Doubly.{lent_table, neighbors}
-use Rattle.ic_raw.proofs.Rings.{circle_tells, not_beside, own_linked, some_there, stands_alone, splices_elsewhere, before_gap, from_gap, last_before, disjoint_gap, absent_gap, all_put, none_put, absent_all}
+use Rattle.ic_raw.proofs.Rings.{apart_around, apart_beside, circle_tells, not_beside, own_linked, some_there, stands_alone, splices_elsewhere, before_gap, from_gap, last_before, disjoint_gap, absent_gap, all_put, none_put, absent_all}
+use Rattle.ic_raw.proofs.Touches.{other_place}
 use Rattle.ic_raw.proofs.ring_moves.splice.Goals as goal
 
 pub returns-in_default-clause-spliced : goal.returns-in_default-clause-spliced
@@ -127,3 +128,22 @@ returns-then-eq-3-clause-before c made = (c.in-Some.from.0, (c.around.ensures.to
 
 pub returns-then-eq-3-clause-behind : goal.returns-then-eq-3-clause-behind
 returns-then-eq-3-clause-behind c made = (c.in-Some.from.1, (c.around.ensures.told c.in-Some.from c.in-Some.is).1)
+
+pub returns-then-eq-3-clause-touched : goal.returns-then-eq-3-clause-touched
+returns-then-eq-3-clause-touched c made = record { steps_are = λ q. refl; others = λ q out. refl }
+
+pub returns-clause-touched : goal.returns-clause-touched
+returns-clause-touched c made =
+    let from = c.around.ensures.told c.in-Some.from c.in-Some.is in
+    let to = c.beside.ensures.told c.in-Some-beside.to c.in-Some-beside.is in record {
+      steps_are = λ q. c.set_next.ensures.no_step q ∙ c.set_prev.ensures.no_step q ∙ c.cross.ensures.no_step q ∙ c.close_gap.ensures.no_step q;
+      others = λ q out.
+          let away = other_place out.0 in
+          let off = apart_around from.0 from.1 out.1.0 out.1.1.0 in
+          let on = apart_beside c.args.side c.in-Some-beside.to to.0 to.1 out.1.1.1.0 out.1.1.1.1.0 in
+          c.set_next.ensures.frame.others q away ∙ c.set_prev.ensures.frame.others q away ∙ c.cross.ensures.others q on.0 on.1 off.0 off.1
+          ∙ c.close_gap.ensures.others q off.0 off.1;
+    }
+
+pub returns-clause-extent : goal.returns-clause-extent
+returns-clause-extent c = c.set_next.ensures.frame.extent ∙ c.set_prev.ensures.frame.extent ∙ c.cross.ensures.extent ∙ c.close_gap.ensures.extent
