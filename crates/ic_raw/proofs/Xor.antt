@@ -13,7 +13,8 @@ use Rattle.ic_link_ops.proofs.XorLists.{joined_linked, joined_symmetric}
 use Rattle.ic_raw.specs.declared.words.RawOne.{RawOne}
 use Rattle.ic_raw.specs.declared.table.RawTable.{RawTable}
 use Rattle.ic_raw.specs.Words.{is_linked_one, next_of_one}
-use Rattle.ic_raw.specs.Gaps.{Stands}
+use Rattle.ic_raw.specs.declared.gap.Gap.{Gap}
+use Rattle.ic_raw.specs.Gaps.{Stands, Turns}
 use Rattle.ic_raw.specs.Tables.{raw_entries}
 use Rattle.ic_raw.specs.Singly.{table_of, lent_table}
 use Rattle.ic_raw.specs.Xor.{Shows, Joins, GoesOn, Faces, TellsGap, TellsMember, TellsEnds, LeadsThrough, other}
@@ -99,6 +100,11 @@ ends_told {t} {list} {s} shown =
 -- a list is turned round by its ends alone
 pub turned : {t : Table RawOne} {list list' : Ends} {s : List Place} → Shows t list s → list'.head ≡ list.tail → list'.tail ≡ list.head → Shows t list' (reverse s)
 turned shown head tail = shows_reversed (joined_symmetric (λ e a b. joins_symmetric (next_of_one e) a b)) shown head tail
+
+-- a list's own ends, by what they are read of and written to
+pub turned_back : {gap : Gap} {begins ends ends' : Option Place} {old old' new new' : Ends} → ends' ≡ ends → old ≡ old' → new' ≡ new → Turns gap begins ends old new
+    → Turns gap begins ends' old' new'
+turned_back same e f turns = rw (same, ← e, f) turns
 
 -- what the words of a view lead through
 pub leads_back : {es : List RawOne} (t : RawTable RawOne) (list : Ends) (s : List Place) → raw_entries t ≡ es → LeadsThrough (lent_table t) list s → LeadsThrough (table_of es) list s

@@ -4,6 +4,7 @@ use Rattle.std.specs.Prelude.{◌≡◌, ◌≢◌, ◌↔◌, ◌∷◌, ℕ, L
 use Rattle.ic_unsafe_ref.specs.declared.place.Place.{Place}
 use Rattle.ic_link_ops.specs.Sequences.{Cut, at_back, last, IsAfter, IsBefore}
 use Rattle.ic_link_ops.specs.Chains.{no_members}
+use Rattle.ic_link_ops.specs.LinkSteps.{acquires, releases}
 use Rattle.ic_raw.specs.declared.gap.Gap.{Gap}
 use Rattle.ic_raw.specs.declared.gap.Side.{Side}
 use Rattle.ic_raw.specs.declared.gap.Side.TheVariants.{After, Before}
@@ -13,10 +14,11 @@ use Rattle.ic_raw.specs.declared.words.RawOne.{RawOne}
 use Rattle.ic_raw.specs.Answers.{IsStatus, refusal}
 use Rattle.ic_raw.specs.Doubly.{IsEnd, IsWritten, end_on, ends_of, words_of}
 use Rattle.ic_raw.specs.Fills.{run_faults}
-use Rattle.ic_raw.specs.Gaps.{PutIn, TakenOut, gap_between}
+use Rattle.ic_raw.specs.Gaps.{PutIn, TakenOut, Turns, gap_between}
 use Rattle.ic_raw.specs.Singly.{IsFreeRunIn, table_of}
-use Rattle.ic_raw.specs.Words.{HasNumber}
-use Rattle.ic_raw.specs.Xor.{FreeIn, StandsIn, beyond, TellsGap, TellsMemberBehind, TellsMemberBefore, TellsEnds, LeadsThrough, fault_at, fault_of}
+use Rattle.ic_raw.specs.Touches.{Touches, sides}
+use Rattle.ic_raw.specs.Words.{HasNumber, is_linked_one}
+use Rattle.ic_raw.specs.Xor.{FreeIn, StandsIn, beyond, TellsGap, TellsMemberBehind, TellsMemberBefore, TellsEnds, LeadsThrough, CutsEnds, fault_at, fault_of}
 use Rattle.ic_raw.specs.Xor.{Inserted, Removed, Popped, Replaced, Spliced, Split, Cleared, Filled}
 
 -- `old`, `new`: the words of the table before the call and after it. `list`, `list'`: those of the list. `status`: what the call returns
@@ -29,6 +31,7 @@ module _ (old new : List RawOne) (list list' : RawEnds) (status : ℕ) where
     pub stands_before : status ≡ OK → StandsIn old before
     pub stands_behind : status ≡ OK → StandsIn old behind
     pub told : status ≡ OK → TellsGap (table_of old) (ends_of list) before behind
+    pub touched : (p : Place) → place ≡ Some p → status ≡ OK → Touches is_linked_one (table_of old) (table_of new) (acquires p ∷ []) (Some p ∷ before ∷ behind ∷ [])
     pub own : status ≡ OK → PutIn (gap_between before behind) place (ends_of list) (ends_of list')
     pub words : status ≡ OK → IsWritten list'
     pub refused : status ≢ OK → (new ≡ old) × (list' ≡ list)
@@ -41,6 +44,7 @@ module _ (old new : List RawOne) (list list' : RawEnds) (status : ℕ) where
     pub free : (p : Place) → place ≡ Some p → status ≡ OK → FreeIn old p
     pub no_place : place ≡ None → status ≢ OK
     pub told : status ≡ OK → TellsGap (table_of old) (ends_of list) before behind
+    pub touched : (p : Place) → place ≡ Some p → status ≡ OK → Touches is_linked_one (table_of old) (table_of new) (acquires p ∷ []) (Some p ∷ before ∷ behind ∷ [])
     pub own : status ≡ OK → PutIn (gap_between before behind) place (ends_of list) (ends_of list')
     pub words : status ≡ OK → IsWritten list'
     pub refused : status ≢ OK → (new ≡ old) × (list' ≡ list)
@@ -64,6 +68,8 @@ module _ (old new : List RawOne) (list list' : RawEnds) (status : ℕ) where
     pub null : (status ≡ NULL) ↔ (end_on side (ends_of list) ≡ None)
     pub stands : status ≡ OK → StandsIn old (end_on side (ends_of list))
     pub told : status ≡ OK → TellsEndOn side
+    pub touched : (p : Place) → end_on side (ends_of list) ≡ Some p → status ≡ OK
+        → Touches is_linked_one (table_of old) (table_of new) (releases p ∷ []) (Some p ∷ sides (around_end side))
     pub own : status ≡ OK → TakenOut (around_end side) (ends_of list) (ends_of list')
     pub words : IsWritten list → IsWritten list'
     pub refused : status ≢ OK → (new ≡ old) × (list' ≡ list) × (popped ≡ was)
@@ -77,6 +83,8 @@ module _ (old new : List RawOne) (list list' : RawEnds) (status : ℕ) where
     pub stands : status ≡ OK → StandsIn old at
     pub stands_before : status ≡ OK → StandsIn old before
     pub told : status ≡ OK → TellsMemberBehind (table_of old) (ends_of list) before at
+    pub touched : (p : Place) → at ≡ Some p → status ≡ OK
+        → Touches is_linked_one (table_of old) (table_of new) (releases p ∷ []) (Some p ∷ before ∷ beyond (table_of old) at before ∷ [])
     pub own : status ≡ OK → TakenOut (gap_between before (beyond (table_of old) at before)) (ends_of list) (ends_of list')
     pub words : status ≡ OK → IsWritten list'
     pub refused : status ≢ OK → (new ≡ old) × (list' ≡ list)
@@ -93,6 +101,9 @@ module _ (old new : List RawOne) (list list' : RawEnds) (status : ℕ) where
     pub stands : status ≡ OK → StandsIn old at
     pub stands_before : status ≡ OK → StandsIn old before
     pub told : status ≡ OK → TellsMemberBehind (table_of old) (ends_of list) before at
+    pub touched : (out p : Place) → at ≡ Some out → place ≡ Some p → status ≡ OK
+        → Touches is_linked_one (table_of old) (table_of new) (acquires p ∷ releases out ∷ [])
+        (Some p ∷ Some out ∷ before ∷ beyond (table_of old) at before ∷ [])
     pub own : status ≡ OK → PutIn (gap_between before (beyond (table_of old) at before)) place (ends_of list) (ends_of list')
     pub words : status ≡ OK → IsWritten list'
     pub refused : status ≢ OK → (new ≡ old) × (list' ≡ list)
@@ -108,6 +119,10 @@ module _ (old new : List RawOne) (list list' : RawEnds) (status : ℕ) where
     pub told : status ≡ OK → TellsGap (table_of old) (ends_of list) before behind
     pub ends : status ≡ OK → TellsEnds (table_of old) (ends_of given)
     pub apart : status ≡ OK → (p : Place) → (ends_of given).head ≡ Some p → (ends_of list).head ≢ Some p
+    pub touched : status ≡ OK → Touches is_linked_one (table_of old) (table_of new) [] (before ∷ behind ∷ (ends_of given).head ∷ (ends_of given).tail ∷ [])
+    pub own : (first : Place) → (ends_of given).head ≡ Some first → status ≡ OK
+        → Turns (gap_between before behind) (Some first) (ends_of given).tail (ends_of list) (ends_of list')
+    pub nothing : (ends_of given).head ≡ None → status ≡ OK → (new ≡ old) × (ends_of list' ≡ ends_of list)
     pub words : status ≡ OK → IsWritten list'
     pub refused : status ≢ OK → (new ≡ old) × (list' ≡ list) × (given' ≡ given)
     pub why : status ≢ OK → status ≡ refusal (fault_at old before ∷ fault_at old behind ∷ [])
@@ -121,6 +136,10 @@ module _ (old new : List RawOne) (list list' : RawEnds) (status : ℕ) where
     pub told : status ≡ OK → TellsGap (table_of old) (ends_of list) (ends_of list).tail None
     pub ends : status ≡ OK → TellsEnds (table_of old) (ends_of given)
     pub apart : status ≡ OK → (p : Place) → (ends_of given).head ≡ Some p → (ends_of list).head ≢ Some p
+    pub touched : status ≡ OK → Touches is_linked_one (table_of old) (table_of new) [] ((ends_of list).tail ∷ (ends_of given).head ∷ (ends_of given).tail ∷ [])
+    pub own : (first : Place) → (ends_of given).head ≡ Some first → status ≡ OK
+        → Turns (gap_between (ends_of list).tail None) (Some first) (ends_of given).tail (ends_of list) (ends_of list')
+    pub nothing : (ends_of given).head ≡ None → status ≡ OK → (new ≡ old) × (ends_of list' ≡ ends_of list)
     pub words : status ≡ OK → IsWritten list'
     pub refused : status ≢ OK → (new ≡ old) × (list' ≡ list) × (given' ≡ given)
     pub why : status ≢ OK → status ≡ BROKEN
@@ -134,6 +153,8 @@ module _ (old new : List RawOne) (list list' : RawEnds) (status : ℕ) where
     pub stands_before : status ≡ OK → StandsIn old before
     pub stands_behind : status ≡ OK → StandsIn old behind
     pub told : status ≡ OK → TellsGap (table_of old) (ends_of list) before behind
+    pub touched : status ≡ OK → Touches is_linked_one (table_of old) (table_of new) [] (before ∷ behind ∷ [])
+    pub own : status ≡ OK → CutsEnds (gap_between before behind) (ends_of list) (ends_of list') (ends_of rest')
     pub words : status ≡ OK → IsWritten list'
     pub rest_words : status ≡ OK → IsWritten rest'
     pub refused : status ≢ OK → (new ≡ old) × (list' ≡ list) × (rest' ≡ rest)

@@ -11,10 +11,12 @@ ghost use Rattle.ic_unsafe_ref.specs.declared.place.Place.{Place};
 ghost use Rattle.ic_link_ops.specs.Sequences.{Cut, join, last, IsAfter, IsBefore, IsDisjoint};
 ghost use Rattle.ic_link_ops.specs.Tables.{Table};
 ghost use Rattle.ic_link_ops.specs.Chains.{no_members};
+ghost use Rattle.ic_link_ops.specs.LinkSteps.{acquires, releases};
 ghost use Rattle.ic_raw.specs.declared.gap.Side.TheVariants.{After, Before};
 ghost use Rattle.ic_raw.specs.declared.status.TheConstants.{OK, NULL};
 ghost use Rattle.ic_raw.specs.declared.words.RawOne.{RawOne};
-ghost use Rattle.ic_raw.specs.Gaps.{PutIn, TakenOut, gap_between};
+ghost use Rattle.ic_raw.specs.Gaps.{PutIn, TakenOut, Turns, gap_between};
+ghost use Rattle.ic_raw.specs.Touches.{Touches};
 ghost use Rattle.ic_raw.specs.Words.{place_in, place_of, is_linked_one};
 ghost use Rattle.ic_raw.specs.Tables.{member_fault, place_fault};
 ghost use Rattle.ic_raw.specs.Doubly.{ends_of, words_of};
@@ -83,6 +85,8 @@ fn put(
     ensures told { result ≡ true → TellsGap (table_of table.old) (ends_of list.old) before behind }
     ensures before { result ≡ true → StandsIn table.old before }
     ensures behind { result ≡ true → StandsIn table.old behind }
+    ensures touched { (p : Place) → place ≡ Some p → result ≡ true
+        → Touches is_linked_one (table_of table.old) (table_of table.new) (acquires p ∷ []) (Some p ∷ before ∷ behind ∷ []) }
     ensures own { result ≡ true → PutIn (gap_between before behind) place (ends_of list.old) (ends_of list.new) }
     ensures words { result ≡ true → list.new ≡ words_of (ends_of list.new) }
     ensures refused { result ≡ false → (table.new ≡ table.old) × (list.new ≡ list.old) }
@@ -171,6 +175,8 @@ fn take(table: &mut [RawOne], list: &mut RawEnds, before: Option<Place>, member:
     ensures stands { result ≡ true → StandsIn table.old (Some member) }
     ensures before { result ≡ true → StandsIn table.old before }
     ensures told { result ≡ true → TellsMemberBehind (table_of table.old) (ends_of list.old) before (Some member) }
+    ensures touched { result ≡ true → Touches is_linked_one (table_of table.old) (table_of table.new) (releases member ∷ [])
+        (Some member ∷ before ∷ beyond (table_of table.old) (Some member) before ∷ []) }
     ensures own { result ≡ true
         → TakenOut (gap_between before (beyond (table_of table.old) (Some member) before)) (ends_of list.old) (ends_of list.new) }
     ensures words { result ≡ true → list.new ≡ words_of (ends_of list.new) }
@@ -192,6 +198,8 @@ fn take_last(table: &mut [RawOne], list: &mut RawEnds, member: Place) -> bool
         → (result ≡ true) × Removed table.old table.new list.old list.new OK member front [] }
     ensures stands { result ≡ true → StandsIn table.old (Some member) }
     ensures told { result ≡ true → TellsMemberBefore (table_of table.old) (ends_of list.old) None (Some member) }
+    ensures touched { result ≡ true → Touches is_linked_one (table_of table.old) (table_of table.new) (releases member ∷ [])
+        (Some member ∷ beyond (table_of table.old) (Some member) None ∷ None ∷ []) }
     ensures own { result ≡ true
         → TakenOut (gap_between (beyond (table_of table.old) (Some member) None) None) (ends_of list.old) (ends_of list.new) }
     ensures words { result ≡ true → list.new ≡ words_of (ends_of list.new) }
@@ -331,6 +339,11 @@ fn splice(
     ensures told { result ≡ true → TellsGap (table_of table.old) (ends_of list.old) before behind }
     ensures ends { result ≡ true → TellsEnds (table_of table.old) (ends_of given.old) }
     ensures apart { result ≡ true → (p : Place) → (ends_of given.old).head ≡ Some p → (ends_of list.old).head ≢ Some p }
+    ensures touched { result ≡ true
+        → Touches is_linked_one (table_of table.old) (table_of table.new) [] (before ∷ behind ∷ (ends_of given.old).head ∷ (ends_of given.old).tail ∷ []) }
+    ensures own { (first : Place) → (ends_of given.old).head ≡ Some first → result ≡ true
+        → Turns (gap_between before behind) (Some first) (ends_of given.old).tail (ends_of list.old) (ends_of list.new) }
+    ensures nothing { (ends_of given.old).head ≡ None → result ≡ true → (table.new ≡ table.old) × (ends_of list.new ≡ ends_of list.old) }
     ensures words { result ≡ true → list.new ≡ words_of (ends_of list.new) }
     ensures refused { result ≡ false → (table.new ≡ table.old) × (list.new ≡ list.old) × (given.new ≡ given.old) }
 {

@@ -8,14 +8,16 @@ ghost use Rattle.std.specs.Prelude.{◌≡◌, ◌≢◌, ◌↔◌, ◌++◌, �
 ghost use Rattle.ic_unsafe_ref.specs.declared.place.Place.{Place};
 ghost use Rattle.ic_link_ops.specs.Sequences.{Cut, join, first, last, IsDisjoint, IsAfter, IsBefore};
 ghost use Rattle.ic_link_ops.specs.Tables.{IsLinked, IsUnlinked};
+ghost use Rattle.ic_link_ops.specs.LinkSteps.{acquires, releases};
 ghost use Rattle.ic_link_ops.specs.Edits.{Inserts, Removes, Replaces, Splices, Splits};
 ghost use Rattle.ic_raw.specs.Calls.{Clears};
-ghost use Rattle.ic_raw.specs.Gaps.{PutIn, Stands, TakenOut, gap_between};
+ghost use Rattle.ic_raw.specs.Gaps.{PutIn, Stands, TakenOut, Turns, gap_between};
 ghost use Rattle.ic_raw.specs.Gaps as gaps;
 ghost use Rattle.ic_raw.specs.Tables.{IsFree};
+ghost use Rattle.ic_raw.specs.Touches.{Touches};
 ghost use Rattle.ic_raw.specs.Words.{is_linked_one};
 ghost use Rattle.ic_raw.specs.Singly.{lent_table};
-ghost use Rattle.ic_raw.specs.Xor.{Shows, beyond, GoesOn, Faces, TellsGap, TellsMember, TellsMemberBehind, TellsMemberBefore, TellsEnds, LeadsThrough};
+ghost use Rattle.ic_raw.specs.Xor.{Shows, beyond, GoesOn, Faces, TellsGap, TellsMember, TellsMemberBehind, TellsMemberBefore, TellsEnds, LeadsThrough, CutsEnds};
 
 use crate::gap::begin_alike;
 use crate::table::RawTable;
@@ -116,6 +118,8 @@ pub(crate) fn insert(
         → (result ≡ true) × Inserts Shows (lent_table links.old) (lent_table links.new) list.new cut p }
     ensures free { result ≡ true → (p : Place) × (place ≡ Some p) × IsFree is_linked_one (lent_table links.old) p }
     ensures told { result ≡ true → TellsGap (lent_table links.old) list.old before behind }
+    ensures touched { (p : Place) → place ≡ Some p → result ≡ true
+        → Touches is_linked_one (lent_table links.old) (lent_table links.new) (acquires p ∷ []) (Some p ∷ before ∷ behind ∷ []) }
     ensures own { result ≡ true → PutIn (gap_between before behind) place list.old list.new }
     ensures before { result ≡ true → Stands is_linked_one (lent_table links.old) before }
     ensures behind { result ≡ true → Stands is_linked_one (lent_table links.old) behind }
@@ -147,6 +151,8 @@ fn take_out(
         → (result ≡ true) × Removes Shows (lent_table links.old) (lent_table links.new) list.new (gaps.before member front back)
         × IsUnlinked is_linked_one (lent_table links.new) member }
     ensures told { result ≡ true → TellsMember (lent_table links.old) list.old before member behind }
+    ensures touched { result ≡ true
+        → Touches is_linked_one (lent_table links.old) (lent_table links.new) (releases member ∷ []) (Some member ∷ before ∷ behind ∷ []) }
     ensures own { result ≡ true → TakenOut (gap_between before behind) list.old list.new }
     ensures before { result ≡ true → Stands is_linked_one (lent_table links.old) before }
     ensures refused { result ≡ false → (links.new ≡ links.old) × (list.new ≡ list.old) }
@@ -174,6 +180,8 @@ pub(crate) fn remove(
     ensures stands { result ≡ true → Stands is_linked_one (lent_table links.old) (Some member) }
     ensures before { result ≡ true → Stands is_linked_one (lent_table links.old) before }
     ensures told { result ≡ true → TellsMemberBehind (lent_table links.old) list.old before (Some member) }
+    ensures touched { result ≡ true → Touches is_linked_one (lent_table links.old) (lent_table links.new) (releases member ∷ [])
+        (Some member ∷ before ∷ beyond (lent_table links.old) (Some member) before ∷ []) }
     ensures own { result ≡ true → TakenOut (gap_between before (beyond (lent_table links.old) (Some member) before)) list.old list.new }
     ensures refused { result ≡ false → (links.new ≡ links.old) × (list.new ≡ list.old) }
     ensures extent { (lent_table links.new).extent ≡ (lent_table links.old).extent }
@@ -195,6 +203,8 @@ pub(crate) fn pop_before_others(links: &mut RawTable<'_, RawOne>, list: &mut Lis
     ensures first { (q : Place) → result ≡ Some q → list.old.head ≡ Some q }
     ensures stands { (q : Place) → result ≡ Some q → Stands is_linked_one (lent_table links.old) (Some q) }
     ensures told { (q : Place) → result ≡ Some q → TellsMemberBehind (lent_table links.old) list.old None (Some q) }
+    ensures touched { (q : Place) → result ≡ Some q → Touches is_linked_one (lent_table links.old) (lent_table links.new) (releases q ∷ [])
+        (Some q ∷ None ∷ beyond (lent_table links.old) (Some q) None ∷ []) }
     ensures own { (q : Place) → result ≡ Some q → TakenOut (gap_between None (beyond (lent_table links.old) (Some q) None)) list.old list.new }
     ensures refused { result ≡ None → (links.new ≡ links.old) × (list.new ≡ list.old) }
     ensures extent { (lent_table links.new).extent ≡ (lent_table links.old).extent }
@@ -230,6 +240,8 @@ pub(crate) fn remove_last(links: &mut RawTable<'_, RawOne>, list: &mut List, mem
         × IsUnlinked is_linked_one (lent_table links.new) member }
     ensures stands { result ≡ true → Stands is_linked_one (lent_table links.old) (Some member) }
     ensures told { result ≡ true → TellsMemberBefore (lent_table links.old) list.old None (Some member) }
+    ensures touched { result ≡ true → Touches is_linked_one (lent_table links.old) (lent_table links.new) (releases member ∷ [])
+        (Some member ∷ beyond (lent_table links.old) (Some member) None ∷ None ∷ []) }
     ensures own { result ≡ true → TakenOut (gap_between (beyond (lent_table links.old) (Some member) None) None) list.old list.new }
     ensures refused { result ≡ false → (links.new ≡ links.old) × (list.new ≡ list.old) }
     ensures extent { (lent_table links.new).extent ≡ (lent_table links.old).extent }
@@ -258,6 +270,9 @@ pub(crate) fn replace(
     ensures stands { result ≡ true → Stands is_linked_one (lent_table links.old) (Some member) }
     ensures before { result ≡ true → Stands is_linked_one (lent_table links.old) before }
     ensures told { result ≡ true → TellsMemberBehind (lent_table links.old) list.old before (Some member) }
+    ensures touched { (p : Place) → place ≡ Some p → result ≡ true
+        → Touches is_linked_one (lent_table links.old) (lent_table links.new) (acquires p ∷ releases member ∷ [])
+        (Some p ∷ Some member ∷ before ∷ beyond (lent_table links.old) (Some member) before ∷ []) }
     ensures own { result ≡ true → PutIn (gap_between before (beyond (lent_table links.old) (Some member) before)) place list.old list.new }
     ensures refused { result ≡ false → (links.new ≡ links.old) × (list.new ≡ list.old) }
     ensures extent { (lent_table links.new).extent ≡ (lent_table links.old).extent }
@@ -304,6 +319,11 @@ pub(crate) fn splice(
     ensures told { result ≡ true → TellsGap (lent_table links.old) list.old before behind }
     ensures ends { result ≡ true → TellsEnds (lent_table links.old) given }
     ensures apart { result ≡ true → (p : Place) → given.head ≡ Some p → list.old.head ≢ Some p }
+    ensures touched { result ≡ true
+        → Touches is_linked_one (lent_table links.old) (lent_table links.new) [] (before ∷ behind ∷ given.head ∷ given.tail ∷ []) }
+    ensures own { (first : Place) → given.head ≡ Some first → result ≡ true
+        → Turns (gap_between before behind) (Some first) given.tail list.old list.new }
+    ensures nothing { given.head ≡ None → result ≡ true → (links.new ≡ links.old) × (list.new ≡ list.old) }
     ensures before { result ≡ true → Stands is_linked_one (lent_table links.old) before }
     ensures behind { result ≡ true → Stands is_linked_one (lent_table links.old) behind }
     ensures refused { result ≡ false → (links.new ≡ links.old) × (list.new ≡ list.old) }
@@ -336,6 +356,8 @@ pub(crate) fn split(
     ensures split { (cut : Cut) → Shows (lent_table links.old) list.old (join cut) → IsAfter cut before → IsBefore cut behind
         → (result ≡ true) × Splits Shows (lent_table links.old) (lent_table links.new) list.new rest.new cut.front cut.back }
     ensures told { result ≡ true → TellsGap (lent_table links.old) list.old before behind }
+    ensures touched { result ≡ true → Touches is_linked_one (lent_table links.old) (lent_table links.new) [] (before ∷ behind ∷ []) }
+    ensures own { result ≡ true → CutsEnds (gap_between before behind) list.old list.new rest.new }
     ensures before { result ≡ true → Stands is_linked_one (lent_table links.old) before }
     ensures behind { result ≡ true → Stands is_linked_one (lent_table links.old) behind }
     ensures refused { result ≡ false → (links.new ≡ links.old) × (list.new ≡ list.old) × (rest.new ≡ rest.old) }

@@ -1,5 +1,6 @@
-use Rattle.std.proofs.Common.{refl, ap, ◌∙◌, append-nil, rules}
+use Rattle.std.proofs.Common.{refl, sym, ap, ◌∙◌, append-nil, rules}
 use Rattle.ic_link_ops.specs.Sequences.{at_back, last}
+use Rattle.ic_link_ops.proofs.SequenceLemmas.{none_not}
 use Rattle.ic_raw.proofs.Gaps.{never}
 use Rattle.ic_raw.proofs.xor_calls.append.Goals as goal
 
@@ -11,6 +12,9 @@ returns-then-not-splice c = record {
   told = search rules;
   ends = search rules;
   apart = search rules;
+  touched = search rules;
+  own = search rules;
+  nothing = search rules;
   words = search rules;
   refused = search rules;
   why = search rules;
@@ -25,6 +29,11 @@ returns c = record {
   told = search rules;
   ends = search rules;
   apart = search rules;
+  touched = λ made.
+      let touched = c.splice.ensures.touched c.if-not-splice.false in
+      record { steps_are = touched.steps_are; others = λ q out. touched.others q ((λ e. out.0 (sym c.place_in-last.ensures ∙ e)), (none_not q, out.1)) };
+  own = λ first is made. rw c.place_in-last.ensures at (c.splice.ensures.own first is c.if-not-splice.false);
+  nothing = λ is made. c.splice.ensures.nothing is c.if-not-splice.false;
   words = search rules;
   refused = search rules;
   why = search rules;

@@ -1,11 +1,12 @@
-use Rattle.std.proofs.Common.{◌∷◌, refl, sym, ap, ◌∙◌, subst, rules}
+use Rattle.std.proofs.Common.{Some, None, [], ◌∷◌, refl, sym, ap, ◌∙◌, subst, rules}
 use Rattle.ic_link_ops.specs.Chains.{Ends}
 use Rattle.ic_link_ops.proofs.SequenceLemmas.{some_same}
 use Rattle.ic_raw.specs.Words.{no_word, is_linked_one, HasNumber}
-use Rattle.ic_raw.specs.Singly.{lent_table}
-use Rattle.ic_raw.specs.Xor.{Shows}
+use Rattle.ic_raw.specs.Singly.{lent_table, table_of}
+use Rattle.ic_raw.specs.Xor.{Shows, beyond}
 use Rattle.ic_raw.proofs.Views.{viewed, removed_back, unlinked_back}
 use Rattle.ic_raw.proofs.Lists.{kept}
+use Rattle.ic_raw.proofs.Touches.{touched_back}
 use Rattle.ic_raw.proofs.xor_calls.pop_front.Goals as goal
 
 pub returns-in-Some : goal.returns-in-Some
@@ -34,6 +35,12 @@ returns-in-Some c = record {
   told = λ made p is.
       let first = sym (c.pop_before_others.ensures.first _ c.in-Some.is) ∙ ap (λ (e : Ends). e.head) c.list_of-edited.ensures ∙ is in
       rw (← c.new-links.ensures.1) (rw c.list_of-edited.ensures at (c.pop_before_others.ensures.told _ c.in-Some.is p first));
+  touched = λ p is made.
+      let view = c.new-links.ensures.1 in
+      let first = sym (c.pop_before_others.ensures.first _ c.in-Some.is) ∙ ap (λ (e : Ends). e.head) c.list_of-edited.ensures ∙ is in
+      rw is
+      (touched_back no_word c.new-links.result c.pop_before_others.new.links view (search rules) (ap (λ es. Some p ∷ None ∷ beyond (table_of es) (Some p) None ∷ []) (sym view))
+      (c.pop_before_others.ensures.touched p (c.in-Some.is ∙ first)));
   own = search rules;
   words = search rules;
   refused = search rules;

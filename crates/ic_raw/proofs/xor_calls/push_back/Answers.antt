@@ -11,6 +11,7 @@ returns-then-put c = record {
   free = search rules;
   no_place = search rules;
   told = search rules;
+  touched = search rules;
   own = search rules;
   words = search rules;
   refused = search rules;

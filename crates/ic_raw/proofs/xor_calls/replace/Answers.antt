@@ -1,7 +1,10 @@
-use Rattle.std.proofs.Common.{◌≡◌, refl, sym, ◌∙◌, rules}
+use Rattle.std.proofs.Common.{◌≡◌, Some, [], ◌∷◌, refl, sym, ap, ◌∙◌, rules}
 use Rattle.ic_link_ops.proofs.SequenceLemmas.{some_same}
 use Rattle.ic_raw.specs.Words.{no_word, is_linked_one}
+use Rattle.ic_raw.specs.Singly.{table_of}
+use Rattle.ic_raw.specs.Xor.{beyond}
 use Rattle.ic_raw.proofs.Gaps.{never}
+use Rattle.ic_raw.proofs.Touches.{touched_back}
 use Rattle.ic_raw.proofs.Views.{free_viewed, viewed, replaced_back, unlinked_back}
 use Rattle.ic_raw.proofs.Lists.{kept}
 use Rattle.ic_raw.proofs.xor_calls.replace.Goals as goal
@@ -20,6 +23,7 @@ returns-then-not-replace c = record {
   stands = search rules;
   stands_before = search rules;
   told = search rules;
+  touched = search rules;
   own = search rules;
   words = search rules;
   refused = search rules;
@@ -48,6 +52,15 @@ returns c = record {
   stands = search rules;
   stands_before = search rules;
   told = search rules;
+  touched = λ out p at is made.
+      let view = c.new-links.ensures.1 in
+      let neighbor = sym c.place_of-neighbor.ensures in
+      let one : out ≡ c.in-Some.member = some_same (sym (c.place_of.ensures ∙ at) ∙ c.in-Some.is) in
+      let there = at ∙ ap Some one in
+      rw one
+      (touched_back no_word c.new-links.result c.replace.new.links view (search rules)
+      (λ k. Some p ∷ Some c.in-Some.member ∷ neighbor k ∷ beyond (table_of (sym view k)) (there k) (neighbor k) ∷ [])
+      (c.replace.ensures.touched p (c.place_of-new.ensures ∙ is) c.if-not-replace.false));
   own = search rules;
   words = search rules;
   refused = search rules;

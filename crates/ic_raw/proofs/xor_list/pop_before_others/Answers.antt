@@ -6,6 +6,7 @@ use Rattle.ic_raw.specs.Gaps.{TakenOut, gap_between}
 use Rattle.ic_raw.specs.Singly.{lent_table}
 use Rattle.ic_raw.specs.Xor.{beyond}
 use Rattle.ic_raw.proofs.Own.{sides_are, taken_out}
+use Rattle.ic_raw.proofs.Touches.{touches_remove}
 use Rattle.ic_raw.proofs.xor_list.pop_before_others.Goals as goal
 
 pub returns-clause-removed : goal.returns-clause-removed
@@ -27,3 +28,10 @@ pub returns-clause-own : goal.returns-clause-own
 returns-clause-own c q is =
     subst (λ p. TakenOut (gap_between None (beyond (lent_table c.args.links.now) (Some p) None)) c.args.list.now c.bypass.new.self) (some_same is)
     (taken_out (sides_are refl (sym c.in-Some-next.is ∙ c.next.ensures)) c.bypass.ensures.ends)
+
+pub returns-clause-touched : goal.returns-clause-touched
+returns-clause-touched c q is =
+    let off = c.bypass.ensures in
+    let released = c.release_link.ensures in
+    let second = sym c.in-Some-next.is ∙ c.next.ensures in
+    rw (sym (some_same is), sym second) (touches_remove off.no_step off.others released.released released.frame)

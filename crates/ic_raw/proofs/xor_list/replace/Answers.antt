@@ -5,6 +5,7 @@ use Rattle.ic_raw.proofs.Gaps.{never}
 use Rattle.ic_raw.proofs.Lists.{replaced}
 use Rattle.ic_raw.proofs.Xor.{member_linked, next_shown}
 use Rattle.ic_raw.proofs.Own.{put_in, sides_are}
+use Rattle.ic_raw.proofs.Touches.{touches_replace}
 use Rattle.ic_raw.proofs.xor_list.replace.Goals as goal
 
 pub returns-then-not-is_linked-clause-replaced : goal.returns-then-not-is_linked-clause-replaced
@@ -35,3 +36,12 @@ returns-clause-free c made = let taken = c.in-Some.is in (c.in-Some.place, c.acq
 
 pub returns-clause-own : goal.returns-clause-own
 returns-clause-own c made = put_in (sides_are refl c.next-behind.ensures) (c.acquire.ensures.same _ c.in-Some.is) c.replace_linked.ensures.ends
+
+pub returns-clause-touched : goal.returns-clause-touched
+returns-clause-touched c p is made =
+    let taken = c.in-Some.is in
+    let one : p ≡ c.in-Some.place = some_same (sym is ∙ c.acquire.ensures.same _ taken) in
+    let put = c.replace_linked.ensures in
+    let released = c.release_link.ensures in
+    rw (one, sym c.next-behind.ensures)
+    (touches_replace (c.acquire.ensures.free _ taken) (c.acquire.ensures.linked _ taken) (c.acquire.ensures.frame _ taken) put.no_step put.others released.released released.frame)
