@@ -59,13 +59,13 @@ module _ {Own : Place → Type 0} {t : Table RawOne} where
   )
 
 -- a member to which a walk has come is an own one, where all are
-pub own_there : (Own : Place → Type 0) {is : Place → Bool} {t : Table RawOne} {s : List Place} {before : Option Place} {p : Place} {left : ℕ} → Comes is t s before (Some p) left
-    → AllByRecursion Own s → Own p
+pub own_there : (Own : Place → Type 0) {is : Place → Bool} {t : Table RawOne} {s : List Place} {before : Option Place} {p : Place} {left : ℕ}
+    → Comes is t s before (Some p) left → AllByRecursion Own s → Own p
 own_there Own {p = p} k all = (all_back Own k.passed.walk.done (p ∷ drop 1 k.passed.walk.rest) (subst (AllByRecursion Own) (comes_parts k) all)).0
 
 -- the number of steps that are left, in other words
-pub same_left : {is : Place → Bool} {t : Table RawOne} {s : List Place} {before current : Option Place} {left left' : ℕ} → Comes is t s before current left → left' ≡ left
-    → Comes is t s before current left'
+pub same_left : {is : Place → Bool} {t : Table RawOne} {s : List Place} {before current : Option Place} {left left' : ℕ}
+    → Comes is t s before current left → left' ≡ left → Comes is t s before current left'
 same_left k same = record { passed = k.passed; few = omega (arith, k.few, same) }
 
 module _ (words : List RawOne) (hashes : List ℕ) (buckets : List RawFront) where
@@ -124,7 +124,8 @@ module _ {words : List RawOne} {hashes : List ℕ} {buckets : List RawFront} whe
           counted = omega (arith, counts, k.counted, many, ap length here, length-append (members_of (chain_in words hashes buckets) i) (chain_in words hashes buckets i));
         }
 
-    pub checks_more : {n more next : ℕ} → IsShown (IsOwnChain words hashes buckets i) n → more ≡ count + n → suc i ≡ next → ChecksOwn words hashes buckets next more
+    pub checks_more : {n more next : ℕ} → IsShown (IsOwnChain words hashes buckets i) n → more ≡ count + n → suc i ≡ next
+        → ChecksOwn words hashes buckets next more
     checks_more {more = more} shown counts is_next = subst (λ (j : ℕ). ChecksOwn words hashes buckets j more) is_next (one_more shown counts)
 
     -- few members are in all of them

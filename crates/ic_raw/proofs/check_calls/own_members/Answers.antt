@@ -20,7 +20,7 @@ loop-current-init c =
 pub returns-then-hashes-index : goal.returns-then-hashes-index
 returns-then-hashes-index c s own =
     let k = rw c.in-Some.is at (c.loop-current.invariant.comes s (viewed no_word kept c.args.links.now refl own.shown)) in
-    let here : BelongsIn c.args.hashes.now c.args.buckets.now c.args.at c.in-Some.place = own_there (BelongsIn c.args.hashes.now c.args.buckets.now c.args.at) k.1 own.own in
+    let here = own_there (BelongsIn c.args.hashes.now c.args.buckets.now c.args.at) k.1 own.own in
     c.if-hashes-index.true (rw c.index.ensures.value here)
 
 pub loop-current-preserved : goal.loop-current-preserved
