@@ -6,23 +6,22 @@ use Rattle.ic_unsafe_ref.specs.declared.place.Place.{Place}
 use Rattle.ic_unsafe_ref.proofs.PlaceLemmas.{same_or_not}
 use Rattle.ic_link_ops.specs.declared.side.Side.{Side}
 use Rattle.ic_link_ops.specs.declared.side.Side.TheVariants.{Left, Right}
-use Rattle.ic_link_ops.specs.Frames.{child_on}
 use Rattle.ic_link_ops.specs.RedBlackTree.{Node, IsTree, Shows}
-use Rattle.ic_link_ops.specs.Sequences.{Cut, join}
+use Rattle.ic_link_ops.specs.Sequences.{Cut}
 use Rattle.ic_link_ops.specs.Tables.{Table}
 use Rattle.ic_link_ops.specs.Times.{one_at, times, times_in}
 use Rattle.ic_link_ops.specs.Trees.{Tree, leaf, fork, top, in_order}
 use Rattle.ic_link_ops.proofs.Frames.{tree_same, side_same, around_same}
 use Rattle.ic_link_ops.proofs.SequenceLemmas.{none_not, some_same}
 use Rattle.ic_link_ops.proofs.Times.{one_at_self, one_at_other, times_append, times_order}
-use Rattle.ic_rbtree.specs.Closed.{IsIn, AreIn, IsNode, IsNamed, IsClosedBut, IsClosed, IsSafe, IsSafeBut, KeepsNodes}
+use Rattle.ic_rbtree.specs.Closed.{IsIn, IsClosedBut, IsClosed, IsSafe, IsSafeBut, KeepsNodes}
 use Rattle.ic_rbtree.specs.Height.{height}
 use Rattle.ic_rbtree.specs.Insertion.{IsHole, Attaches}
 use Rattle.ic_rbtree.specs.Pieces.{Piece, cell, loose, below, around, times_all, times_piece, IsPiece, ArePieces, Shown}
 use Rattle.ic_rbtree.specs.Transplants.{TakesAway}
 use Rattle.ic_rbtree.proofs.Climbed.{path_few}
 use Rattle.ic_rbtree.proofs.Removing.{shown_of, shows_of}
-use Rattle.ic_rbtree.proofs.ShownClosed.{among, with_place, with_itself, shown_closed_but, hole_in}
+use Rattle.ic_rbtree.proofs.ShownClosed.{among, with_place}
 use Rattle.ic_augmented.specs.Fences.{fenced, fenced_node}
 use Rattle.ic_augmented.proofs.ConsistencyLemmas.{where_is}
 

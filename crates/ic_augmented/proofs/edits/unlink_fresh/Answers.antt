@@ -1,4 +1,4 @@
-use Rattle.std.proofs.Common.{◌≡◌, ◌∙◌, ◌∷◌, ◌++◌, Bool, List, sym, subst, true, None}
+use Rattle.std.proofs.Common.{◌∙◌, ◌∷◌, ◌++◌, Bool, sym, subst, None}
 use Rattle.ic_unsafe_ref.specs.declared.place.Place.{Place}
 use Rattle.ic_link_ops.specs.Sequences.{IsAbsent, IsDisjoint}
 use Rattle.ic_link_ops.proofs.SequenceLemmas.{absent_right, absent_without, disjoint_remove, disjoint_right, disjoint_sym}

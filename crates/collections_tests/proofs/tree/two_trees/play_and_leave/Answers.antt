@@ -4,8 +4,6 @@ use Rattle.ic_unsafe_ref.specs.declared.place.Place.{Place}
 use Rattle.ic_unsafe_ref.proofs.PlaceLemmas.{same_index}
 use Rattle.ic_link_ops.specs.RedBlackTree.{Shows}
 use Rattle.ic_augmented.specs.Counts.{counts}
-use Rattle.ic_augmented.specs.Consistent.{ShowsSummed}
-use Rattle.ic_augmented.proofs.BesideLemmas.{summed_within}
 use Rattle.collections_tests.proofs.Ready.{on_ok}
 use Rattle.collections_tests.proofs.TwoTrees.{nothing_there, nothing_right, alone, within_itself, beside_stays, leaving_stays}
 use Rattle.collections_tests.proofs.tree.two_trees.play_and_leave.Goals as goal
