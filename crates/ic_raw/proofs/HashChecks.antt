@@ -11,11 +11,10 @@ use Rattle.ic_link_ops.specs.SinglyLinkedList.{IsFollowed, list_from, successor_
 use Rattle.ic_link_ops.specs.Tables.{Table}
 use Rattle.ic_link_ops.proofs.Chains.{chain_glue}
 use Rattle.ic_link_ops.proofs.Each.{all_back, all_both, all_map}
-use Rattle.ic_link_ops.proofs.SequenceLemmas.{first_or-append}
+use Rattle.ic_link_ops.proofs.SequenceLemmas.{first_or-append, distinct_splice, disjoint_sym}
 use Rattle.ic_link_ops.proofs.SinglyLists.{members_shown}
 use Rattle.ic_link_ops.proofs.Walks.{few_places}
 use Rattle.ic_check.specs.Checked.{IsShown, ShowsNone}
-use Rattle.ic_check.proofs.Marking.{distinct_both}
 use Rattle.ic_raw.specs.declared.words.RawFront.{RawFront}
 use Rattle.ic_raw.specs.declared.words.RawOne.{RawOne}
 use Rattle.ic_raw.specs.CheckCalls.{BelongsIn, HoldsByHash, IsOwnChain, members_of}
@@ -87,8 +86,8 @@ apart_by number i (x ∷ s) r here there = (absent r there, apart_by number i s 
   absent (y ∷ r) there = ((λ same. there.0 (sym (ap number same) ∙ here.0)), absent r there.1)
 
 -- the hashes of the members of the first chains lead to their buckets,
-lead_below : (hashes : List ℕ) (buckets : List RawFront) (chains : ℕ → List Place) (i : ℕ) → ((j : ℕ) → j < i → AllByRecursion (BelongsIn hashes buckets j) (chains j))
-    → AllByRecursion (λ p. slot_of buckets (key_of hashes p) < i) (members_of chains i)
+lead_below : (hashes : List ℕ) (buckets : List RawFront) (chains : ℕ → List Place) (i : ℕ)
+    → ((j : ℕ) → j < i → AllByRecursion (BelongsIn hashes buckets j) (chains j)) → AllByRecursion (λ p. slot_of buckets (key_of hashes p) < i) (members_of chains i)
 lead_below hashes buckets chains zero each = tt
 lead_below hashes buckets chains (suc i) each =
     all_both (λ p. slot_of buckets (key_of hashes p) < suc i) (members_of chains i) (chains i)
@@ -96,13 +95,16 @@ lead_below hashes buckets chains (suc i) each =
     (all_map (λ p at. omega (arith, at)) (chains i) (each i (omega arith)))
 
 -- so none of them is met twice
-all_distinct : (hashes : List ℕ) (buckets : List RawFront) (chains : ℕ → List Place) (i : ℕ) → ((j : ℕ) → j < i → IsDistinct (chains j)) → ((j : ℕ) → j < i → AllByRecursion (BelongsIn hashes buckets j) (chains j))
-    → IsDistinct (members_of chains i)
+all_distinct : (hashes : List ℕ) (buckets : List RawFront) (chains : ℕ → List Place) (i : ℕ) → ((j : ℕ) → j < i → IsDistinct (chains j))
+    → ((j : ℕ) → j < i → AllByRecursion (BelongsIn hashes buckets j) (chains j)) → IsDistinct (members_of chains i)
 all_distinct hashes buckets chains zero each own = tt
 all_distinct hashes buckets chains (suc i) each own =
-    distinct_both (members_of chains i) (chains i) (all_distinct hashes buckets chains i (λ j fits. each j (omega (arith, fits))) (λ j fits. own j (omega (arith, fits)))) (each i (omega arith))
-    (apart_by (λ p. slot_of buckets (key_of hashes p)) i (chains i) (members_of chains i) (own i (omega arith))
-    (all_map (λ p low same. omega (arith, low, same)) (members_of chains i) (lead_below hashes buckets chains i (λ j fits. own j (omega (arith, fits))))))
+    let before = all_distinct hashes buckets chains i (λ j fits. each j (omega (arith, fits))) (λ j fits. own j (omega (arith, fits))) in
+    let others : AllByRecursion (λ p. slot_of buckets (key_of hashes p) ≢ i) (members_of chains i) =
+    all_map (λ p low same. omega (arith, low, same)) (members_of chains i) (lead_below hashes buckets chains i (λ j fits. own j (omega (arith, fits)))) in
+    let apart : IsDisjoint (chains i) (members_of chains i) =
+    apart_by (λ p. slot_of buckets (key_of hashes p)) i (chains i) (members_of chains i) (own i (omega arith)) others in
+    distinct_splice [] (members_of chains i) (chains i) (each i (omega arith)) before (disjoint_sym (chains i) (members_of chains i) apart)
 
 module _ {words : List RawOne} {hashes : List ℕ} {buckets : List RawFront} where
   chain_is : (i : ℕ) (s : List Place) → IsOwnChain words hashes buckets i s → chain_in words hashes buckets i ≡ s
@@ -118,10 +120,13 @@ module _ {words : List RawOne} {hashes : List ℕ} {buckets : List RawFront} whe
     one_more {n} {more} (s, own, many) counts =
         let here = chain_is i s own in record {
           each = λ j fits. elim (eqb_tells j i) [
-            | inl e ↦ subst (λ (m : ℕ). IsOwnChain words hashes buckets m (chain_in words hashes buckets m)) (sym e.1) (subst (IsOwnChain words hashes buckets i) (sym here) own)
+            | inl e ↦
+                let mine : IsOwnChain words hashes buckets i (chain_in words hashes buckets i) = subst (IsOwnChain words hashes buckets i) (sym here) own in
+                subst (λ (m : ℕ). IsOwnChain words hashes buckets m (chain_in words hashes buckets m)) (sym e.1) mine
             | inr n ↦ k.each j (omega (arith, fits, n.1))
           ];
-          counted = omega (arith, counts, k.counted, many, ap length here, length-append (members_of (chain_in words hashes buckets) i) (chain_in words hashes buckets i));
+          counted = omega
+              (arith, counts, k.counted, many, ap length here, length-append (members_of (chain_in words hashes buckets) i) (chain_in words hashes buckets i));
         }
 
     pub checks_more : {n more next : ℕ} → IsShown (IsOwnChain words hashes buckets i) n → more ≡ count + n → suc i ≡ next
