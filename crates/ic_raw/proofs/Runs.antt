@@ -1,23 +1,30 @@
 -- Runs of places: their numbers, their faults, and how they are put in.
-use Rattle.std.proofs.Common.{◌≡◌, ◌≢◌, ℕ, zero, suc, ◌+◌, ◌-◌, ◌*◌, ◌%◌, ◌<◌, Bool, true, false, cond, nat_lt, Option, Some, None, List, [], ◌∷◌, ◌++◌, length, refl, sym, ap, ◌∙◌, subst, inl, inr, arith, append_assoc, append-nil}
+use Rattle.std.proofs.Common.{◌≡◌, ◌≢◌, ℕ, zero, suc, ◌+◌, ◌-◌, ◌*◌, ◌%◌, ◌<◌, Bool, true, false, cond, nat_lt, Option, Some, None, List, [], ◌∷◌, ◌++◌, length, map, refl, sym, ap, ◌∙◌, subst, inl, inr, arith, append_assoc, append-nil}
 use Rattle.std.proofs.lemmas.Bool.{lt-ltb, ltb-true}
 use Rattle.std.proofs.lemmas.Bool.Decides.{eqb_tells}
+use Rattle.std.proofs.lemmas.List.{map-append}
 use Rattle.ic_unsafe_ref.specs.declared.place.Place.{Place}
 use Rattle.ic_unsafe_ref.specs.Places.{index_of, place_at}
 use Rattle.ic_unsafe_ref.proofs.PlaceLemmas.{index_at}
-use Rattle.ic_link_ops.specs.Sequences.{Cut, join, last, IsAbsent}
-use Rattle.ic_link_ops.specs.Tables.{Table, KeepsBeside}
+use Rattle.ic_link_ops.specs.Sequences.{Cut, join, first_or, last, last_or, IsAbsent}
+use Rattle.ic_link_ops.specs.LinkSteps.{LinkStep, Replays, acquires}
+use Rattle.ic_link_ops.specs.StepLaws.{replays_on}
+use Rattle.ic_link_ops.specs.Tables.{Table, KeepsBeside, LinksAlso}
 use Rattle.ic_link_ops.specs.PlainTables.{table_of}
-use Rattle.ic_link_ops.specs.Chains.{ListHead, ShowsChain}
+use Rattle.ic_link_ops.specs.Chains.{Ends, ListHead, ShowsChain, TurnsEnds, end_of}
 use Rattle.ic_link_ops.specs.Edits.{Inserts, Splices}
-use Rattle.ic_link_ops.proofs.SequenceLemmas.{some_same, none_not, absent_left, absent_right, absent_both, last_of_push}
+use Rattle.ic_link_ops.proofs.SequenceLemmas.{some_same, none_not, absent_left, absent_right, absent_both, last_not, last_of_push, last_or-append}
+use Rattle.ic_raw.specs.declared.gap.Gap.{Gap}
 use Rattle.ic_raw.specs.declared.table.RawTable.{RawTable}
 use Rattle.ic_raw.specs.Answers.{refusal}
-use Rattle.ic_raw.specs.Fills.{IsRun, run_faults, first_fault, AreFree, IsFreeRun}
+use Rattle.ic_raw.specs.Fills.{IsRun, run_faults, first_fault, last_of_run, AreFree, IsFreeRun, TouchesRun}
+use Rattle.ic_raw.specs.Gaps.{Turns}
+use Rattle.ic_raw.specs.Touches.{IsNoneOf}
 use Rattle.ic_raw.specs.Tables.{IsFree, place_fault, raw_entries, raw_table}
 use Rattle.ic_raw.specs.Words.{place_of}
 use Rattle.ic_raw.proofs.Faults.{place_fault_back}
 use Rattle.ic_raw.proofs.Numbers.{none_named}
+use Rattle.ic_raw.proofs.Touches.{touched_back}
 
 -- THE NUMBERS: that of a place is not the last one, so there is a next,
 pub number_small : (i : ℕ) (p : Place) → place_of i ≡ Some p → i < 4294967296 → i + 1 < 4294967296
@@ -52,6 +59,25 @@ one_run first (p ∷ a) (q ∷ b) n m e =
     let same : p ≡ q = some_same (sym n.0 ∙ m.0) in
     let rest : a ≡ b = one_run (first + 1) a b n.1 m.1 (omega (arith, e)) in
     λ k. same k ∷ rest k
+
+-- its first place has the number that is told, and its last one the last of so many from there on
+run_begins : (run : List Place) (first count : ℕ) (end : Option Place) → IsRun first run → length run ≡ count → count ≢ 0 → first_or run end ≡ place_of first
+run_begins [] first count end n c some = absurd (some (sym c))
+run_begins (p ∷ run) first count end n c some = sym n.0
+
+run_ends : (run : List Place) (first count : ℕ) (end : Option Place) → IsRun first run → length run ≡ count → count ≢ 0 → last_or end run ≡ last_of_run first count
+run_ends [] first count end n c some = absurd (some (sym c))
+run_ends (p ∷ []) first count end n c some =
+    let same : first ≡ first + (count - 1) = omega (arith, c) in
+    sym n.0 ∙ ap place_of same
+run_ends (p ∷ q ∷ run) first count end n c some =
+    let same : first + 1 + (count - 1 - 1) ≡ first + (count - 1) = omega (arith, c) in
+    run_ends (q ∷ run) (first + 1) (count - 1) (Some p) n.1 (omega (arith, c)) (λ none. absurd (omega (arith, c, none))) ∙ ap place_of same
+
+-- a place that differs from each of these is none of them
+absent_run : (q : Place) (run : List Place) → IsNoneOf (map Some run) q → IsAbsent q run
+absent_run q [] out = tt
+absent_run q (x ∷ run) out = ((λ e. out.0 (ap Some (sym e))), absent_run q run out.1)
 
 -- THE FAULTS: the first one is why a call is refused,
 pub refused_by : (faults : List ℕ) → first_fault faults ≢ 0 → first_fault faults ≡ refusal faults
@@ -147,6 +173,25 @@ free_beside linked t u p (q ∷ run) same others out f = (
   free_beside linked t u p run same others out.1 f.1,
 )
 
+-- THE NEXT PLACE OF A RUN that is free: a table that links it if it is free has linked it,
+pub not_refused : {W : Type 0} {linked : W → Bool} {t : Table W} {number left : ℕ} {asked taken : Option Place} → IsFreeRun linked t number left → 0 < left
+    → asked ≡ place_of number → ((p : Place) → asked ≡ Some p → IsFree linked t p → taken ≡ Some p) → taken ≢ None
+not_refused {linked = linked} {t} {number} {left} r some is accepted none =
+    let b = begins linked t number left r some in
+    none_not b.next (sym none ∙ accepted b.next (is ∙ b.named) b.free)
+
+-- and the run behind it stays free
+pub run_behind : {W : Type 0} {linked : W → Bool} {t u : Table W} {number left : ℕ} (p : Place) → place_of number ≡ Some p → number + 1 < 4294967296 → u.extent ≡ t.extent
+    → ((q : Place) → q ≢ p → linked (u.entry q) ≡ linked (t.entry q)) → (r : IsFreeRun linked t number left) → 0 < left
+    → (rest : IsFreeRun linked u (number + 1) (left - 1)) × (r.run ≡ p ∷ rest.run)
+run_behind {linked = linked} {t} {u} {number} {left} p named small same others r some =
+    let b = begins linked t number left r some in
+    let one : b.next ≡ p = some_same (sym b.named ∙ named) in
+    let out = run_absent number (number + 1) p b.rest named (omega arith) small b.numbered in (
+      record { run = b.rest; numbered = b.numbered; counted = b.counted; free = free_beside linked t u p b.rest same others out b.others },
+      b.is ∙ ap (λ (z : Place). z ∷ b.rest) one,
+    )
+
 module _ {E W : Type 0} (between : E → Option Place → Option Place → Type 0) (keep : Option Place → W) where
   -- OF A RUN the places `done` are in, behind what is in front of the gap, and the rest is not
   pub record Fills (old now : Table E) (list : ListHead W) (gap : Cut) (before : Option Place) (run rest : List Place) : Type 0 where
@@ -204,6 +249,88 @@ module _ {E W : Type 0} (between : E → Option Place → Option Place → Type 
         frame = subst (λ s. KeepsBeside old now s) same k.frame;
       }
 
+-- an end stays where it is told again, and where something stands beside it
+end_again : (at end : Option Place) → end_of at end end ≡ end
+end_again None end = refl
+end_again (Some x) end = refl
+
+end_behind : (x : Place) (s : List Place) (fresh end : Option Place) → end_of (last_or (Some x) s) fresh end ≡ end
+end_behind x [] fresh end = refl
+end_behind x (y ∷ s) fresh end = end_behind y s fresh end
+
+-- ONE MORE PLACE behind those that went in: the list begins with the first of them where nothing stands in front,
+head_on : (done : List Place) (p : Place) (at was : Option Place) {before head head' : Option Place} → before ≡ last_or at done → head ≡ end_of at (first_or done was) was
+    → head' ≡ end_of before (Some p) head → head' ≡ end_of at (first_or (done ++ p ∷ []) was) was
+head_on [] p at was after is turns = turns ∙ (λ k. end_of (after k) (Some p) ((is ∙ end_again at was) k))
+head_on (x ∷ s) p at was {head = head} after is turns = turns ∙ ap (λ b. end_of b (Some p) head) after ∙ end_behind x s (Some p) head ∙ is
+
+-- and ends with the last where nothing stands behind
+tail_on : (done : List Place) (p : Place) (behind end : Option Place) → end_of behind (Some p) (end_of behind (last_or end done) end) ≡ end_of behind (last_or end (done ++ p ∷ [])) end
+tail_on done p None end = sym (last_or-append end done (p ∷ []))
+tail_on done p (Some x) end = refl
+
+-- `Names`: entries of the kind say what stands in front of their places
+module _ {E W : Type 0} (linked : E → Bool) (keep : Option Place → W) (Names : Type 0) where
+  -- OF A RUN the places `done` are linked between the sides of the gap, and the rest is not, whatever the entries say
+  pub record LinksRun (old now : Table E) (list list' : ListHead W) (gap : Gap) (before : Option Place) (run rest : List Place) : Type 0 where
+    pub done : List Place
+    pub parts : run ≡ done ++ rest
+    pub after : before ≡ last_or gap.before done
+    pub steps : Replays linked old now (map acquires done)
+    pub others : (q : Place) → IsAbsent q done → gap.before ≢ Some q → (Names → gap.behind ≢ Some q) → now.entry q ≡ old.entry q
+    pub head : list'.head ≡ end_of gap.before (first_or done list.head) list.head
+    pub tail : (end : Option Place) → list.tail ≡ keep end → list'.tail ≡ keep (end_of gap.behind (last_or end done) end)
+
+  -- at first none is
+  pub links_none : {t : Table E} {list : ListHead W} (gap : Gap) {run : List Place} → LinksRun t t list list gap gap.before run run
+  links_none {list} gap = record {
+    done = [];
+    parts = refl;
+    after = refl;
+    steps = λ q. refl;
+    others = λ q out away beyond. refl;
+    head = sym (end_again gap.before list.head);
+    tail = λ end is. is ∙ ap keep (sym (end_again gap.behind end));
+  }
+
+  -- one more
+  pub links_more : {old now new : Table E} {list was list' : ListHead W} {gap : Gap} {before : Option Place} {run : List Place} (p : Place) {rest : List Place}
+      → LinksRun old now list was gap before run (p ∷ rest) → LinksAlso linked now new p
+      → ((q : Place) → before ≢ Some q → q ≢ p → (Names → gap.behind ≢ Some q) → new.entry q ≡ now.entry q)
+      → TurnsEnds keep was list' before gap.behind (Some p) (Some p) → LinksRun old new list list' gap (Some p) run rest
+  links_more {old} {now} {new} {list = list} {gap = gap} p {rest} k also others turns = record {
+    done = k.done ++ p ∷ [];
+    parts = k.parts ∙ sym (append_assoc k.done (p ∷ []) rest);
+    after = sym (last_or-append gap.before k.done (p ∷ []));
+    steps = rw map-append (replays_on linked (map acquires k.done) (acquires p ∷ []) old now new k.steps also);
+    others = λ q out away beyond.
+        let ahead = absent_left q k.done (p ∷ []) out in
+        let apart = absent_right q k.done (p ∷ []) out in
+        others q (λ e. last_not gap.before k.done q away ahead (sym k.after ∙ e)) apart.0 beyond ∙ k.others q ahead away beyond;
+    head = head_on k.done p gap.before list.head k.after k.head turns.head;
+    tail = λ end is. turns.tail _ (k.tail end is) ∙ ap keep (tail_on k.done p gap.behind end);
+  }
+
+  -- and at last all are: nothing else is touched where entries behind the gap stay, or there are none,
+  module _ {old now : Table E} {list list' : ListHead W} {gap : Gap} {before : Option Place} {run rest : List Place} (k : LinksRun old now list list' gap before run rest)
+      (none : rest ≡ []) where
+    all_done : k.done ≡ run
+    all_done = sym (k.parts ∙ ap (λ (s : List Place). k.done ++ s) none ∙ append-nil k.done)
+
+    pub touches_run : (Names → gap.behind ≡ None) → TouchesRun linked old now run gap.before
+    touches_run outermost = record {
+      steps_are = subst (λ s. Replays linked old now (map acquires s)) all_done k.steps;
+      others = λ q out. k.others q (subst (IsAbsent q) (sym all_done) (absent_run q run out.1)) out.0 (λ names e. none_not q (sym (outermost names) ∙ e));
+    }
+
+    -- and the list's own words are turned to the first and the last of them
+    pub turns_run : (first count : ℕ) → IsRun first run → length run ≡ count → count ≢ 0 → TurnsEnds keep list list' gap.before gap.behind (place_of first) (last_of_run first count)
+    turns_run first count numbered counted some = record {
+      head = k.head ∙ ap (λ o. end_of gap.before o list.head) (ap (λ (s : List Place). first_or s list.head) all_done ∙ run_begins run first count list.head numbered counted some);
+      tail = λ end is.
+          k.tail end is ∙ ap (λ o. keep (end_of gap.behind o end)) (ap (λ (s : List Place). last_or end s) all_done ∙ run_ends run first count end numbered counted some);
+    }
+
 -- a run of no place is free, and where none goes in nothing is changed
 pub free_none : {W : Type 0} {linked : W → Bool} {t : Table W} {first count : ℕ} → count ≡ 0 → IsFreeRun linked t first count
 free_none none = record { run = []; numbered = tt; counted = sym none; free = tt }
@@ -213,6 +340,18 @@ pub splices_none : {E H : Type 0} {Shows : Table E → H → List Place → Type
 splices_none {Shows = Shows} {t} {list} cut shown none =
     let nothing : Splices Shows t t list cut [] = record { shows = shown; frame = record { extent = refl; others = λ q out. refl } } in
     subst (λ run. Splices Shows t t list cut run) (sym none) nothing
+
+pub touches_no_run : {W : Type 0} {linked : W → Bool} {t : Table W} {first count : ℕ} {end : Option Place} → count ≡ 0 → (free : IsFreeRun linked t first count)
+    → TouchesRun linked t t free.run end
+touches_no_run {linked = linked} {t} {first} {count} none free = record {
+  steps_are = subst (λ s. Replays linked t t (map acquires s)) (sym (none_left linked t first count free none)) (λ q. refl);
+  others = λ q out. refl;
+}
+
+-- the ends of a list that keeps both, at a gap that was found, as its words say them
+pub turns_back : {was old new written : Ends} {found gap : Gap} {begins ends : Option Place} → found ≡ gap → was ≡ old → written ≡ new
+    → TurnsEnds (λ last. last) was new found.before found.behind begins ends → Turns gap begins ends old written
+turns_back same read write turns = rw (← same, ← read, write) (record { head = turns.head; tail = turns.tail _ refl })
 
 -- WHAT HOLDS OF A VIEW holds of the words that were lent, and the other way round
 module _ {W : Type 0} (linked : W → Bool) (unlinked : W) where
@@ -241,6 +380,17 @@ module _ {W : Type 0} (linked : W → Bool) (unlinked : W) where
     counted = r.counted;
     free = subst (λ fs. AreFree linked (table_of unlinked fs) r.run) e (are_back t r.run r.free);
   }
+
+  -- what a fill of a view touches is touched among the words, behind the end of the gap that was found
+  pub run_touched : {Names : Type 0} (a b : RawTable W) {es fs : List W} {found : Option Gap} {end : Option Place} {first count : ℕ} → raw_entries a ≡ es → fs ≡ raw_entries b
+      → ((g : Gap) → found ≡ Some g → (Names → g.behind ≡ None) → (free : IsFreeRun linked (raw_table unlinked a) first count)
+      → TouchesRun linked (raw_table unlinked a) (raw_table unlinked b) free.run g.before)
+      → ((g : Gap) × (found ≡ Some g)) → ((g : Gap) → found ≡ Some g → (g.before ≡ end) × (Names → g.behind ≡ None))
+      → (free : IsFreeRun linked (table_of unlinked es) first count) → TouchesRun linked (table_of unlinked es) (table_of unlinked fs) free.run end
+  unfolding run_viewed
+  run_touched a b view words touched gap told free =
+      let at = told gap.0 gap.1 in
+      touched_back unlinked a b view words (ap (λ e. e ∷ map Some free.run) (sym at.0)) (touched gap.0 gap.1 at.1 (run_viewed a view free))
 
   same_faults : (t : RawTable W) (first count : ℕ)
       → run_faults (place_fault linked (raw_table unlinked t)) first count ≡ run_faults (place_fault linked (table_of unlinked (raw_entries t))) first count

@@ -142,4 +142,4 @@ pub touches_exchanged : {old mid turned new : Table RawOne} {before behind : Opt
     → Touches is_linked_one old new (acquires p ∷ releases gone ∷ []) (Some p ∷ Some gone ∷ before ∷ [])
 touches_exchanged {before} {p} {gone} free is only keeps others off gone_only =
     touches_places (Some p ∷ Some gone ∷ before ∷ [])
-        (touches_replace {Names = ⊥} {behind = None} free is only keeps (λ q away other none. others q away other (λ no. absurd no)) off gone_only)
+    (touches_replace {Names = ⊥} {behind = None} free is only keeps (λ q away other none. others q away other (λ no. absurd no)) off gone_only)

@@ -14,10 +14,10 @@ use Rattle.ic_raw.specs.declared.words.RawTwo.{RawTwo}
 use Rattle.ic_raw.specs.Answers.{IsStatus, refusal}
 use Rattle.ic_raw.specs.Doubly.{ShowsList, FreeIn, StandsIn, TellsGap, IsEnd, IsWritten, IsFreeRunIn, around, end_on, gap_from, table_of, ends_of, words_of, fault_at, fault_of}
 use Rattle.ic_raw.specs.Doubly.{Inserted, Removed, Popped, Replaced, Moved, Stayed, Spliced, Split, Cleared, Filled}
-use Rattle.ic_raw.specs.Fills.{run_faults}
-use Rattle.ic_raw.specs.Gaps.{AllPutIn, IsApart, IsBeside, IsCutBeside, IsMoved, PutIn, TakenOut, outermost}
+use Rattle.ic_raw.specs.Fills.{TouchesRun, last_of_run, run_faults}
+use Rattle.ic_raw.specs.Gaps.{AllPutIn, IsApart, IsBeside, IsCutBeside, IsMoved, PutIn, TakenOut, Turns, gap_between, outermost}
 use Rattle.ic_raw.specs.Touches.{Touches, sides}
-use Rattle.ic_raw.specs.Words.{is_linked_two, HasNumber}
+use Rattle.ic_raw.specs.Words.{is_linked_two, place_of, HasNumber}
 
 -- `old`, `new`: the words of the table before the call and after it. `list`, `list'`: those of the list. `status`: what the call returns
 module _ (old new : List RawTwo) (list list' : RawEnds) (status : ℕ) where
@@ -166,6 +166,8 @@ module _ (old new : List RawTwo) (list list' : RawEnds) (status : ℕ) where
     pub free : status ≡ OK → IsFreeRunIn old first count
     pub nothing : count ≡ 0 → (status ≡ OK) × (new ≡ old) × (list' ≡ list)
     pub told : status ≡ OK → count ≢ 0 → TellsGap Before (table_of old) (ends_of list) None
+    pub own : status ≡ OK → count ≢ 0 → Turns (gap_between (ends_of list).tail None) (place_of first) (last_of_run first count) (ends_of list) (ends_of list')
+    pub touched : status ≡ OK → (free : IsFreeRunIn old first count) → TouchesRun is_linked_two (table_of old) (table_of new) free.run (ends_of list).tail
     pub words : status ≡ OK → count ≢ 0 → IsWritten list'
     pub refused : status ≢ OK → (new ≡ old) × (list' ≡ list)
     pub why : status ≢ OK → status ≡ refusal (run_faults (fault_of old) first count)

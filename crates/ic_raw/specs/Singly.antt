@@ -110,6 +110,10 @@ pub record TakenOut (old new : List RawOne) (list : RawFront) (p : Place) : Type
   pub leads : next_from (table_of old) (list_of list) before ≡ Some p
   pub touched : Touched old new (releases p ∷ []) (Some p ∷ before ∷ [])
 
+-- a fill of the words touches this run and this end alone
+abbrev pub TouchedRun : (old new : List RawOne) → (run : List Place) → (end : Option Place) → Type 0
+TouchedRun old new = fills.TouchesRun is_linked_one (table_of old) (table_of new)
+
 -- the run of so many places from this number on is free in the table of these words
 abbrev pub IsFreeRunIn : List RawOne → (first count : ℕ) → Type 0
 IsFreeRunIn words = fills.IsFreeRun is_linked_one (table_of words)

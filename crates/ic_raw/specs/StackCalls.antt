@@ -11,8 +11,8 @@ use Rattle.ic_raw.specs.declared.words.RawOne.{RawOne}
 use Rattle.ic_raw.specs.Answers.{IsStatus, refusal}
 use Rattle.ic_raw.specs.Fills.{run_faults}
 use Rattle.ic_raw.specs.Singly.{ShowsList, FreeIn, StandsIn, IsWritten, IsFreeRunIn, table_of, front_of, word_of_front, list_of, next_from, fault_at, fault_of}
-use Rattle.ic_raw.specs.Singly.{Inserted, Popped, Exchanged, Spliced, Split, Cleared, Filled, Touched}
-use Rattle.ic_raw.specs.Words.{HasNumber}
+use Rattle.ic_raw.specs.Singly.{Inserted, Popped, Exchanged, Spliced, Split, Cleared, Filled, Touched, TouchedRun}
+use Rattle.ic_raw.specs.Words.{HasNumber, place_of}
 
 -- `old`, `new`: the words of the table before the call and after it. `list`, `list'`: that of the list. `status`: what the call returns
 module _ (old new : List RawOne) (list list' : RawFront) (status : ℕ) where
@@ -117,6 +117,8 @@ module _ (old new : List RawOne) (list list' : RawFront) (status : ℕ) where
     pub free : status ≡ OK → IsFreeRunIn old first count
     pub nothing : count ≡ 0 → (status ≡ OK) × (new ≡ old) × (list' ≡ list)
     pub told : status ≡ OK → count ≢ 0 → StandsIn old (front_of list)
+    pub own : status ≡ OK → count ≢ 0 → front_of list' ≡ place_of first
+    pub touched : status ≡ OK → (free : IsFreeRunIn old first count) → TouchedRun old new free.run None
     pub words : status ≡ OK → count ≢ 0 → IsWritten list'
     pub refused : status ≢ OK → (new ≡ old) × (list' ≡ list)
     pub why : status ≢ OK → status ≡ refusal (run_faults (fault_of old) first count)

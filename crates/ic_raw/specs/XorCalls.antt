@@ -13,11 +13,11 @@ use Rattle.ic_raw.specs.declared.words.RawEnds.{RawEnds}
 use Rattle.ic_raw.specs.declared.words.RawOne.{RawOne}
 use Rattle.ic_raw.specs.Answers.{IsStatus, refusal}
 use Rattle.ic_raw.specs.Doubly.{IsEnd, IsWritten, end_on, ends_of, words_of}
-use Rattle.ic_raw.specs.Fills.{run_faults}
+use Rattle.ic_raw.specs.Fills.{last_of_run, run_faults}
 use Rattle.ic_raw.specs.Gaps.{PutIn, TakenOut, Turns, gap_between}
-use Rattle.ic_raw.specs.Singly.{IsFreeRunIn, table_of}
+use Rattle.ic_raw.specs.Singly.{IsFreeRunIn, TouchedRun, table_of}
 use Rattle.ic_raw.specs.Touches.{Touches, sides}
-use Rattle.ic_raw.specs.Words.{HasNumber, is_linked_one}
+use Rattle.ic_raw.specs.Words.{HasNumber, is_linked_one, place_of}
 use Rattle.ic_raw.specs.Xor.{FreeIn, StandsIn, beyond, TellsGap, TellsMemberBehind, TellsMemberBefore, TellsEnds, LeadsThrough, CutsEnds, fault_at, fault_of}
 use Rattle.ic_raw.specs.Xor.{Inserted, Removed, Popped, Replaced, Spliced, Split, Cleared, Filled}
 
@@ -167,6 +167,8 @@ module _ (old new : List RawOne) (list list' : RawEnds) (status : ℕ) where
     pub free : status ≡ OK → IsFreeRunIn old first count
     pub nothing : count ≡ 0 → (status ≡ OK) × (new ≡ old) × (list' ≡ list)
     pub told : status ≡ OK → count ≢ 0 → TellsGap (table_of old) (ends_of list) (ends_of list).tail None
+    pub own : status ≡ OK → count ≢ 0 → Turns (gap_between (ends_of list).tail None) (place_of first) (last_of_run first count) (ends_of list) (ends_of list')
+    pub touched : status ≡ OK → (free : IsFreeRunIn old first count) → TouchedRun old new free.run (ends_of list).tail
     pub words : status ≡ OK → count ≢ 0 → IsWritten list'
     pub refused : status ≢ OK → (new ≡ old) × (list' ≡ list)
     pub why : status ≢ OK → status ≡ refusal (run_faults (fault_of old) first count)

@@ -7,15 +7,15 @@
 ghost use Rattle.std.specs.Prelude.{◌≡◌, ◌≢◌, Option, Some, None, List, true};
 ghost use Rattle.ic_unsafe_ref.specs.declared.place.Place.{Place};
 ghost use Rattle.ic_link_ops.specs.Sequences.{Cut, join, at_back};
-ghost use Rattle.ic_link_ops.specs.Chains.{ShowsChain};
+ghost use Rattle.ic_link_ops.specs.Chains.{ShowsChain, TurnsEnds};
 ghost use Rattle.ic_link_ops.specs.Edits.{Splices};
 ghost use Rattle.ic_raw.specs.declared.gap.Gap.{Gap};
 ghost use Rattle.ic_raw.specs.declared.status.TheConstants.{OK};
 ghost use Rattle.ic_raw.specs.Answers.{IsStatus, refusal};
-ghost use Rattle.ic_raw.specs.Fills.{IsFreeRun, run_faults, first_fault};
-ghost use Rattle.ic_raw.specs.Gaps.{StandBeside, gap_of};
+ghost use Rattle.ic_raw.specs.Fills.{IsFreeRun, TouchesRun, run_faults, first_fault, last_of_run};
+ghost use Rattle.ic_raw.specs.Gaps.{StandBeside, gap_between, gap_of};
 ghost use Rattle.ic_raw.specs.Tables.{raw_table, place_fault};
-ghost use Rattle.ic_raw.specs.Words.{is_linked_one};
+ghost use Rattle.ic_raw.specs.Words.{is_linked_one, place_of};
 ghost use Rattle.ic_raw.specs.Singly as singly;
 ghost use Rattle.ic_raw.specs.Xor as xor;
 
@@ -62,6 +62,10 @@ fn link_run<'a, W: Words, K: ForwardLinks<RawTable<'a, W>>>(
         → (cut : Cut) (free : IsFreeRun W.is_linked (raw_table W.unlinked links.old) first count)
         → ShowsChain K.Between K.kept (raw_table W.unlinked links.old) list.old (join cut) → gap ≡ gap_of cut
         → Splices (ShowsChain K.Between K.kept) (raw_table W.unlinked links.old) (raw_table W.unlinked links.new) list.new cut free.run }
+    ensures ends { IsFreeRun W.is_linked (raw_table W.unlinked links.old) first count → count ≢ 0
+        → TurnsEnds K.kept list.old list.new gap.before gap.behind (place_of first) (last_of_run first count) }
+    ensures touched { (K.NamesPrev → gap.behind ≡ None) → (free : IsFreeRun W.is_linked (raw_table W.unlinked links.old) first count)
+        → TouchesRun W.is_linked (raw_table W.unlinked links.old) (raw_table W.unlinked links.new) free.run gap.before }
     ensures extent { (raw_table W.unlinked links.new).extent ≡ (raw_table W.unlinked links.old).extent }
 {
     let mut before = gap.before;
@@ -93,7 +97,13 @@ pub(crate) fn fill<'a, W: Words, K: ForwardLinks<RawTable<'a, W>>>(
         → (result ≡ OK) × Splices (ShowsChain K.Between K.kept) (raw_table W.unlinked links.old) (raw_table W.unlinked links.new) list.new cut free.run }
     ensures free { result ≡ OK → IsFreeRun W.is_linked (raw_table W.unlinked links.old) first count }
     ensures gap { result ≡ OK → (g : Gap) × (gap ≡ Some g) }
+    ensures ends { result ≡ OK → count ≢ 0 → (g : Gap) → gap ≡ Some g
+        → TurnsEnds K.kept list.old list.new g.before g.behind (place_of first) (last_of_run first count) }
+    ensures touched { result ≡ OK → (g : Gap) → gap ≡ Some g → (K.NamesPrev → g.behind ≡ None)
+        → (free : IsFreeRun W.is_linked (raw_table W.unlinked links.old) first count)
+        → TouchesRun W.is_linked (raw_table W.unlinked links.old) (raw_table W.unlinked links.new) free.run g.before }
     ensures refused { result ≢ OK → (links.new ≡ links.old) × (list.new ≡ list.old) }
+    ensures extent { (raw_table W.unlinked links.new).extent ≡ (raw_table W.unlinked links.old).extent }
     ensures why { result ≢ OK
         → result ≡ refusal (run_faults (place_fault W.is_linked (raw_table W.unlinked links.old)) first count) }
     ensures status { IsStatus result }
@@ -116,6 +126,7 @@ pub(crate) fn gap_behind_last_of_xor(
 ) -> Option<Gap>
     ensures told { (gap : Gap) → result ≡ Some gap → xor.TellsGap (singly.lent_table links.now) list.now list.now.tail None }
     ensures stand { (gap : Gap) → result ≡ Some gap → StandBeside is_linked_one (singly.lent_table links.now) gap }
+    ensures is { (gap : Gap) → result ≡ Some gap → gap ≡ gap_between list.now.tail None }
     ensures shown { (s : List Place) → xor.Shows (singly.lent_table links.now) list.now (join (at_back s)) → result ≡ Some (gap_of (at_back s)) }
 {
     let before = list.last();

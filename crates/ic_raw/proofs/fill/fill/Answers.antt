@@ -1,4 +1,5 @@
-use Rattle.std.proofs.Common.{sym, ◌∙◌}
+use Rattle.std.proofs.Common.{◌≡◌, sym, ◌∙◌}
+use Rattle.ic_link_ops.proofs.SequenceLemmas.{some_same}
 use Rattle.ic_raw.specs.Fills.{run_faults}
 use Rattle.ic_raw.specs.Tables.{raw_table, place_fault}
 use Rattle.ic_raw.proofs.Runs.{run_faultless, free_run, refused_by, none_refused}
@@ -23,3 +24,15 @@ pub returns-clause-free : goal.returns-clause-free
 returns-clause-free g c made =
     let t = raw_table g.W.Words.unlinked c.args.links.now in
     free_run g.W.Words.is_linked t c.args.first c.args.count (sym c.run_fault-fault.ensures.fault ∙ c.if-fault-ne-OK.false)
+
+pub returns-clause-ends : goal.returns-clause-ends
+returns-clause-ends g c made some at is =
+    let t = raw_table g.W.Words.unlinked c.args.links.now in
+    let free = free_run g.W.Words.is_linked t c.args.first c.args.count (sym c.run_fault-fault.ensures.fault ∙ c.if-fault-ne-OK.false) in
+    let one : at ≡ c.in-Some.gap = some_same (sym is ∙ c.in-Some.is) in
+    rw one (c.link_run.ensures.ends free some)
+
+pub returns-clause-touched : goal.returns-clause-touched
+returns-clause-touched g c made at is outermost free =
+    let one : at ≡ c.in-Some.gap = some_same (sym is ∙ c.in-Some.is) in
+    rw one (c.link_run.ensures.touched (rw one at outermost) free)

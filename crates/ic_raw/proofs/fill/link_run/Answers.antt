@@ -1,11 +1,12 @@
 use Rattle.std.proofs.Common.{◌≡◌, ◌≢◌, true, ◌+◌, ◌-◌, ◌++◌, ◌∷◌, refl, sym, ap, ◌∙◌, subst, arith}
 use Rattle.ic_unsafe_ref.specs.declared.place.Place.{Place}
-use Rattle.ic_link_ops.proofs.SequenceLemmas.{some_same, none_not}
+use Rattle.ic_link_ops.proofs.SequenceLemmas.{some_same}
 use Rattle.ic_raw.specs.Fills.{IsFreeRun}
 use Rattle.ic_raw.specs.Tables.{raw_table}
 use Rattle.ic_raw.proofs.Gaps.{never}
 use Rattle.ic_raw.proofs.Lists.{inserted}
-use Rattle.ic_raw.proofs.Runs.{number_small, run_absent, begins, none_left, free_beside, Fills, fills_none, fills_more, fills_all}
+use Rattle.ic_raw.proofs.Runs.{number_small, none_left, not_refused, run_behind, Fills, fills_none, fills_more, fills_all, LinksRun, links_none, links_more, touches_run, turns_run}
+use Rattle.ic_raw.proofs.Touches.{links_first}
 use Rattle.ic_raw.proofs.fill.link_run.Goals as goal
 
 pub loop-left-init : goal.loop-left-init
@@ -14,15 +15,21 @@ loop-left-init g c = record {
   extent = refl;
   before = c.requires.stand.0;
   behind = c.requires.stand.1;
+  links = λ free. (free, links_none g.W.Words.is_linked g.K.ListKind.kept g.K.ForwardLinks.NamesPrev c.args.gap);
   fills = λ law cut free shown is. (free, fills_none g.K.ForwardLinks.Between g.K.ListKind.kept cut refl shown (ap (λ x. x.before) is));
 }
 
 pub returns-in_default-clause-filled : goal.returns-in_default-clause-filled
 returns-in_default-clause-filled g c law cut free shown is =
-    let was = c.loop-left.invariant.fills law cut free shown is in
-    let t = raw_table g.W.Words.unlinked c.loop-left.links in
-    let b = begins g.W.Words.is_linked t c.loop-left.number c.loop-left.left was.0 (omega (arith, c.loop-left-test.true)) in
-    absurd (none_not b.next (sym c.in_default.is ∙ c.acquire.ensures.accepted b.next (c.place_of.ensures ∙ b.named) b.free))
+    absurd (not_refused (c.loop-left.invariant.fills law cut free shown is).0 (omega (arith, c.loop-left-test.true)) c.place_of.ensures c.acquire.ensures.accepted c.in_default.is)
+
+pub returns-in_default-clause-ends : goal.returns-in_default-clause-ends
+returns-in_default-clause-ends g c free some =
+    absurd (not_refused (c.loop-left.invariant.links free).0 (omega (arith, c.loop-left-test.true)) c.place_of.ensures c.acquire.ensures.accepted c.in_default.is)
+
+pub returns-in_default-clause-touched : goal.returns-in_default-clause-touched
+returns-in_default-clause-touched g c outermost free =
+    absurd (not_refused (c.loop-left.invariant.links free).0 (omega (arith, c.loop-left-test.true)) c.place_of.ensures c.acquire.ensures.accepted c.in_default.is)
 
 pub overflow_add-number : goal.overflow_add-number
 overflow_add-number g c =
@@ -43,23 +50,27 @@ loop-left-preserved g c =
     let put = c.insert_linked.ensures in
     let named = sym c.place_of.ensures ∙ c.acquire.ensures.same _ taken in
     let small = number_small number p named was.small in
-    let others : (q : Place) → q ≢ p → linked (new.entry q) ≡ linked (old.entry q) = λ q n. put.no_step q ∙ ap linked (only.others q n) in
+    let also = links_first free' (c.acquire.ensures.linked _ taken) only put.no_step in
+    let rest = λ (r : IsFreeRun linked old number c.loop-left.left). run_behind p named small (put.extent ∙ only.extent) also.others r (omega (arith, c.loop-left-test.true)) in
     record {
       small = small;
       extent = put.extent ∙ only.extent ∙ was.extent;
-      before = λ q e. subst (λ z. linked (new.entry z) ≡ true) (some_same e) (put.no_step p ∙ c.acquire.ensures.linked _ taken);
-      behind = λ q e. others q (λ same. never (ap (λ z. linked (old.entry z)) same ∙ free'.unlinked) (was.behind q e)) ∙ was.behind q e;
+      before = λ q e. subst (λ z. linked (new.entry z) ≡ true) (some_same e) also.is;
+      behind = λ q e. also.others q (λ same. never (ap (λ z. linked (old.entry z)) same ∙ free'.unlinked) (was.behind q e)) ∙ was.behind q e;
+      links = λ free.
+          let k = was.links free in
+          let on = rest k.0 in
+          let there : LinksRun linked g.K.ListKind.kept g.K.ForwardLinks.NamesPrev base old c.args.list.now c.loop-left.list c.args.gap c.loop-left.before free.run (p ∷ on.0.run) =
+          subst (λ r. LinksRun linked g.K.ListKind.kept g.K.ForwardLinks.NamesPrev base old c.args.list.now c.loop-left.list c.args.gap c.loop-left.before free.run r) on.1 k.1 in (
+            on.0,
+            links_more linked g.K.ListKind.kept g.K.ForwardLinks.NamesPrev p there also (λ q away other beyond. put.others q away other beyond ∙ only.others q other) put.ends,
+          );
       fills = λ law cut free shown is.
           let k = was.fills law cut free shown is in
-          let b = begins linked old number c.loop-left.left k.0 (omega (arith, c.loop-left-test.true)) in
-          let one : b.next ≡ p = some_same (sym b.named ∙ named) in
-          let out = run_absent number (number + 1) p b.rest named (omega arith) small b.numbered in
-          let rest : IsFreeRun linked new (number + 1) (c.loop-left.left - 1) =
-          record { run = b.rest; numbered = b.numbered; counted = b.counted; free = free_beside linked old new p b.rest (put.extent ∙ only.extent) others out b.others } in
-          let first : k.0.run ≡ p ∷ b.rest = b.is ∙ ap (λ (z : Place). z ∷ b.rest) one in
-          let there : Fills g.K.ForwardLinks.Between g.K.ListKind.kept base old c.loop-left.list cut c.loop-left.before free.run (p ∷ b.rest) =
-          subst (λ r. Fills g.K.ForwardLinks.Between g.K.ListKind.kept base old c.loop-left.list cut c.loop-left.before free.run r) first k.1 in (
-            rest,
+          let on = rest k.0 in
+          let there : Fills g.K.ForwardLinks.Between g.K.ListKind.kept base old c.loop-left.list cut c.loop-left.before free.run (p ∷ on.0.run) =
+          subst (λ r. Fills g.K.ForwardLinks.Between g.K.ListKind.kept base old c.loop-left.list cut c.loop-left.before free.run r) on.1 k.1 in (
+            on.0,
             fills_more g.K.ForwardLinks.Between g.K.ListKind.kept cut p there
                 (inserted law (record { front = cut.front ++ there.done; back = cut.back }) there.after (ap (λ x. x.behind) is) there.shows free' only put.shows put.extent put.others),
           );
@@ -70,3 +81,17 @@ returns-clause-filled g c law cut free shown is =
     let was = c.loop-left.invariant.fills law cut free shown is in
     let t = raw_table g.W.Words.unlinked c.loop-left.links in
     fills_all g.K.ForwardLinks.Between g.K.ListKind.kept cut was.1 (none_left g.W.Words.is_linked t c.loop-left.number c.loop-left.left was.0 (omega (arith, c.loop-left-test.false)))
+
+pub returns-clause-ends : goal.returns-clause-ends
+returns-clause-ends g c free some =
+    let was = c.loop-left.invariant.links free in
+    let t = raw_table g.W.Words.unlinked c.loop-left.links in
+    let over = none_left g.W.Words.is_linked t c.loop-left.number c.loop-left.left was.0 (omega (arith, c.loop-left-test.false)) in
+    turns_run g.W.Words.is_linked g.K.ListKind.kept g.K.ForwardLinks.NamesPrev was.1 over c.args.first c.args.count free.numbered free.counted some
+
+pub returns-clause-touched : goal.returns-clause-touched
+returns-clause-touched g c outermost free =
+    let was = c.loop-left.invariant.links free in
+    let t = raw_table g.W.Words.unlinked c.loop-left.links in
+    let over = none_left g.W.Words.is_linked t c.loop-left.number c.loop-left.left was.0 (omega (arith, c.loop-left-test.false)) in
+    touches_run g.W.Words.is_linked g.K.ListKind.kept g.K.ForwardLinks.NamesPrev was.1 over outermost

@@ -1,13 +1,15 @@
-use Rattle.std.proofs.Common.{None, refl, subst, rules}
+use Rattle.std.proofs.Common.{None, refl, ap, subst, ◌∙◌, rules}
 use Rattle.ic_link_ops.specs.Sequences.{at_back, join}
 use Rattle.ic_raw.specs.Words.{no_words, is_linked_two}
 use Rattle.ic_raw.specs.declared.gap.Side.TheVariants.{Before}
 use Rattle.ic_raw.specs.Doubly.{Shows, TellsGap, lent_table, ends_of}
 use Rattle.ic_link_ops.specs.Chains.{Ends}
+use Rattle.ic_raw.specs.declared.gap.Gap.{Gap}
+use Rattle.ic_raw.specs.Gaps.{gap_between}
 use Rattle.ic_raw.proofs.Views.{viewed, spliced_back}
 use Rattle.ic_raw.proofs.Lists.{kept}
 use Rattle.ic_raw.proofs.Doubly.{law, told_back}
-use Rattle.ic_raw.proofs.Runs.{free_none, none_left, splices_none, run_viewed, run_back, why_back}
+use Rattle.ic_raw.proofs.Runs.{free_none, none_left, splices_none, touches_no_run, run_touched, turns_back, run_viewed, run_back, why_back}
 use Rattle.ic_raw.proofs.fill_calls.fill_list.Goals as goal
 
 pub returns-then-count-eq0 : goal.returns-then-count-eq0
@@ -16,6 +18,8 @@ returns-then-count-eq0 c = record {
   free = λ made. free_none c.if-count-eq0.true;
   nothing = search rules;
   told = search rules;
+  own = search rules;
+  touched = λ made free. touches_no_run c.if-count-eq0.true free;
   words = search rules;
   refused = search rules;
   why = search rules;
@@ -32,6 +36,8 @@ returns-then-status-ne-OK c = record {
   free = search rules;
   nothing = search rules;
   told = search rules;
+  own = search rules;
+  touched = search rules;
   words = search rules;
   refused = search rules;
   why = λ refused. why_back is_linked_two no_words c.new-links.result c.args.first c.args.count c.new-links.ensures.1 (c.fill-status.ensures.why refused);
@@ -54,6 +60,17 @@ returns c = record {
       let there : TellsGap Before (lent_table c.new-links.result) (ends_of c.args.list.now) None =
       subst (λ (list : Ends). TellsGap Before (lent_table c.new-links.result) list None) c.list_of-edited.ensures (c.gap_at-gap.ensures.told gap.0 gap.1) in
       told_back Before c.new-links.result (ends_of c.args.list.now) None c.new-links.ensures.1 there;
+  own = λ made some.
+      let gap = c.fill-status.ensures.gap c.if-status-ne-OK.false in
+      let behind = c.gap_at-gap.ensures.sides gap.0 gap.1 ∙ ap (λ (l : Ends). gap_between l.tail None) c.list_of-edited.ensures in
+      turns_back behind c.list_of-edited.ensures c.write_back.ensures.set (c.fill-status.ensures.ends c.if-status-ne-OK.false some gap.0 gap.1);
+  touched = λ made free.
+      run_touched is_linked_two no_words c.new-links.result c.fill-status.new.links c.new-links.ensures.1 (search rules) (c.fill-status.ensures.touched c.if-status-ne-OK.false)
+      (c.fill-status.ensures.gap c.if-status-ne-OK.false)
+      (λ g is. (
+        ap (λ (x : Gap). x.before) (c.gap_at-gap.ensures.sides g is) ∙ ap (λ (l : Ends). l.tail) c.list_of-edited.ensures,
+        (λ _. ap (λ (x : Gap). x.behind) (c.gap_at-gap.ensures.sides g is)),
+      )) free;
   words = search rules;
   refused = search rules;
   why = search rules;

@@ -1,13 +1,15 @@
-use Rattle.std.proofs.Common.{refl, subst, rules}
+use Rattle.std.proofs.Common.{refl, ap, subst, ◌∙◌, rules}
 use Rattle.ic_link_ops.specs.Sequences.{at_front}
-use Rattle.ic_raw.specs.Words.{no_word, is_linked_one}
+use Rattle.ic_raw.specs.Words.{no_word, is_linked_one, place_of}
 use Rattle.ic_raw.specs.Singly.{Shows, lent_table, table_of, front_of}
+use Rattle.ic_raw.specs.declared.gap.Gap.{Gap}
 use Rattle.ic_raw.specs.Gaps.{Stands}
+use Rattle.ic_link_ops.specs.Chains.{end_of}
 use Rattle.ic_link_ops.specs.SinglyLinkedList.{Front}
 use Rattle.ic_raw.proofs.Views.{viewed, spliced_back}
 use Rattle.ic_raw.proofs.Lists.{kept}
 use Rattle.ic_raw.proofs.Singly.{law}
-use Rattle.ic_raw.proofs.Runs.{free_none, none_left, splices_none, run_viewed, run_back, why_back}
+use Rattle.ic_raw.proofs.Runs.{free_none, none_left, splices_none, touches_no_run, run_touched, run_viewed, run_back, why_back}
 use Rattle.ic_raw.proofs.fill_calls.fill_stack.Goals as goal
 
 pub returns-then-count-eq0 : goal.returns-then-count-eq0
@@ -16,6 +18,8 @@ returns-then-count-eq0 c = record {
   free = λ made. free_none c.if-count-eq0.true;
   nothing = search rules;
   told = search rules;
+  own = search rules;
+  touched = λ made free. touches_no_run c.if-count-eq0.true free;
   words = search rules;
   refused = search rules;
   why = search rules;
@@ -32,6 +36,8 @@ returns-then-status-ne-OK c = record {
   free = search rules;
   nothing = search rules;
   told = search rules;
+  own = search rules;
+  touched = search rules;
   words = search rules;
   refused = search rules;
   why = λ refused. why_back is_linked_one no_word c.new-links.result c.args.first c.args.count c.new-links.ensures.1 (c.fill-status.ensures.why refused);
@@ -54,6 +60,14 @@ returns c = record {
       let there : Stands is_linked_one (lent_table c.new-links.result) (front_of c.args.list.now) =
       subst (λ (list : Front). Stands is_linked_one (lent_table c.new-links.result) list.head) c.stack_of-edited.ensures (c.gap_after-gap.ensures.told gap.0 gap.1) in
       subst (λ es. Stands is_linked_one (table_of es) (front_of c.args.list.now)) c.new-links.ensures.1 there;
+  own = λ made some.
+      let gap = c.fill-status.ensures.gap c.if-status-ne-OK.false in
+      let front = c.gap_after-gap.ensures.is gap.0 gap.1 in
+      c.write_back.ensures.set ∙ (c.fill-status.ensures.ends c.if-status-ne-OK.false some gap.0 gap.1).head
+      ∙ ap (λ (g : Gap). end_of g.before (place_of c.args.first) c.stack_of-edited.result.head) front;
+  touched = λ made free.
+      run_touched is_linked_one no_word c.new-links.result c.fill-status.new.links c.new-links.ensures.1 (search rules) (c.fill-status.ensures.touched c.if-status-ne-OK.false)
+      (c.fill-status.ensures.gap c.if-status-ne-OK.false) (λ g is. (ap (λ (x : Gap). x.before) (c.gap_after-gap.ensures.is g is), (λ no. absurd no))) free;
   words = search rules;
   refused = search rules;
   why = search rules;

@@ -1,14 +1,16 @@
-use Rattle.std.proofs.Common.{None, refl, subst, rules}
+use Rattle.std.proofs.Common.{None, refl, ap, subst, ◌∙◌, rules}
 use Rattle.ic_link_ops.specs.Sequences.{at_back, join}
 use Rattle.ic_raw.specs.Words.{no_word, is_linked_one}
 use Rattle.ic_raw.specs.Xor.{Shows, TellsGap}
 use Rattle.ic_raw.specs.Singly.{lent_table, table_of}
 use Rattle.ic_raw.specs.Doubly.{ends_of}
 use Rattle.ic_link_ops.specs.Chains.{Ends}
+use Rattle.ic_raw.specs.declared.gap.Gap.{Gap}
+use Rattle.ic_raw.specs.Gaps.{gap_between}
 use Rattle.ic_raw.proofs.Views.{viewed, spliced_back}
 use Rattle.ic_raw.proofs.Lists.{kept}
 use Rattle.ic_link_ops.proofs.XorLists.{joined_linked}
-use Rattle.ic_raw.proofs.Runs.{free_none, none_left, splices_none, run_viewed, run_back, why_back}
+use Rattle.ic_raw.proofs.Runs.{free_none, none_left, splices_none, touches_no_run, run_touched, turns_back, run_viewed, run_back, why_back}
 use Rattle.ic_raw.proofs.fill_calls.fill_xor_list.Goals as goal
 
 pub returns-then-count-eq0 : goal.returns-then-count-eq0
@@ -17,6 +19,8 @@ returns-then-count-eq0 c = record {
   free = λ made. free_none c.if-count-eq0.true;
   nothing = search rules;
   told = search rules;
+  own = search rules;
+  touched = λ made free. touches_no_run c.if-count-eq0.true free;
   words = search rules;
   refused = search rules;
   why = search rules;
@@ -33,6 +37,8 @@ returns-then-status-ne-OK c = record {
   free = search rules;
   nothing = search rules;
   told = search rules;
+  own = search rules;
+  touched = search rules;
   words = search rules;
   refused = search rules;
   why = λ refused. why_back is_linked_one no_word c.new-links.result c.args.first c.args.count c.new-links.ensures.1 (c.fill-status.ensures.why refused);
@@ -55,6 +61,17 @@ returns c = record {
       let there : TellsGap (lent_table c.new-links.result) (ends_of c.args.list.now) (ends_of c.args.list.now).tail None =
       subst (λ (list : Ends). TellsGap (lent_table c.new-links.result) list list.tail None) c.list_of-edited.ensures (c.gap_behind_last_of_xor-gap.ensures.told gap.0 gap.1) in
       subst (λ es. TellsGap (table_of es) (ends_of c.args.list.now) (ends_of c.args.list.now).tail None) c.new-links.ensures.1 there;
+  own = λ made some.
+      let gap = c.fill-status.ensures.gap c.if-status-ne-OK.false in
+      let behind = c.gap_behind_last_of_xor-gap.ensures.is gap.0 gap.1 ∙ ap (λ (l : Ends). gap_between l.tail None) c.list_of-edited.ensures in
+      turns_back behind c.list_of-edited.ensures c.write_back.ensures.set (c.fill-status.ensures.ends c.if-status-ne-OK.false some gap.0 gap.1);
+  touched = λ made free.
+      run_touched is_linked_one no_word c.new-links.result c.fill-status.new.links c.new-links.ensures.1 (search rules) (c.fill-status.ensures.touched c.if-status-ne-OK.false)
+      (c.fill-status.ensures.gap c.if-status-ne-OK.false)
+      (λ g is. (
+        ap (λ (x : Gap). x.before) (c.gap_behind_last_of_xor-gap.ensures.is g is) ∙ ap (λ (l : Ends). l.tail) c.list_of-edited.ensures,
+        (λ _. ap (λ (x : Gap). x.behind) (c.gap_behind_last_of_xor-gap.ensures.is g is)),
+      )) free;
   words = search rules;
   refused = search rules;
   why = search rules;

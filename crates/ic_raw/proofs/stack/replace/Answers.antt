@@ -33,4 +33,4 @@ returns-clause-touched c p is made =
     let put = c.replace_linked.ensures in
     let released = c.release_link.ensures in
     rw one (touches_exchanged (c.acquire.ensures.free place taken) (c.acquire.ensures.linked place taken) (c.acquire.ensures.frame place taken) put.no_step put.others
-        released.released released.frame)
+    released.released released.frame)

@@ -21,7 +21,7 @@ returns c = record {
   own = search rules;
   touched = λ p is made.
       touched_back no_word c.new-links.result c.insert.new.links c.new-links.ensures.1 (search rules) (ap (λ at. Some p ∷ at ∷ []) (sym c.place_of.ensures))
-          (c.insert.ensures.touched p (c.place_of-2.ensures ∙ is) c.if-not-insert.false);
+      (c.insert.ensures.touched p (c.place_of-2.ensures ∙ is) c.if-not-insert.false);
   words = search rules;
   refused = search rules;
   why = search rules;

@@ -39,7 +39,8 @@ returns-then-is_linked c = record {
   touched = λ p is made.
       let first = sym c.in-Some.is ∙ c.first.ensures ∙ ap (λ (l : Front). l.head) c.stack_of-edited.ensures in
       let one : p ≡ c.in-Some.member = some_same (sym is ∙ sym first) in
-      rw one (touched_back no_word c.new-links.result c.remove.new.links c.new-links.ensures.1 (search rules) refl (touches_places (Some c.in-Some.member ∷ []) c.remove.ensures.touched));
+      rw one (touched_back no_word c.new-links.result c.remove.new.links c.new-links.ensures.1 (search rules) refl
+      (touches_places (Some c.in-Some.member ∷ []) c.remove.ensures.touched));
   words = search rules;
   refused = search rules;
   why = search rules;

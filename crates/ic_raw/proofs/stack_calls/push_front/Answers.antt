@@ -39,7 +39,8 @@ returns c = record {
   told = search rules;
   own = search rules;
   touched = λ p is made.
-      touched_back no_word c.new-links.result c.insert.new.links c.new-links.ensures.1 (search rules) refl (c.insert.ensures.touched p (c.place_of.ensures ∙ is) c.if-not-insert.false);
+      touched_back no_word c.new-links.result c.insert.new.links c.new-links.ensures.1 (search rules) refl
+      (c.insert.ensures.touched p (c.place_of.ensures ∙ is) c.if-not-insert.false);
   words = search rules;
   refused = search rules;
   why = search rules;

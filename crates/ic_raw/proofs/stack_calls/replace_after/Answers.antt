@@ -124,7 +124,8 @@ returns c = record {
       let behind = behind_told c.new-links.result c.args.list.now view c.stack_of-edited.ensures c.place_of.ensures (c.gap_after.ensures.is _ c.in-Some.is) c.in-Some-behind.is in
       let at = ap (λ g. g.before) (c.gap_after.ensures.is _ c.in-Some.is) ∙ c.place_of.ensures in
       let one : q ≡ c.in-Some-behind.member = some_same (sym there ∙ behind) in
-      rw (one, ← at) (touched_back no_word c.new-links.result c.replace.new.links view (search rules) refl (c.replace.ensures.touched p (c.place_of-2.ensures ∙ is) c.if-not-replace.false));
+      rw (one, ← at) (touched_back no_word c.new-links.result c.replace.new.links view (search rules) refl
+      (c.replace.ensures.touched p (c.place_of-2.ensures ∙ is) c.if-not-replace.false));
   words = search rules;
   refused = search rules;
   why = search rules;

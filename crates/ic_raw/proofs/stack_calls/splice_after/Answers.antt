@@ -25,7 +25,8 @@ returns c = record {
   touched = λ t given made.
       let view = c.new-links.ensures.1 in
       let other : Shows (lent_table c.new-links.result) c.stack_of-other.result t = rw c.stack_of-other.ensures (viewed no_word kept c.new-links.result view given) in
-      touched_back no_word c.new-links.result c.splice.new.links view (search rules) (ap (λ at. at ∷ last t ∷ []) (sym c.place_of.ensures)) (c.splice.ensures.touched t other c.if-not-splice.false);
+      touched_back no_word c.new-links.result c.splice.new.links view (search rules) (ap (λ at. at ∷ last t ∷ []) (sym c.place_of.ensures))
+      (c.splice.ensures.touched t other c.if-not-splice.false);
   words = search rules;
   refused = search rules;
   why = search rules;

@@ -19,7 +19,8 @@ returns c = record {
   told = search rules;
   own = search rules;
   touched = λ made.
-      touched_back no_word c.new-links.result c.split.new.links c.new-links.ensures.1 (search rules) (ap (λ at. at ∷ []) (sym c.place_of.ensures)) (c.split.ensures.touched c.if-not-split.false);
+      touched_back no_word c.new-links.result c.split.new.links c.new-links.ensures.1 (search rules) (ap (λ at. at ∷ []) (sym c.place_of.ensures))
+      (c.split.ensures.touched c.if-not-split.false);
   words = search rules;
   rest_words = search rules;
   refused = search rules;
