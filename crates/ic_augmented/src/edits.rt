@@ -82,10 +82,10 @@ pub fn attach_fresh<A, E: TreeHead, N: Nodes, M: RenewSums>(
 /// Takes the member at `place` out, as [`RBTree::unlink`] does, and renews the stale summaries of the tree: then it is summed. The place stays
 /// linked, and its own summary is stale.
 ///
-/// It does what `RBTree::unlink` and [`refresh`] do, and is faster: the summaries above are renewed as far as they change, each by what has changed
-/// below. Each fresh summary of another tree in the table stays right, and it stays fresh where those of this tree were written below its own
-/// members, as they are in a tree that is summed. It requires that the place is that of a member, and that there is room for a summary at each
-/// linked place. O(log n + v) for v summaries that were stale before.
+/// It does what `RBTree::unlink` and [`refresh`] do, and the summaries above are renewed as far as they change, each by what has changed below. Each
+/// fresh summary of another tree in the table stays right, and it stays fresh where those of this tree were written below its own members, as they
+/// are in a tree that is summed. It requires that the place is that of a member, and that there is room for a summary at each linked place.
+/// O(log n + v) for v summaries that were stale before.
 pub fn unlink_fresh<A, E: TreeHead, N: Nodes, M: RenewSums>(
     tree: &mut RBTree<A, E>,
     summed: &mut Summed<N, M>,

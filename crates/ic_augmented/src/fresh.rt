@@ -86,10 +86,10 @@ pub fn insert_fresh<A: KeyAdapter, E: TreeHead, L: RBTreeOps + LinkValues<A::Val
 
 /// Takes the object off the tree as [`RBTree::remove`] does, and renews the stale summaries of the tree: then it is summed.
 ///
-/// It does what `remove` and [`refresh`](crate::refresh) do, and is faster. The summary of the object's place is stale then. Each fresh summary of
-/// another tree in the table stays right, and it stays fresh where those of this tree were written below its own members, as they are in a tree that
-/// is summed. It requires that the object is a member, and that there is room for a summary at each covered place.
-/// O(log n + v) for v summaries that were stale before.
+/// It does what `remove` and [`refresh`](crate::refresh) do, and the summaries above are renewed as far as they change. The summary of the object's
+/// place is stale then. Each fresh summary of another tree in the table stays right, and it stays fresh where those of this tree were written below
+/// its own members, as they are in a tree that is summed. It requires that the object is a member, and that there is room for a summary at each
+/// covered place. O(log n + v) for v summaries that were stale before.
 pub fn remove_fresh<A: KeyAdapter, E: TreeHead, L: RBTreeOps, M: RenewSums>(
     tree: &mut RBTree<A, E>,
     summed: &mut Summed<L, M>,
