@@ -48,7 +48,7 @@ or_else (Some p) other = Some p
 abbrev pub AllPutIn : Gap → (given old new : Ends) → Type 0
 AllPutIn gap given = Turns gap (or_else given.head gap.behind) (or_else given.tail gap.before)
 
--- a member that stood between two places, and is taken out, is put in elsewhere
+-- A MEMBER MOVES: it is taken out from between two places, and put into a gap
 abbrev pub IsMoved : (from : Gap) → (member : Option Place) → (to : Gap) → (old new : Ends) → Type 0
 IsMoved from member to old new = (without : Ends) × TakenOut from old without × PutIn to member without new
 

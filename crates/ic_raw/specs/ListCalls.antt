@@ -1,5 +1,6 @@
 -- WHAT THE CALLS OF DOUBLY LINKED LISTS DO: each record is the whole contract of a call. It says first what the call does to a list that the table
--- shows, and then what holds whatever the words say: what an accepted call has found before it edits, and what a refused one leaves, and why.
+-- shows, and then what holds whatever the words say: what an accepted call has found before it edits, which entries it changes and which ends the
+-- list has then, and what a refused one leaves, and why.
 use Rattle.std.specs.Prelude.{◌≡◌, ◌≢◌, ◌↔◌, ◌++◌, ◌∷◌, ℕ, List, [], Option, Some, None}
 use Rattle.ic_unsafe_ref.specs.declared.place.Place.{Place}
 use Rattle.ic_link_ops.specs.Sequences.{Cut, join, at_back}
