@@ -12,7 +12,7 @@ use Rattle.ic_raw.specs.Answers.{IsStatus, HandsOut, refusal}
 use Rattle.ic_raw.specs.Hash.{slot_of, chain_of, buckets_fault, ChangesOnlyChain, HoldsChains, has_key, NamesKey}
 use Rattle.ic_raw.specs.Keys.{key_of, keys_fault}
 use Rattle.ic_raw.specs.Singly.{ShowsList, FreeIn, StandsIn, IsWritten, LosesFront, table_of, front_of, word_of_front, list_of, fault_at, fault_of}
-use Rattle.ic_raw.specs.Singly.{Inserted, Removed, TakenOut, Touched}
+use Rattle.ic_raw.specs.Singly.{Inserted, Removed, LeavesChain, Touched}
 
 -- `old`, `new`: the words of the table before the call and after it. `buckets`, `buckets'`: those of the buckets
 module _ (old new : List RawOne) (buckets buckets' : List RawFront) (status hash : ℕ) where
@@ -47,7 +47,7 @@ module _ (old new : List RawOne) (buckets buckets' : List RawFront) (status hash
     pub any : status ≡ OK → 1 ≤ length buckets
     pub stands : status ≡ OK → StandsIn old place
     pub own : status ≡ OK → LosesFront (table_of old) place (list_of (chain_of buckets hash)) (list_of (chain_of buckets' hash))
-    pub touched : (p : Place) → place ≡ Some p → status ≡ OK → TakenOut old new (chain_of buckets hash) p
+    pub touched : (p : Place) → place ≡ Some p → status ≡ OK → LeavesChain old new (chain_of buckets hash) p
     pub words : status ≡ OK → IsWritten (chain_of buckets' hash)
     pub refused : status ≢ OK → (new ≡ old) × (buckets' ≡ buckets)
     pub why : status ≢ OK → status ≢ NULL → status ≡ refusal (buckets_fault buckets ∷ fault_at old place ∷ [])

@@ -104,7 +104,7 @@ Touched old new = Touches is_linked_one (table_of old) (table_of new)
 
 -- A PLACE IS TAKEN OUT OF A LIST to which its words lead: what stands in front of it is linked, or none at the front. It alone is unlinked, and
 -- no words change but its own and those of the place in front
-pub record TakenOut (old new : List RawOne) (list : RawFront) (p : Place) : Type 0 where
+pub record LeavesChain (old new : List RawOne) (list : RawFront) (p : Place) : Type 0 where
   pub before : Option Place
   pub stands : StandsIn old before
   pub leads : next_from (table_of old) (list_of list) before ≡ Some p

@@ -11,7 +11,7 @@ ghost use Rattle.ic_link_ops.specs.Sequences.{IsMember};
 ghost use Rattle.ic_raw.specs.declared.status.TheConstants.{OK, NULL};
 ghost use Rattle.ic_raw.specs.Answers.{IsStatus, refusal};
 ghost use Rattle.ic_raw.specs.Hash.{slot_of};
-ghost use Rattle.ic_raw.specs.Singly.{ShowsList, StandsIn, LosesFront, front_of, list_of, table_of, word_of_front, fault_at, Removed, TakenOut};
+ghost use Rattle.ic_raw.specs.Singly.{ShowsList, StandsIn, LosesFront, front_of, list_of, table_of, word_of_front, fault_at, Removed, LeavesChain};
 ghost use Rattle.ic_raw.specs.Words.{place_of};
 ghost use Rattle.ic_raw.specs.HashCalls.{FindCall, InsertCall, NextEqualCall, RemoveCall};
 
@@ -58,7 +58,7 @@ fn remove_from(table: &mut [RawOne], list: &mut RawFront, member: Place) -> u32
     ensures member { (s : List Place) → ShowsList table.old list.old s → result ≡ OK → IsMember member s }
     ensures stands { result ≡ OK → StandsIn table.old (Some member) }
     ensures own { result ≡ OK → LosesFront (table_of table.old) (Some member) (list_of list.old) (list_of list.new) }
-    ensures touched { result ≡ OK → TakenOut table.old table.new list.old member }
+    ensures touched { result ≡ OK → LeavesChain table.old table.new list.old member }
     ensures words { result ≡ OK → list.new ≡ word_of_front (front_of list.new) }
     ensures refused { result ≢ OK → (table.new ≡ table.old) × (list.new ≡ list.old) }
     ensures why { result ≢ OK → result ≡ refusal (fault_at table.old (Some member) ∷ []) }

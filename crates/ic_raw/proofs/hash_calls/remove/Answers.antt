@@ -3,7 +3,7 @@ use Rattle.std.proofs.lemmas.Grind.{common_steps}
 use Rattle.ic_unsafe_ref.specs.declared.place.Place.{Place}
 use Rattle.ic_link_ops.proofs.SequenceLemmas.{some_same}
 use Rattle.ic_raw.specs.Hash.{slot_of, chain_of}
-use Rattle.ic_raw.specs.Singly.{ShowsList, TakenOut}
+use Rattle.ic_raw.specs.Singly.{ShowsList, LeavesChain}
 use Rattle.ic_raw.proofs.HashTables.{chain_read, chain_written, changes_chain, holds_removed}
 use Rattle.ic_raw.proofs.hash_calls.remove.Goals as goal
 
@@ -38,7 +38,7 @@ returns c = record {
       let one : p ≡ c.in-Some.member = some_same (sym is ∙ sym c.place_of.ensures ∙ c.in-Some.is) in
       let slot = c.slot.ensures.slot c.in-Some-slot.at c.in-Some-slot.is in
       let read = chain_read c.args.buckets.now c.args.hash c.in-Some-slot.at slot.0 _ slot.1 in
-      rw one (subst (λ w. TakenOut c.args.table.now c.remove_from.new.table w c.in-Some.member) (sym read) (c.remove_from.ensures.touched made));
+      rw one (subst (λ w. LeavesChain c.args.table.now c.remove_from.new.table w c.in-Some.member) (sym read) (c.remove_from.ensures.touched made));
   words = search rules;
   refused = λ off. let same = c.remove_from.ensures.refused off in (same.0, grind (arith, common_steps, same));
   why = search rules;
