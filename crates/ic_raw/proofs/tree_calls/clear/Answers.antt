@@ -1,4 +1,5 @@
-use Rattle.std.proofs.Common.{refl, rules}
+use Rattle.std.proofs.Common.{None, refl, rules}
+use Rattle.ic_raw.specs.Tree.{root_in}
 use Rattle.ic_raw.specs.Words.{no_tree_words, is_linked_three}
 use Rattle.ic_raw.proofs.Gaps.{never}
 use Rattle.ic_raw.proofs.Trees.{kept}
@@ -25,7 +26,7 @@ returns c = record {
       let done = (c.clear.ensures.cleared s (rw c.tree_of.ensures (viewed no_tree_words kept c.new-links.result c.new-links.ensures.1 shown))).1 in
       record { accepted = refl; done = clears_back no_tree_words is_linked_three c.new-links.result c.clear.new.links c.new-links.ensures.1 (search rules) done };
   root = search rules;
-  ended = λ ok. leads_back c.new-links.result c.new-links.ensures.1 (rw c.tree_of.ensures at (c.clear.ensures.ended c.if-not-clear.false));
+  ended = λ ok. leads_back c.new-links.result (root_in c.args.tree.now) None c.new-links.ensures.1 (rw c.tree_of.ensures at (c.clear.ensures.ended c.if-not-clear.false));
   emptied = search rules;
   marks = unmarks_back c.new-links.result c.clear.new.links c.new-links.ensures.1 (search rules) c.clear.ensures.marks;
   refused = search rules;
