@@ -37,6 +37,10 @@ nothing_there v e = rw e (shows_nothing v)
 apart : (p q : Place) → q ≢ p → (x : Place) → 1 ≤ times_in x (p ∷ []) → x ≢ q
 apart p q other x m e = let k = one_at_other x p (λ (i : x ≡ p). other (sym e ∙ i)) in omega (arith, m, k)
 
+-- a tree shows the same under another name of its member
+pub named_so : {E : Type 0} {n : E → Node} {v : Table E} {root : Option Place} {p q : Place} → p ≡ q → Shows n v root (p ∷ []) → Shows n v root (q ∷ [])
+named_so {n = n} {v = v} {root = root} same shown = subst (λ x. Shows n v root (x ∷ [])) same shown
+
 module _ {E S : Type 0} {n : E → Node} where
   pub nothing_right : (z : Sums S) (v : Table E) {root : Option Place} → root ≡ None → ShowsConsistent n z v root []
   nothing_right z v e = (nothing_there v e, λ q member but x fresh. absurd (omega (arith, member)))

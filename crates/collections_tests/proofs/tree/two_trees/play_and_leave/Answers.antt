@@ -5,7 +5,7 @@ use Rattle.ic_unsafe_ref.proofs.PlaceLemmas.{same_index}
 use Rattle.ic_link_ops.specs.RedBlackTree.{Shows}
 use Rattle.ic_augmented.specs.Counts.{counts}
 use Rattle.collections_tests.proofs.Ready.{on_ok}
-use Rattle.collections_tests.proofs.TwoTrees.{nothing_there, nothing_right, alone, within_itself, beside_stays, leaving_stays}
+use Rattle.collections_tests.proofs.TwoTrees.{nothing_there, nothing_right, alone, within_itself, beside_stays, leaving_stays, named_so}
 use Rattle.collections_tests.proofs.tree.two_trees.play_and_leave.Goals as goal
 
 pub insert_fresh-put-requires-clause-shown : goal.insert_fresh-put-requires-clause-shown
@@ -22,7 +22,7 @@ remove_fresh-requires-clause-member g c =
     let two = alone (on_ok c.insert_fresh-beside.result (sym c.is_ok-2.ensures.value ∙ is)
     (e.inserted [] (nothing_right (counts c.insert_fresh-put.new.summed.sums) (g.L.LinkOps.table c.insert_fresh-put.new.summed.links) c.requires.empty.1))) in
     let same = same_index c.reference-2.result c.reference-3.result (c.reference-2.ensures ∙ sym c.reference-3.ensures) in
-    record { front = []; back = []; shown = subst (λ (x : Place). Shows n _ _ (x ∷ [])) same two.shows }
+    record { front = []; back = []; shown = named_so same two.shows }
 
 pub nth-requires : goal.nth-requires
 nth-requires g c =
