@@ -3,11 +3,10 @@ use Rattle.std.specs.Prelude.{◌≡◌, true, ℕ, List, [], ◌∷◌, Option,
 use Rattle.ic_unsafe_ref.specs.declared.place.Place.{Place}
 use Rattle.ic_link_ops.specs.Sequences.{Cut}
 use Rattle.ic_link_ops.specs.Tables.{Table}
-use Rattle.ic_link_ops.specs.Chains.{Ends, end_of}
+use Rattle.ic_link_ops.specs.Chains.{Ends}
 use Rattle.ic_link_ops.specs.XorLinkedList as xor
 use Rattle.ic_raw.specs.declared.words.RawOne.{RawOne}
 use Rattle.ic_raw.specs.declared.words.RawEnds.{RawEnds}
-use Rattle.ic_raw.specs.declared.gap.Gap.{Gap}
 use Rattle.ic_raw.specs.Words.{no_word, is_linked_one, next_of_one}
 use Rattle.ic_raw.specs.Tables.{joins_of, other_of}
 use Rattle.ic_raw.specs.Doubly.{ends_of}
@@ -69,14 +68,6 @@ LeadsOn entry end from at (x ∷ s) = (at ≡ Some x) × (is_linked_one (entry x
 
 abbrev pub LeadsThrough : Table RawOne → Ends → List Place → Type 0
 LeadsThrough t list s = LeadsOn t.entry list.tail None list.head s
-
--- TWO LISTS' OWN ENDS after a cut at a gap: the list begins as it did, unless no member stands in front of the gap, and ends with the one in front
--- of it. The rest begins with the member behind the gap, and ends as the list did, unless no member stands behind the gap
-pub record CutsEnds (gap : Gap) (old new rest : Ends) : Type 0 where
-  pub head : new.head ≡ end_of gap.before None old.head
-  pub tail : new.tail ≡ gap.before
-  pub rest_head : rest.head ≡ gap.behind
-  pub rest_tail : rest.tail ≡ end_of gap.behind None old.tail
 
 -- what a call does to such words
 abbrev pub ShowsList : List RawOne → RawEnds → List Place → Type 0

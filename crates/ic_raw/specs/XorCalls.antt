@@ -14,11 +14,11 @@ use Rattle.ic_raw.specs.declared.words.RawOne.{RawOne}
 use Rattle.ic_raw.specs.Answers.{IsStatus, refusal}
 use Rattle.ic_raw.specs.Doubly.{IsEnd, IsWritten, end_on, ends_of, words_of}
 use Rattle.ic_raw.specs.Fills.{last_of_run, run_faults}
-use Rattle.ic_raw.specs.Gaps.{PutIn, TakenOut, Turns, gap_between}
+use Rattle.ic_raw.specs.Gaps.{IsCutAt, PutIn, TakenOut, Turns, gap_between}
 use Rattle.ic_raw.specs.Singly.{IsFreeRunIn, TouchedRun, table_of}
 use Rattle.ic_raw.specs.Touches.{Touches, sides}
 use Rattle.ic_raw.specs.Words.{HasNumber, is_linked_one, place_of}
-use Rattle.ic_raw.specs.Xor.{FreeIn, StandsIn, beyond, TellsGap, TellsMemberBehind, TellsMemberBefore, TellsEnds, LeadsThrough, CutsEnds, fault_at, fault_of}
+use Rattle.ic_raw.specs.Xor.{FreeIn, StandsIn, beyond, TellsGap, TellsMemberBehind, TellsMemberBefore, TellsEnds, LeadsThrough, fault_at, fault_of}
 use Rattle.ic_raw.specs.Xor.{Inserted, Removed, Popped, Replaced, Spliced, Split, Cleared, Filled}
 
 -- `old`, `new`: the words of the table before the call and after it. `list`, `list'`: those of the list. `status`: what the call returns
@@ -154,7 +154,7 @@ module _ (old new : List RawOne) (list list' : RawEnds) (status : ℕ) where
     pub stands_behind : status ≡ OK → StandsIn old behind
     pub told : status ≡ OK → TellsGap (table_of old) (ends_of list) before behind
     pub touched : status ≡ OK → Touches is_linked_one (table_of old) (table_of new) [] (before ∷ behind ∷ [])
-    pub own : status ≡ OK → CutsEnds (gap_between before behind) (ends_of list) (ends_of list') (ends_of rest')
+    pub own : status ≡ OK → IsCutAt (gap_between before behind) (ends_of list) (ends_of list') (ends_of rest')
     pub words : status ≡ OK → IsWritten list'
     pub rest_words : status ≡ OK → IsWritten rest'
     pub refused : status ≢ OK → (new ≡ old) × (list' ≡ list) × (rest' ≡ rest)

@@ -11,13 +11,13 @@ ghost use Rattle.ic_link_ops.specs.Tables.{IsLinked, IsUnlinked};
 ghost use Rattle.ic_link_ops.specs.LinkSteps.{acquires, releases};
 ghost use Rattle.ic_link_ops.specs.Edits.{Inserts, Removes, Replaces, Splices, Splits};
 ghost use Rattle.ic_raw.specs.Calls.{Clears};
-ghost use Rattle.ic_raw.specs.Gaps.{PutIn, Stands, TakenOut, Turns, gap_between};
+ghost use Rattle.ic_raw.specs.Gaps.{IsCutAt, PutIn, Stands, TakenOut, Turns, gap_between};
 ghost use Rattle.ic_raw.specs.Gaps as gaps;
 ghost use Rattle.ic_raw.specs.Tables.{IsFree};
 ghost use Rattle.ic_raw.specs.Touches.{Touches};
 ghost use Rattle.ic_raw.specs.Words.{is_linked_one};
 ghost use Rattle.ic_raw.specs.Singly.{lent_table};
-ghost use Rattle.ic_raw.specs.Xor.{Shows, beyond, GoesOn, Faces, TellsGap, TellsMember, TellsMemberBehind, TellsMemberBefore, TellsEnds, LeadsThrough, CutsEnds};
+ghost use Rattle.ic_raw.specs.Xor.{Shows, beyond, GoesOn, Faces, TellsGap, TellsMember, TellsMemberBehind, TellsMemberBefore, TellsEnds, LeadsThrough};
 
 use crate::gap::begin_alike;
 use crate::table::RawTable;
@@ -357,7 +357,7 @@ pub(crate) fn split(
         → (result ≡ true) × Splits Shows (lent_table links.old) (lent_table links.new) list.new rest.new cut.front cut.back }
     ensures told { result ≡ true → TellsGap (lent_table links.old) list.old before behind }
     ensures touched { result ≡ true → Touches is_linked_one (lent_table links.old) (lent_table links.new) [] (before ∷ behind ∷ []) }
-    ensures own { result ≡ true → CutsEnds (gap_between before behind) list.old list.new rest.new }
+    ensures own { result ≡ true → IsCutAt (gap_between before behind) list.old list.new rest.new }
     ensures before { result ≡ true → Stands is_linked_one (lent_table links.old) before }
     ensures behind { result ≡ true → Stands is_linked_one (lent_table links.old) behind }
     ensures refused { result ≡ false → (links.new ≡ links.old) × (list.new ≡ list.old) × (rest.new ≡ rest.old) }

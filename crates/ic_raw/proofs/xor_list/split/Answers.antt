@@ -1,4 +1,4 @@
-use Rattle.std.proofs.Common.{refl}
+use Rattle.ic_raw.proofs.Ends.{cut_at}
 use Rattle.ic_raw.proofs.Touches.{touches_split}
 use Rattle.ic_raw.proofs.xor_list.split.Goals as goal
 
@@ -6,6 +6,4 @@ pub returns-clause-touched : goal.returns-clause-touched
 returns-clause-touched c made = let cut = c.split_between.ensures in touches_split cut.no_step cut.others
 
 pub returns-clause-own : goal.returns-clause-own
-returns-clause-own c made =
-    let ends = c.split_between.ensures.ends in
-    record { head = ends.head; tail = ends.tail; rest_head = ends.rest_head; rest_tail = ends.rest_tail _ refl }
+returns-clause-own c made = cut_at c.split_between.ensures.ends
