@@ -24,6 +24,11 @@ def bare(text):
     return "\n".join(line if line.startswith("    ") else re.sub(r"\*(?=[\w.])", r"\\*", line) for line in lines).strip("\n")
 
 
+def sample_in(text):
+    """The first sample of a comment: lines that are indented below an empty one, as those of a list's item are not."""
+    return "\n".join(line[4:] for line in re.search(r"\n\n((?:    .*\n)+)", text)[1].splitlines())
+
+
 def rust_prose(text):
     """A doc comment of Rust as Markdown: links as the words that they show, examples as code without hidden lines."""
     text = re.sub(r"\[([^\[\]]+)\](?:\([^)]*\))?(?!:)", r"\1", text)
@@ -119,7 +124,7 @@ def family_page(family, entries):
     for title, said in introductions()[family]:
         text += f"\n**{title}.**\n\n{said}\n"
     if family == "list":
-        text += code("\n".join(line[4:] for line in bare(HEADER.read_text().partition("*/")[0]).splitlines() if line.startswith("    ")), "c")
+        text += code(sample_in(bare(HEADER.read_text().partition("*/")[0])), "c")
     samples = [it for it in SAMPLE.findall((ROOT / "docs/LIBRARY.md").read_text()) if f"{family}_view" in it]
     text += "".join(f"\nIn C++:\n{code(it.rstrip(), 'cpp')}" for it in samples[:1])
     seen, said = set(), ""
