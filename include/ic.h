@@ -190,7 +190,8 @@ static inline uint32_t ic_place(uint64_t word) {
  * leads to no such place. It evaluates `table`, `places` and `list` in each round.
  *
  * A plain loop ends early if its body removes the member. The body of a ..._SAFE loop may remove it, and may then insert the place into
- * another list or tree. It has to leave the members beside it where they are. A ..._FROM loop begins at the member `at`.
+ * another list or tree. It has to leave the members beside it where they are. A ..._FROM loop begins at the member `at`. To begin after a
+ * member, hand the one after it to the loop, as ic_list_next returns it.
  *
  * If your objects are in an array, a ..._ENTRY loop gives you the object. You declare the pointer to it, by a name alone. The array has to have
  * an object for each place of the table. After the last round the pointer is null, and after a `break` it still is the object:
@@ -212,6 +213,13 @@ static inline uint32_t ic_bound(ic_length places) {
 static inline uint32_t ic_place_within(ic_length places, uint64_t word) {
     uint32_t place = ic_place(word);
     return place < ic_bound(places) ? place : IC_NONE;
+}
+
+/* Returns the status of a call that needs `place` as a member, if it can't use the place. `is_linked` says whether the place is linked. */
+static inline uint32_t ic_fault_of(ic_length places, uint32_t place, int is_linked) {
+    if (place == IC_NONE)
+        return IC_NULL;
+    return place >= ic_bound(places) ? IC_OUT_OF_RANGE : is_linked ? IC_BROKEN : IC_NOT_LINKED;
 }
 
 /* The loops below are made of these two. They run while `place` is a member, and go on to the member that `next` finds from it. */
@@ -327,6 +335,14 @@ static inline int ic_list_is_singular(const struct ic_link2 *table, ic_length pl
     IC_LOOP(place, at, places, ic_list_is_linked(table, places, place), ic_list_next(table, places, place))
 #define IC_LIST_FOREACH_REVERSE_FROM(place, at, table, places) \
     IC_LOOP(place, at, places, ic_list_is_linked(table, places, place), ic_list_prev(table, places, place))
+#define IC_LIST_FOREACH_SAFE_FROM(place, next, at, table, places) \
+    IC_LOOP_SAFE(place, next, at, places, ic_list_is_linked(table, places, place), ic_list_next(table, places, place))
+#define IC_LIST_FOREACH_ENTRY_FROM(object, objects, at, table, places)                                           \
+    IC_LOOP_ENTRY(object, objects, ic_at_##object, at, places, ic_list_is_linked(table, places, ic_at_##object), \
+                  ic_list_next(table, places, ic_at_##object))
+#define IC_LIST_FOREACH_ENTRY_SAFE_FROM(object, objects, at, table, places)           \
+    IC_LOOP_ENTRY_SAFE(object, objects, ic_at_##object, ic_next_##object, at, places, \
+                       ic_list_is_linked(table, places, ic_at_##object), ic_list_next(table, places, ic_at_##object))
 
 /* tools/c-calls --write writes from here: list */
 
@@ -570,6 +586,14 @@ static inline int ic_ring_is_singular(const struct ic_link2 *table, ic_length pl
     IC_LOOP(place, at, places, place != (head) && ic_ring_is_linked(table, places, place), ic_ring_next(table, places, place))
 #define IC_RING_FOREACH_REVERSE_FROM(place, at, table, places, head) \
     IC_LOOP(place, at, places, place != (head) && ic_ring_is_linked(table, places, place), ic_ring_prev(table, places, place))
+#define IC_RING_FOREACH_SAFE_FROM(place, next, at, table, places, head) \
+    IC_LOOP_SAFE(place, next, at, places, place != (head) && ic_ring_is_linked(table, places, place), ic_ring_next(table, places, place))
+#define IC_RING_FOREACH_ENTRY_FROM(object, objects, at, table, places, head)                                                                 \
+    IC_LOOP_ENTRY(object, objects, ic_at_##object, at, places, ic_at_##object != (head) && ic_ring_is_linked(table, places, ic_at_##object), \
+                  ic_ring_next(table, places, ic_at_##object))
+#define IC_RING_FOREACH_ENTRY_SAFE_FROM(object, objects, at, table, places, head)     \
+    IC_LOOP_ENTRY_SAFE(object, objects, ic_at_##object, ic_next_##object, at, places, \
+                       ic_at_##object != (head) && ic_ring_is_linked(table, places, ic_at_##object), ic_ring_next(table, places, ic_at_##object))
 
 /* tools/c-calls --write writes from here: ring */
 
@@ -668,6 +692,66 @@ static inline uint32_t ic_ring_push_back(struct ic_link2 *table, ic_length place
     return ic_ring_insert_before(table, places, head, place);
 }
 
+/* These are edits of two calls. Each first tests the links that its calls test, so it is refused before it has changed anything. */
+
+/* Returns IC_OK if the places on both sides of `place` lead back to it, or the status of a call that refuses it as a place of a ring. */
+static inline uint32_t ic_ring_fault_of(const struct ic_link2 *table, ic_length places, uint32_t place) {
+    if (ic_ring_is_linked(table, places, place) && ic_ring_next(table, places, ic_ring_prev(table, places, place)) == place &&
+        ic_ring_prev(table, places, ic_ring_next(table, places, place)) == place)
+        return IC_OK;
+    return ic_fault_of(places, place, ic_ring_is_linked(table, places, place));
+}
+
+/* Lets two places, of one ring or of two, change their places, as list_swap of Linux does, in O(1). Nothing changes if they are the same.
+ * IC_NULL: `one` or `other` is IC_NONE. IC_OUT_OF_RANGE: `one` or `other` is not below `places`. IC_NOT_LINKED: `one` or `other` is not
+ * linked. IC_BROKEN: `one` or `other` is in no ring. */
+IC_NODISCARD
+static inline uint32_t ic_ring_swap(struct ic_link2 *table, ic_length places, uint32_t one, uint32_t other) {
+    uint32_t status = ic_ring_fault_of(table, places, one);
+    if (status == IC_OK)
+        status = ic_ring_fault_of(table, places, other);
+    if (status == IC_OK)
+        status = ic_ring_exchange(table, places, ic_ring_prev(table, places, one), ic_ring_prev(table, places, other));
+    return status == IC_OK ? ic_ring_exchange(table, places, one, other) : status;
+}
+
+/* Moves the places from `first` to `last` of a ring, in their order, after the place `at` of a ring, in O(1). So a head's first members up
+ * to `entry` move after the head `list` as by list_cut_position(list, head, entry) of Linux. Nothing changes if they are there already. The
+ * call can't tell if `at` is between `first` and `last`, or if `last` comes before `first`. Then it leaves places in circles without a head.
+ * IC_NULL: `at`, `first` or `last` is IC_NONE. IC_OUT_OF_RANGE: one of them is not below `places`. IC_NOT_LINKED: one of them is not
+ * linked. IC_BROKEN: one of them is in no ring, or `at` is `first`, and `last` is another place. */
+IC_NODISCARD
+static inline uint32_t ic_ring_move_range_after(struct ic_link2 *table, ic_length places, uint32_t at, uint32_t first, uint32_t last) {
+    uint32_t status = ic_ring_fault_of(table, places, at);
+    if (status == IC_OK)
+        status = ic_ring_fault_of(table, places, first);
+    if (status == IC_OK)
+        status = ic_ring_fault_of(table, places, last);
+    if (status != IC_OK || at == last)
+        return status;
+    if (at == first)
+        return IC_BROKEN;
+    status = ic_ring_exchange(table, places, ic_ring_prev(table, places, first), last);
+    return status == IC_OK ? ic_ring_exchange(table, places, at, last) : status;
+}
+
+/* Moves the places from `first` to `last` of a ring, in their order, before the place `at` of a ring, in O(1). If `at` is a head, they
+ * become its last members, as by list_bulk_move_tail of Linux. Nothing changes if they are there already. What the call can't tell is as
+ * of ic_ring_move_range_after.
+ * IC_NULL: `at`, `first` or `last` is IC_NONE. IC_OUT_OF_RANGE: one of them is not below `places`. IC_NOT_LINKED: one of them is not
+ * linked. IC_BROKEN: one of them is in no ring, or `at` is `last`, and `first` is another place. */
+IC_NODISCARD
+static inline uint32_t ic_ring_move_range_before(struct ic_link2 *table, ic_length places, uint32_t at, uint32_t first, uint32_t last) {
+    uint32_t status = ic_ring_fault_of(table, places, at);
+    if (status == IC_OK)
+        status = ic_ring_fault_of(table, places, first);
+    if (status != IC_OK)
+        return status;
+    if (at == last && at != first)
+        return IC_BROKEN;
+    return ic_ring_move_range_after(table, places, at == first ? last : ic_ring_prev(table, places, at), first, last);
+}
+
 /* ---- Singly linked lists: 8 bytes a place, calls O(1) except ic_stack_splice_after, and to fill, clear and check ------------------------
  *
  * Take them for stacks and free lists. Calls edit the list after the member `at`, or at the front if `at` is IC_NONE. If you keep the last member
@@ -742,6 +826,9 @@ static inline uint32_t ic_stack_go_on(const struct ic_link1 *table, ic_length pl
     IC_LOOP(place, at, places, ic_stack_is_linked(table, places, place), ic_stack_next(table, places, place))
 #define IC_STACK_FOREACH_ENTRY(object, objects, table, places, list)                  \
     IC_LOOP_ENTRY(object, objects, ic_at_##object, ic_stack_first(list), places,      \
+                  ic_stack_is_linked(table, places, ic_at_##object), ic_stack_next(table, places, ic_at_##object))
+#define IC_STACK_FOREACH_ENTRY_FROM(object, objects, at, table, places)           \
+    IC_LOOP_ENTRY(object, objects, ic_at_##object, at, places,                    \
                   ic_stack_is_linked(table, places, ic_at_##object), ic_stack_next(table, places, ic_at_##object))
 #define IC_STACK_FOREACH_ENTRY_SAFE(before, object, objects, table, places, list)                                             \
     for (uint32_t before = IC_NONE, ic_at_##object = ic_stack_first(list), ic_rounds_##object = ic_bound(places);             \
@@ -833,8 +920,8 @@ uint32_t ic_stack_check(const struct ic_link1 *table, ic_length places, const st
  *         if (strcmp(names[place], name) == 0)
  *             break;
  *
- * Each call for singly linked lists takes a bucket, too. So ic_stack_clear empties one, and by ic_stack_pop_front and ic_hash_insert all members
- * move to a larger array of buckets. A place is in one chain or list of a table, so the free places may be in a list of the same table.
+ * IC_HASH_FOREACH_ALL goes over all members. Each call for singly linked lists takes a bucket, too. So ic_stack_clear empties one, and by
+ * ic_stack_pop_front and ic_hash_insert all members move to a larger array of buckets. A place is in one chain or list of a table, so the free places may be in a list of the same table.
  */
 
 /* Returns the first member of the chain of a hash, or IC_NONE. */
@@ -849,6 +936,57 @@ static inline uint32_t ic_hash_first(const struct ic_stack *buckets, ic_length b
 #define IC_HASH_FOREACH_ENTRY(object, objects, table, places, buckets, bucket_count, hash)                     \
     IC_LOOP_ENTRY(object, objects, ic_at_##object, ic_hash_first(buckets, bucket_count, hash), places,         \
                   ic_stack_is_linked(table, places, ic_at_##object), ic_stack_next(table, places, ic_at_##object))
+
+/* Returns `place` if it is linked, or else the first member of the chains after *bucket, or IC_NONE, and sets *bucket to the index of its
+ * chain. After (ic_length)-1 comes the first chain. */
+static inline uint32_t ic_hash_go_on(const struct ic_link1 *table, ic_length places, const struct ic_stack *buckets, ic_length bucket_count,
+                                     ic_length *bucket, uint32_t place) {
+    while (!ic_stack_is_linked(table, places, place) && ++*bucket < bucket_count)
+        place = ic_stack_first(&buckets[*bucket]);
+    return *bucket < bucket_count ? place : IC_NONE;
+}
+
+/* Returns the member to go on to from `place`, as ic_stack_go_on does in a chain, and goes on to the next chain after its end. */
+static inline uint32_t ic_hash_safe_go_on(const struct ic_link1 *table, ic_length places, const struct ic_stack *buckets,
+                                          ic_length bucket_count, ic_length *bucket, uint32_t *before, uint32_t place) {
+    const ic_length was = *bucket;
+    const uint32_t next = ic_stack_go_on(table, places, &buckets[was], before, place);
+    const uint32_t found = ic_hash_go_on(table, places, buckets, bucket_count, bucket, next);
+    if (*bucket != was)
+        *before = IC_NONE;
+    return found;
+}
+
+/* These loops go over all members, chain by chain, in O(buckets + n). Whatever the words say, they make at most `places` rounds in all, and
+ * `break` leaves the whole loop. In a ..._SAFE loop `bucket` is the index of the chain, and `before` is the member before `place` in it, or
+ * IC_NONE. Its body may remove `place`, and may then insert it into another array of buckets:
+ *
+ *     IC_HASH_FOREACH_ALL_SAFE(bucket, before, place, links, 100, buckets, 64)
+ *         if (is_done(place))
+ *             status = ic_stack_remove_after(links, 100, &buckets[bucket], before, &removed);
+ */
+#define IC_HASH_FOREACH_ALL(place, table, places, buckets, bucket_count)                                                           \
+    for (ic_length ic_bucket_##place = (ic_length)-1, ic_once_##place = 1; ic_once_##place; ic_once_##place = 0)                   \
+        IC_LOOP(place, ic_hash_go_on(table, places, buckets, bucket_count, &ic_bucket_##place, IC_NONE), places, place != IC_NONE, \
+                ic_hash_go_on(table, places, buckets, bucket_count, &ic_bucket_##place, ic_stack_next(table, places, place)))
+#define IC_HASH_FOREACH_ALL_SAFE(bucket, before, place, table, places, buckets, bucket_count)                          \
+    for (ic_length bucket = (ic_length)-1, ic_once_##place = 1; ic_once_##place; ic_once_##place = 0)                  \
+        for (uint32_t before = IC_NONE, place = ic_hash_go_on(table, places, buckets, bucket_count, &bucket, IC_NONE), \
+                      ic_rounds_##place = ic_bound(places);                                                            \
+             place != IC_NONE && ic_rounds_##place--;                                                                  \
+             place = ic_hash_safe_go_on(table, places, buckets, bucket_count, &bucket, &before, place))
+#define IC_HASH_FOREACH_ALL_ENTRY(object, objects, table, places, buckets, bucket_count)                                                    \
+    for (ic_length ic_bucket_##object = (ic_length)-1, ic_once_##object = 1; ic_once_##object; ic_once_##object = 0)                        \
+        IC_LOOP_ENTRY(object, objects, ic_at_##object,                                                                                      \
+                      ic_hash_go_on(table, places, buckets, bucket_count, &ic_bucket_##object, IC_NONE), places, ic_at_##object != IC_NONE, \
+                      ic_hash_go_on(table, places, buckets, bucket_count, &ic_bucket_##object,                                              \
+                                    ic_stack_next(table, places, ic_at_##object)))
+#define IC_HASH_FOREACH_ALL_ENTRY_SAFE(bucket, before, object, objects, table, places, buckets, bucket_count)                   \
+    for (ic_length bucket = (ic_length)-1, ic_once_##object = 1; ic_once_##object; ic_once_##object = 0)                        \
+        for (uint32_t before = IC_NONE, ic_at_##object = ic_hash_go_on(table, places, buckets, bucket_count, &bucket, IC_NONE), \
+                      ic_rounds_##object = ic_bound(places);                                                                    \
+             IC_ENTRY_IF(object, objects, ic_at_##object, ic_at_##object != IC_NONE && ic_rounds_##object--);                   \
+             ic_at_##object = ic_hash_safe_go_on(table, places, buckets, bucket_count, &bucket, &before, ic_at_##object))
 
 /* tools/c-calls --write writes from here: hash */
 
@@ -892,6 +1030,14 @@ uint32_t ic_hash_check(const struct ic_link1 *table, ic_length places, const uin
                        const struct ic_stack *buckets, ic_length bucket_count, uint64_t *members);
 
 /* to here */
+
+/* Removes `place` from a singly linked list, wherever it is in it, in O(n), by ic_hash_remove: a list is a hash table with one bucket.
+ * IC_NULL: `place` is IC_NONE. IC_OUT_OF_RANGE: `place` is not below `places`. IC_NOT_LINKED: `place` is not linked. IC_BROKEN: `place` is
+ * no member of this list, but perhaps of another one, or the list does not belong to this table. */
+IC_NODISCARD
+static inline uint32_t ic_stack_remove(struct ic_link1 *table, ic_length places, struct ic_stack *list, uint32_t place) {
+    return ic_hash_remove(table, places, list, 1, 0, place);
+}
 
 /* ---- XOR lists: 8 bytes a place, calls O(1) except ic_xor_fill and ic_xor_clear -----------------------------------------------------
  *
@@ -1101,17 +1247,10 @@ uint32_t ic_xor_reverse(struct ic_xor_list *list);
  *
  *   - You give each place a number, in an array of your own, and keys[place] is that of `place`. ic_tree_insert inserts a place where its key belongs, and ic_tree_find and
  *     both bounds search by it. To change a member's key, remove the member, and insert it again after that.
- *   - You make any comparison of yours, as with sys/tree.h or the rb_link_node of Linux. Go down from the root to where the place belongs, and
- *     insert it there:
+ *   - You make any comparison of yours, as with sys/tree.h or the rb_link_node of Linux, in which `at` is a member to compare with:
  *
- *         uint32_t at = ic_tree_root(&tree), under = IC_NONE;
- *         int left = 0;
- *         while (at != IC_NONE) {
- *             left = strcmp(names[place], names[at]) < 0;
- *             under = at;
- *             at = left ? ic_tree_left(links, 100, at) : ic_tree_right(links, 100, at);
- *         }
- *         status = (left ? ic_tree_insert_left : ic_tree_insert_right)(links, 100, &tree, under, place);
+ *         IC_TREE_INSERT_BY(status, at, links, 100, &tree, place, strcmp(names[place], names[at]));
+ *         IC_TREE_FIND_BY(at, links, 100, &tree, strcmp("oak", names[at]));
  *
  * The calls that remove a member, and those that step to the next member and back, compare nothing.
  */
@@ -1226,9 +1365,104 @@ uint32_t ic_tree_upper_bound(const struct ic_link3 *table, ic_length places, con
 
 /* to here */
 
+/* Inserts `place` by its key if no member has that key, in O(log n). Sets *found to the first member that has the key, which is `place` if
+ * the call has inserted it.
+ * IC_OUT_OF_RANGE: there are fewer keys than places, or `place` is not below `places`. IC_LINKED: `place` is linked already. IC_BROKEN: the
+ * root does not belong to this table. */
+IC_NODISCARD
+static inline uint32_t ic_tree_insert_unique(struct ic_link3 *table, ic_length places, const uint64_t *keys, ic_length key_count,
+                                             struct ic_tree *tree, uint32_t place, uint32_t *found) {
+    uint32_t status = IC_NULL;
+    if (place < ic_bound(places) && places <= key_count && !ic_tree_is_linked(table, places, place))
+        status = ic_tree_find(table, places, keys, key_count, tree, keys[place], found);
+    if (status != IC_NULL)
+        return status;
+    status = ic_tree_insert(table, places, keys, key_count, tree, place);
+    if (status == IC_OK)
+        *found = place;
+    return status;
+}
+
+/* ---- Trees by a comparison ----
+ *
+ * These macros go down from the root, in O(log n), for keys that are no numbers. Each is a statement. `at` is a uint32_t of yours, by a name
+ * alone, and `comparison` is an expression in which it is the member to compare with. Its value is negative if what you look for comes
+ * before `at`, 0 if both are equal, and positive otherwise, as that of strcmp.
+ *
+ *     const char *names[100];
+ *     uint32_t at, status;
+ *     IC_TREE_FIND_BY(at, links, 100, &tree, strcmp("oak", names[at]));
+ *     if (at == IC_NONE)
+ *         IC_TREE_INSERT_BY(status, at, links, 100, &tree, place, strcmp(names[place], names[at]));
+ *
+ * Whatever the words say, a macro makes at most `places` comparisons, each with a linked place of the table. It evaluates `table`, `places`,
+ * `tree` and `place` several times.
+ */
+
+/* The searches are made of this. It goes to the left of each member of which `comparison goes_left 0` is true, and `at` becomes the last one of
+ * which `comparison is_found 0` is. */
+#define IC_SEARCH_BY(at, table, places, tree, comparison, is_found, goes_left)                  \
+    do {                                                                                        \
+        uint32_t ic_found_##at = IC_NONE, ic_rounds_##at = ic_bound(places);                    \
+        at = ic_tree_root(tree);                                                                \
+        while (ic_tree_is_linked(table, places, at) && ic_rounds_##at--) {                      \
+            const int64_t ic_order_##at = (comparison);                                         \
+            if (ic_order_##at is_found 0)                                                       \
+                ic_found_##at = at;                                                             \
+            at = (ic_order_##at goes_left 0 ? ic_tree_left : ic_tree_right)(table, places, at); \
+        }                                                                                       \
+        at = ic_found_##at;                                                                     \
+    } while (0)
+
+/* Sets `at` to the first member of which the comparison is 0, or to IC_NONE if there is none. */
+#define IC_TREE_FIND_BY(at, table, places, tree, comparison) IC_SEARCH_BY(at, table, places, tree, comparison, ==, <=)
+
+/* Sets `at` to the first member that does not come before what you look for, or to IC_NONE if there is none. */
+#define IC_TREE_LOWER_BOUND_BY(at, table, places, tree, comparison) IC_SEARCH_BY(at, table, places, tree, comparison, <=, <=)
+
+/* Sets `at` to the last member that does not come after what you look for, or to IC_NONE if there is none. */
+#define IC_TREE_UPPER_BOUND_BY(at, table, places, tree, comparison) IC_SEARCH_BY(at, table, places, tree, comparison, >=, <)
+
+/* Both insertions are made of this. If `place` is none to insert, it compares nothing, and the call says why. */
+#define IC_DESCEND_AND_INSERT(status, at, table, places, tree, place, comparison, is_unique)                                    \
+    do {                                                                                                                        \
+        uint32_t ic_under_##at = IC_NONE, ic_same_##at = IC_NONE, ic_rounds_##at = ic_bound(places);                            \
+        int ic_is_left_##at = 0;                                                                                                \
+        at = (place) < ic_bound(places) && !ic_tree_is_linked(table, places, place) ? ic_tree_root(tree) : IC_NONE;             \
+        while (ic_tree_is_linked(table, places, at) && ic_rounds_##at--) {                                                      \
+            const int64_t ic_order_##at = (comparison);                                                                         \
+            if ((is_unique) && ic_order_##at == 0) {                                                                            \
+                ic_same_##at = at;                                                                                              \
+                break;                                                                                                          \
+            }                                                                                                                   \
+            ic_under_##at = at;                                                                                                 \
+            ic_is_left_##at = ic_order_##at < 0;                                                                                \
+            at = (ic_is_left_##at ? ic_tree_left : ic_tree_right)(table, places, at);                                           \
+        }                                                                                                                       \
+        status = IC_OK;                                                                                                         \
+        if (ic_same_##at == IC_NONE)                                                                                            \
+            status = (ic_is_left_##at ? ic_tree_insert_left : ic_tree_insert_right)(table, places, tree, ic_under_##at, place); \
+        at = status != IC_OK ? IC_NONE : ic_same_##at != IC_NONE ? ic_same_##at : (place);                                      \
+    } while (0)
+
+/* Inserts `place` after all members that do not come after it. Sets `status` to what the call returns, and `at` to `place`, or to IC_NONE if
+ * the call was refused.
+ * IC_OUT_OF_RANGE: `place` is not below `places`. IC_LINKED: `place` is linked already. IC_BROKEN: the root does not belong to this table, or
+ * the way down from it does not end. */
+#define IC_TREE_INSERT_BY(status, at, table, places, tree, place, comparison) \
+    IC_DESCEND_AND_INSERT(status, at, table, places, tree, place, comparison, 0)
+
+/* Inserts `place` if there is no member of which the comparison is 0. Sets `at` to such a member, or to `place` if it was inserted, or to
+ * IC_NONE if the call was refused. Sets `status` to IC_OK, or to what IC_TREE_INSERT_BY does if it is refused. */
+#define IC_TREE_INSERT_UNIQUE_BY(status, at, table, places, tree, place, comparison) \
+    IC_DESCEND_AND_INSERT(status, at, table, places, tree, place, comparison, 1)
+
 /* ---- Steps through a tree ----
  *
  * A walk over all n members takes O(n) steps. If you remove members during the walk, step on from a member before you remove it.
+ *
+ * To take a whole tree down, walk over its members, free or reuse what each object has, and then call ic_tree_clear, which takes O(n), too.
+ * The links are in the table, so the walk goes on after an object is freed, and no order of the members matters.
  */
 
 /* tools/c-calls --write writes from here: tree-steps */
@@ -1298,6 +1532,14 @@ static inline uint32_t ic_tree_before(const struct ic_link3 *table, ic_length pl
     IC_LOOP(place, at, places, ic_tree_is_linked(table, places, place), ic_tree_after(table, places, tree, place))
 #define IC_TREE_FOREACH_REVERSE_FROM(place, at, table, places, tree) \
     IC_LOOP(place, at, places, ic_tree_is_linked(table, places, place), ic_tree_before(table, places, tree, place))
+#define IC_TREE_FOREACH_SAFE_FROM(place, next, at, table, places, tree) \
+    IC_LOOP_SAFE(place, next, at, places, ic_tree_is_linked(table, places, place), ic_tree_after(table, places, tree, place))
+#define IC_TREE_FOREACH_ENTRY_FROM(object, objects, at, table, places, tree)                                     \
+    IC_LOOP_ENTRY(object, objects, ic_at_##object, at, places, ic_tree_is_linked(table, places, ic_at_##object), \
+                  ic_tree_after(table, places, tree, ic_at_##object))
+#define IC_TREE_FOREACH_ENTRY_SAFE_FROM(object, objects, at, table, places, tree)     \
+    IC_LOOP_ENTRY_SAFE(object, objects, ic_at_##object, ic_next_##object, at, places, \
+                       ic_tree_is_linked(table, places, ic_at_##object), ic_tree_after(table, places, tree, ic_at_##object))
 
 #ifdef __cplusplus
 }

@@ -225,6 +225,10 @@ static inline uint32_t ic_list_in_merge(struct ic_list_in in, struct ic_keys key
     IC_LIST_FOREACH_ENTRY_REVERSE_SAFE(object, objects, (in).table, (in).places, (in).list)
 #define IC_LIST_IN_FOREACH_FROM(place, at, in) IC_LIST_FOREACH_FROM(place, at, (in).table, (in).places)
 #define IC_LIST_IN_FOREACH_REVERSE_FROM(place, at, in) IC_LIST_FOREACH_REVERSE_FROM(place, at, (in).table, (in).places)
+#define IC_LIST_IN_FOREACH_SAFE_FROM(place, next, at, in) IC_LIST_FOREACH_SAFE_FROM(place, next, at, (in).table, (in).places)
+#define IC_LIST_IN_FOREACH_ENTRY_FROM(object, objects, at, in) IC_LIST_FOREACH_ENTRY_FROM(object, objects, at, (in).table, (in).places)
+#define IC_LIST_IN_FOREACH_ENTRY_SAFE_FROM(object, objects, at, in) \
+    IC_LIST_FOREACH_ENTRY_SAFE_FROM(object, objects, at, (in).table, (in).places)
 
 /* to here */
 
@@ -344,6 +348,25 @@ static inline uint32_t ic_ring_in_push_back(struct ic_ring_in in, uint32_t head,
     return ic_ring_push_back(in.table, in.places, head, place);
 }
 
+static inline uint32_t ic_ring_in_fault_of(struct ic_ring_in in, uint32_t place) {
+    return ic_ring_fault_of(in.table, in.places, place);
+}
+
+IC_NODISCARD
+static inline uint32_t ic_ring_in_swap(struct ic_ring_in in, uint32_t one, uint32_t other) {
+    return ic_ring_swap(in.table, in.places, one, other);
+}
+
+IC_NODISCARD
+static inline uint32_t ic_ring_in_move_range_after(struct ic_ring_in in, uint32_t at, uint32_t first, uint32_t last) {
+    return ic_ring_move_range_after(in.table, in.places, at, first, last);
+}
+
+IC_NODISCARD
+static inline uint32_t ic_ring_in_move_range_before(struct ic_ring_in in, uint32_t at, uint32_t first, uint32_t last) {
+    return ic_ring_move_range_before(in.table, in.places, at, first, last);
+}
+
 #define IC_RING_IN_FOREACH(place, in, head) IC_RING_FOREACH(place, (in).table, (in).places, head)
 #define IC_RING_IN_FOREACH_REVERSE(place, in, head) IC_RING_FOREACH_REVERSE(place, (in).table, (in).places, head)
 #define IC_RING_IN_FOREACH_SAFE(place, next, in, head) IC_RING_FOREACH_SAFE(place, next, (in).table, (in).places, head)
@@ -356,6 +379,11 @@ static inline uint32_t ic_ring_in_push_back(struct ic_ring_in in, uint32_t head,
     IC_RING_FOREACH_ENTRY_REVERSE_SAFE(object, objects, (in).table, (in).places, head)
 #define IC_RING_IN_FOREACH_FROM(place, at, in, head) IC_RING_FOREACH_FROM(place, at, (in).table, (in).places, head)
 #define IC_RING_IN_FOREACH_REVERSE_FROM(place, at, in, head) IC_RING_FOREACH_REVERSE_FROM(place, at, (in).table, (in).places, head)
+#define IC_RING_IN_FOREACH_SAFE_FROM(place, next, at, in, head) IC_RING_FOREACH_SAFE_FROM(place, next, at, (in).table, (in).places, head)
+#define IC_RING_IN_FOREACH_ENTRY_FROM(object, objects, at, in, head) \
+    IC_RING_FOREACH_ENTRY_FROM(object, objects, at, (in).table, (in).places, head)
+#define IC_RING_IN_FOREACH_ENTRY_SAFE_FROM(object, objects, at, in, head) \
+    IC_RING_FOREACH_ENTRY_SAFE_FROM(object, objects, at, (in).table, (in).places, head)
 
 /* to here */
 
@@ -456,10 +484,16 @@ static inline uint32_t ic_stack_in_check(struct ic_stack_in in, uint64_t *member
     return ic_stack_check(in.table, in.places, in.list, members);
 }
 
+IC_NODISCARD
+static inline uint32_t ic_stack_in_remove(struct ic_stack_in in, uint32_t place) {
+    return ic_stack_remove(in.table, in.places, in.list, place);
+}
+
 #define IC_STACK_IN_FOREACH(place, in) IC_STACK_FOREACH(place, (in).table, (in).places, (in).list)
 #define IC_STACK_IN_FOREACH_SAFE(before, place, in) IC_STACK_FOREACH_SAFE(before, place, (in).table, (in).places, (in).list)
 #define IC_STACK_IN_FOREACH_FROM(place, at, in) IC_STACK_FOREACH_FROM(place, at, (in).table, (in).places)
 #define IC_STACK_IN_FOREACH_ENTRY(object, objects, in) IC_STACK_FOREACH_ENTRY(object, objects, (in).table, (in).places, (in).list)
+#define IC_STACK_IN_FOREACH_ENTRY_FROM(object, objects, at, in) IC_STACK_FOREACH_ENTRY_FROM(object, objects, at, (in).table, (in).places)
 #define IC_STACK_IN_FOREACH_ENTRY_SAFE(before, object, objects, in) \
     IC_STACK_FOREACH_ENTRY_SAFE(before, object, objects, (in).table, (in).places, (in).list)
 
@@ -510,6 +544,13 @@ static inline uint32_t ic_hash_in_check(struct ic_hash_in in, struct ic_keys has
 #define IC_HASH_IN_FOREACH(place, in, hash) IC_HASH_FOREACH(place, (in).table, (in).places, (in).buckets, (in).bucket_count, hash)
 #define IC_HASH_IN_FOREACH_ENTRY(object, objects, in, hash) \
     IC_HASH_FOREACH_ENTRY(object, objects, (in).table, (in).places, (in).buckets, (in).bucket_count, hash)
+#define IC_HASH_IN_FOREACH_ALL(place, in) IC_HASH_FOREACH_ALL(place, (in).table, (in).places, (in).buckets, (in).bucket_count)
+#define IC_HASH_IN_FOREACH_ALL_SAFE(bucket, before, place, in) \
+    IC_HASH_FOREACH_ALL_SAFE(bucket, before, place, (in).table, (in).places, (in).buckets, (in).bucket_count)
+#define IC_HASH_IN_FOREACH_ALL_ENTRY(object, objects, in) \
+    IC_HASH_FOREACH_ALL_ENTRY(object, objects, (in).table, (in).places, (in).buckets, (in).bucket_count)
+#define IC_HASH_IN_FOREACH_ALL_ENTRY_SAFE(bucket, before, object, objects, in) \
+    IC_HASH_FOREACH_ALL_ENTRY_SAFE(bucket, before, object, objects, (in).table, (in).places, (in).buckets, (in).bucket_count)
 
 /* to here */
 
@@ -735,6 +776,11 @@ static inline uint32_t ic_tree_in_upper_bound(struct ic_tree_in in, uint64_t key
 }
 
 IC_NODISCARD
+static inline uint32_t ic_tree_in_insert_unique(struct ic_tree_in in, uint32_t place, uint32_t *found) {
+    return ic_tree_insert_unique(in.table, in.places, in.keys.keys, in.keys.count, in.tree, place, found);
+}
+
+IC_NODISCARD
 static inline uint32_t ic_tree_in_next(struct ic_tree_in in, uint32_t at, uint32_t *found) {
     return ic_tree_next(in.table, in.places, in.tree, at, found);
 }
@@ -762,6 +808,13 @@ static inline uint32_t ic_tree_in_before(struct ic_tree_in in, uint32_t at) {
     return ic_tree_before(in.table, in.places, in.tree, at);
 }
 
+#define IC_TREE_IN_FIND_BY(at, in, comparison) IC_TREE_FIND_BY(at, (in).table, (in).places, (in).tree, comparison)
+#define IC_TREE_IN_LOWER_BOUND_BY(at, in, comparison) IC_TREE_LOWER_BOUND_BY(at, (in).table, (in).places, (in).tree, comparison)
+#define IC_TREE_IN_UPPER_BOUND_BY(at, in, comparison) IC_TREE_UPPER_BOUND_BY(at, (in).table, (in).places, (in).tree, comparison)
+#define IC_TREE_IN_INSERT_BY(status, at, in, place, comparison) \
+    IC_TREE_INSERT_BY(status, at, (in).table, (in).places, (in).tree, place, comparison)
+#define IC_TREE_IN_INSERT_UNIQUE_BY(status, at, in, place, comparison) \
+    IC_TREE_INSERT_UNIQUE_BY(status, at, (in).table, (in).places, (in).tree, place, comparison)
 #define IC_TREE_IN_FOREACH(place, in) IC_TREE_FOREACH(place, (in).table, (in).places, (in).tree)
 #define IC_TREE_IN_FOREACH_REVERSE(place, in) IC_TREE_FOREACH_REVERSE(place, (in).table, (in).places, (in).tree)
 #define IC_TREE_IN_FOREACH_SAFE(place, next, in) IC_TREE_FOREACH_SAFE(place, next, (in).table, (in).places, (in).tree)
@@ -774,6 +827,11 @@ static inline uint32_t ic_tree_in_before(struct ic_tree_in in, uint32_t at) {
     IC_TREE_FOREACH_ENTRY_REVERSE_SAFE(object, objects, (in).table, (in).places, (in).tree)
 #define IC_TREE_IN_FOREACH_FROM(place, at, in) IC_TREE_FOREACH_FROM(place, at, (in).table, (in).places, (in).tree)
 #define IC_TREE_IN_FOREACH_REVERSE_FROM(place, at, in) IC_TREE_FOREACH_REVERSE_FROM(place, at, (in).table, (in).places, (in).tree)
+#define IC_TREE_IN_FOREACH_SAFE_FROM(place, next, at, in) IC_TREE_FOREACH_SAFE_FROM(place, next, at, (in).table, (in).places, (in).tree)
+#define IC_TREE_IN_FOREACH_ENTRY_FROM(object, objects, at, in) \
+    IC_TREE_FOREACH_ENTRY_FROM(object, objects, at, (in).table, (in).places, (in).tree)
+#define IC_TREE_IN_FOREACH_ENTRY_SAFE_FROM(object, objects, at, in) \
+    IC_TREE_FOREACH_ENTRY_SAFE_FROM(object, objects, at, (in).table, (in).places, (in).tree)
 
 /* to here */
 

@@ -54,8 +54,8 @@ def function(family, item, is_refused):
     return text + f"    return {name}({', '.join(words)});\n}}\n"
 
 
-def loop(item):
-    """The macro of a loop."""
+def macro(item):
+    """The macro of a loop, or of a search by a comparison."""
     name, arguments = re.match(r"(\w+)\((.*)\)", item.signature).groups()
     names = arguments.split(", ")
     own = [it for it in names if it not in PARTS]
@@ -74,7 +74,7 @@ def handles(family):
     functions, loops = [], []
     for item in c_family(family, c_items()):
         if item.name.startswith("IC_"):
-            loops += [loop(item)] * ("_FOREACH" in item.name)
+            loops += [macro(item)] * ("_FOREACH" in item.name or item.name.endswith("_BY"))
         elif not item.name.endswith("_go_on"):
             functions.append(function(family, item, item.name in marked))
     return "\n".join([*functions, "".join(loops)])

@@ -33,7 +33,8 @@ BELOW = {"ic_unsafe_ref", "ic_chain", "ic_linked_list", "ic_singly_linked_list",
 ALIASES = {
     "C": {"foreach": "loop", "foreach_reverse": "loop backwards", "foreach_safe": "loop that removes", "foreach_reverse_safe": "loop that removes",
           **{f"foreach_entry{form}": "loop over objects" for form in ("", "_reverse", "_safe", "_reverse_safe")}, "front": "first", "back": "last",
-          "foreach_from": "loop from a member on", "foreach_reverse_from": "loop from a member on",
+          **{f"foreach_{form}from": "loop from a member on" for form in ("", "reverse_", "safe_", "entry_", "entry_safe_")},
+          "foreach_all": "loop", "foreach_all_safe": "loop that removes", "foreach_all_entry": "loop over objects", "foreach_all_entry_safe": "loop over objects",
           "tree after": "next", "tree before": "prev"},
     "C++": {"begin": "loop", "rbegin": "loop backwards", "erase": "loop that removes", "front": "first", "back": "last", "empty": "is_empty",
             "tree upper_bound": "find the first with a greater key", "at_most": "upper_bound", "iterator_to": "cursor_from_place",
@@ -47,7 +48,7 @@ ALIASES = {
                "from_root": "from_words", "from_head": "from_words", "from_buckets": "from_words", "cursor: get_ptr": "cursor: get"},
 }
 # What is no call of a user, or is said by the types.
-LEFT_OUT = {"new", "constructor", "go_on", "end", "rend", "hash first", "adapter", "position_at", "cursor: new", "cursor: view", "view", "insert_linked",
+LEFT_OUT = {"new", "constructor", "go_on", "safe_go_on", "fault_of", "end", "rend", "hash first", "adapter", "position_at", "cursor: new", "cursor: view", "view", "insert_linked",
             "with_used", "into_buckets", "cursor: into_ref", "cursor: clone_pointer", "cursor: as_cursor", "xor loop", "xor loop_safe", "xor loop_entry",
             "xor loop_entry_safe", "xor walk", "xor walk_safe", "xor round", "descend", "search"}
 

@@ -94,7 +94,42 @@ static int is_rest(uint32_t from) {
         }                                                            \
     } while (0)
 
+/* A loop over objects that begins at a member does, too, and so does a safe one. */
+#define RESTS_TOO(FROM, ENTRY_FROM, ...)                             \
+    do {                                                             \
+        for (uint32_t begin = 0; begin < plain.count; begin++) {     \
+            struct object *it = &objects[0];                         \
+            given.count = 0;                                         \
+            ENTRY_FROM(it, objects, plain.members[begin], __VA_ARGS__) \
+                see(&given, it->own);                                \
+            expect(it == NULL && is_rest(begin), __LINE__);          \
+            given.count = 0;                                         \
+            FROM                                                     \
+                see(&given, place);                                  \
+            expect(is_rest(begin), __LINE__);                        \
+        }                                                            \
+    } while (0)
+
+static void loops_begin_at_members(void) {
+    SAME(IC_LIST_FOREACH, IC_LIST_FOREACH_ENTRY, all.pairs, ALL, &all.list);
+    RESTS_TOO(IC_LIST_FOREACH_SAFE_FROM(place, next, plain.members[begin], all.pairs, ALL), IC_LIST_FOREACH_ENTRY_FROM, all.pairs, ALL);
+    RESTS_TOO(IC_LIST_FOREACH_FROM(place, plain.members[begin], all.pairs, ALL), IC_LIST_FOREACH_ENTRY_SAFE_FROM, all.pairs, ALL);
+    SAME(IC_RING_FOREACH, IC_RING_FOREACH_ENTRY, all.ringed, ALL, HEAD);
+    RESTS_TOO(IC_RING_FOREACH_SAFE_FROM(place, next, plain.members[begin], all.ringed, ALL, HEAD), IC_RING_FOREACH_ENTRY_FROM, all.ringed, ALL, HEAD);
+    RESTS_TOO(IC_RING_FOREACH_FROM(place, plain.members[begin], all.ringed, ALL, HEAD), IC_RING_FOREACH_ENTRY_SAFE_FROM, all.ringed, ALL, HEAD);
+    SAME(IC_TREE_FOREACH, IC_TREE_FOREACH_ENTRY, all.nodes, ALL, &all.tree);
+    RESTS_TOO(IC_TREE_FOREACH_SAFE_FROM(place, next, plain.members[begin], all.nodes, ALL, &all.tree), IC_TREE_FOREACH_ENTRY_FROM, all.nodes, ALL, &all.tree);
+    RESTS_TOO(IC_TREE_FOREACH_FROM(place, plain.members[begin], all.nodes, ALL, &all.tree), IC_TREE_FOREACH_ENTRY_SAFE_FROM, all.nodes, ALL, &all.tree);
+    SAME(IC_STACK_FOREACH, IC_STACK_FOREACH_ENTRY, all.stacked, ALL, &all.stack);
+    RESTS_TOO(IC_STACK_FOREACH_FROM(place, plain.members[begin], all.stacked, ALL), IC_STACK_FOREACH_ENTRY_FROM, all.stacked, ALL);
+}
+
+/* The safe loop over the objects of all chains, with the names that the others have no use for. */
+#define ALL_SAFE(it, objects, ...) IC_HASH_FOREACH_ALL_ENTRY_SAFE(bucket, before, it, objects, __VA_ARGS__)
+
 static void loops_give_objects(int is_right) {
+    SAME(IC_HASH_FOREACH_ALL, ALL_SAFE, all.hashed, ALL, all.buckets, BUCKETS);
+    SAME(IC_HASH_FOREACH_ALL, IC_HASH_FOREACH_ALL_ENTRY, all.hashed, ALL, all.buckets, BUCKETS);
     SAME(IC_LIST_FOREACH, IC_LIST_FOREACH_ENTRY_SAFE, all.pairs, ALL, &all.list);
     SAME(IC_LIST_FOREACH, IC_LIST_FOREACH_ENTRY, all.pairs, ALL, &all.list);
     if (is_right)
@@ -225,6 +260,8 @@ static void bodies_remove(int is_backward) {
             ic_tree_remove(all.nodes, ALL, &all.tree, it->own), all.nodes, ALL, &all.tree);
     REMOVES(IC_STACK_FOREACH, IC_STACK_FOREACH_ENTRY_SAFE(before, it, objects, all.stacked, ALL, &all.stack),
             ic_stack_remove_after(all.stacked, ALL, &all.stack, before, &removed), all.stacked, ALL, &all.stack);
+    REMOVES(IC_HASH_FOREACH_ALL, IC_HASH_FOREACH_ALL_ENTRY_SAFE(bucket, before, it, objects, all.hashed, ALL, all.buckets, BUCKETS),
+            ic_stack_remove_after(all.hashed, ALL, &all.buckets[bucket], before, &removed), all.hashed, ALL, all.buckets, BUCKETS);
     REMOVES(IC_XOR_FOREACH, IC_XOR_FOREACH_ENTRY_SAFE(before, it, objects, after, all.xored, ALL, &all.xor_list),
             ic_xor_remove(all.xored, ALL, &all.xor_list, before, it->own), all.xored, ALL, &all.xor_list);
 }
@@ -268,6 +305,7 @@ int main(int argc, char **argv) {
     for (long i = 0; i < tables; i++) {
         make();
         loops_give_objects(1);
+        loops_begin_at_members();
         reads_tell_ends();
         damage();
         loops_give_objects(0);

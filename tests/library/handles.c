@@ -102,6 +102,15 @@ static void loops(void) {
     SAME(IC_STACK_FOREACH(place, stacked, PLACES, &a_stack), IC_STACK_IN_FOREACH_ENTRY_SAFE(before, it, objects, stack), it->own);
     SAME(IC_HASH_FOREACH(place, hashed, PLACES, buckets, BUCKETS, HASH), IC_HASH_IN_FOREACH(place, hash, HASH), place);
     SAME(IC_HASH_FOREACH(place, hashed, PLACES, buckets, BUCKETS, HASH), IC_HASH_IN_FOREACH_ENTRY(it, objects, hash, HASH), it->own);
+    SAME(IC_HASH_FOREACH_ALL(place, hashed, PLACES, buckets, BUCKETS), IC_HASH_IN_FOREACH_ALL(place, hash), place);
+    SAME(IC_HASH_FOREACH_ALL(place, hashed, PLACES, buckets, BUCKETS), IC_HASH_IN_FOREACH_ALL_SAFE(bucket, before, place, hash), place);
+    SAME(IC_HASH_FOREACH_ALL(place, hashed, PLACES, buckets, BUCKETS), IC_HASH_IN_FOREACH_ALL_ENTRY(it, objects, hash), it->own);
+    SAME(IC_HASH_FOREACH_ALL(place, hashed, PLACES, buckets, BUCKETS), IC_HASH_IN_FOREACH_ALL_ENTRY_SAFE(bucket, before, it, objects, hash), it->own);
+    SAME(IC_LIST_FOREACH(place, pairs, PLACES, &a_list), IC_LIST_IN_FOREACH_SAFE_FROM(place, next, first, list), place);
+    SAME(IC_LIST_FOREACH(place, pairs, PLACES, &a_list), IC_LIST_IN_FOREACH_ENTRY_FROM(it, objects, first, list), it->own);
+    SAME(IC_RING_FOREACH(place, ringed, PLACES, HEAD), IC_RING_IN_FOREACH_ENTRY_SAFE_FROM(it, objects, 0, ring, HEAD), it->own);
+    SAME(IC_TREE_FOREACH(place, nodes, PLACES, &a_tree), IC_TREE_IN_FOREACH_SAFE_FROM(place, next, 0, tree), place);
+    SAME(IC_STACK_FOREACH(place, stacked, PLACES, &a_stack), IC_STACK_IN_FOREACH_ENTRY_FROM(it, objects, 0, stack), it->own);
     SAME(IC_XOR_FOREACH(place, xored, PLACES, &an_xor), IC_XOR_IN_FOREACH(place, xor_in), place);
     SAME(IC_XOR_FOREACH_REVERSE(place, xored, PLACES, &an_xor), IC_XOR_IN_FOREACH_REVERSE(place, xor_in), place);
     SAME(IC_XOR_FOREACH(place, xored, PLACES, &an_xor), IC_XOR_IN_FOREACH_SAFE(before, place, after, xor_in), place);
@@ -124,6 +133,32 @@ static void reads(void) {
     EXPECT(ic_hash_in_check(hash, hashes, &members) == IC_OK && members == 5 && ic_hash_in_check(hash, few, &members) == IC_OUT_OF_RANGE);
     EXPECT(ic_tree_in_find(tree, 4, &found) == IC_OK && found == 2 && ic_tree_in_first(tree, &found) == IC_OK && found == 0);
     EXPECT(ic_tree_in_left(tree, ic_tree_in_root(tree)) == ic_tree_left(nodes, PLACES, ic_tree_root(&a_tree)));
+}
+
+static int order(uint64_t key, uint32_t at) {
+    return (key > numbers[at]) - (key < numbers[at]);
+}
+
+/* The edits of several calls, and the searches and insertions by a comparison. */
+static void edits(void) {
+    uint32_t at, status, found = IC_NONE;
+    numbers[5] = 2;
+    numbers[6] = 9;
+    IC_TREE_IN_FIND_BY(at, tree, order(2, at));
+    EXPECT(at == 1);
+    IC_TREE_IN_LOWER_BOUND_BY(at, tree, order(5, at));
+    EXPECT(at == IC_NONE);
+    IC_TREE_IN_UPPER_BOUND_BY(at, tree, order(5, at));
+    EXPECT(at == 2);
+    IC_TREE_IN_INSERT_UNIQUE_BY(status, at, tree, 5, order(numbers[5], at));
+    EXPECT(status == IC_OK && at == 1 && ic_tree_in_insert_unique(tree, 5, &found) == IC_OK && found == 1);
+    IC_TREE_IN_INSERT_BY(status, at, tree, 6, order(numbers[6], at));
+    EXPECT(status == IC_OK && at == 6 && ic_tree_in_last(tree, &found) == IC_OK && found == 6 && ic_tree_in_remove(tree, 6) == IC_OK);
+    EXPECT(ic_ring_in_swap(ring, 0, 4) == IC_OK && ic_ring_in_front(ring, HEAD) == 4 && ic_ring_in_fault_of(ring, 7) == IC_NOT_LINKED);
+    EXPECT(ic_ring_in_move_range_after(ring, 3, 4, 1) == IC_OK && ic_ring_in_front(ring, HEAD) == 2);
+    EXPECT(ic_ring_in_move_range_before(ring, 2, 4, 1) == IC_OK && ic_ring_in_front(ring, HEAD) == 4 && ic_ring_in_back(ring, HEAD) == 0);
+    EXPECT(ic_stack_in_remove(stack, 7) == IC_BROKEN && ic_stack_in_remove(stack2, 7) == IC_OK && ic_stack_in_remove(stack2, 7) == IC_NOT_LINKED);
+    EXPECT(ic_stack_in_insert_after(stack2, 6, 7) == IC_OK);
 }
 
 /* A second handle of another table, or of the same list, is refused. */
@@ -163,6 +198,7 @@ int main(void) {
     fill();
     loops();
     reads();
+    edits();
     pairs_of_handles();
     return 0;
 }

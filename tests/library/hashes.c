@@ -28,6 +28,13 @@ static struct sequence *chain_of(uint64_t hash) {
     return &chains[hash % bucket_count];
 }
 
+static uint32_t position(const struct sequence *plain, uint32_t place) {
+    uint32_t at = 0;
+    while (at < plain->count && plain->members[at] != place)
+        at++;
+    return at;
+}
+
 /* The first member from a position on that has this key, or IC_NONE. */
 static uint32_t first_with(const struct sequence *plain, uint32_t at, uint64_t key) {
     while (at < plain->count && keys[plain->members[at]] != key)
@@ -49,6 +56,21 @@ static void check_list(int which, const struct ic_stack *list) {
     expect(i == plain->count, "has other members in a loop");
 }
 
+/* A loop over all goes over the chains in turn. */
+static void check_loop_over_all(void) {
+    uint32_t chain = 0, i = 0;
+    IC_HASH_FOREACH_ALL(place, table, PLACES, buckets, bucket_count) {
+        while (i == chains[chain].count) {
+            chain++;
+            i = 0;
+        }
+        expect(place == member(&chains[chain], i++), "has another member in a loop over all");
+    }
+    for (; chain < bucket_count && i == chains[chain].count; chain++)
+        i = 0;
+    expect(chain == bucket_count, "has other members in a loop over all");
+}
+
 /* All words are those of the sequences. But for members, no link is another than before the call. */
 static void check(uint32_t edited) {
     for (int place = 0; place < PLACES; place++)
@@ -65,6 +87,7 @@ static void check(uint32_t edited) {
     IC_HASH_FOREACH(place, table, PLACES, buckets, bucket_count, hash)
         expect(place == member(chain_of(hash), i++), "has another member in a loop over a chain");
     expect(i == chain_of(hash)->count, "has other members in a loop over a chain");
+    check_loop_over_all();
     memcpy(table_was, table, sizeof table);
 }
 
@@ -259,6 +282,27 @@ static void step_rebuild(void) {
     check(IC_NONE);
 }
 
+/* Of all chains some members go to the front of the list beside the buckets, each as the loop comes to it. */
+static void step_leave(void) {
+    uint64_t leaving = any() & any();
+    uint32_t removed;
+    IC_HASH_FOREACH_ALL_SAFE(bucket, from, place, table, PLACES, buckets, bucket_count) {
+        const uint32_t i = from == IC_NONE ? 0 : 1 + position(&chains[bucket], from);
+        expect(place == member(&chains[bucket], i), "has another member in a loop that removes");
+        if (!(leaving >> place & 1))
+            continue;
+        expect(ic_stack_remove_after(table, PLACES, &buckets[bucket], from, &removed) == IC_OK && removed == place, "is not removed");
+        expect(ic_stack_push_front(table, PLACES, &beside, place) == IC_OK, "is not pushed");
+        take(&chains[bucket], i, 1);
+        insert(&chains[BESIDE], 0, &place, 1);
+    }
+    for (size_t bucket = 0; bucket < bucket_count; bucket++)
+        for (uint32_t i = 0; i < chains[bucket].count; i++)
+            expect(!(leaving >> chains[bucket].members[i] & 1), "has missed a member in a loop that removes");
+    memcpy(table_was, table, sizeof table);
+    check(IC_NONE);
+}
+
 /* The list beside the buckets takes a place, or gives its first one up. */
 static void step_beside(void) {
     uint32_t place = below(PLACES);
@@ -288,6 +332,7 @@ int main(int count, char **words) {
         case 1: step_beside(); break;
         case 2: step_endless(); break;
         case 3: step_shared(); break;
+        case 4: step_leave(); break;
         default:
             switch (now) {
             case CALL_hash_insert: step_insert(); break;

@@ -214,6 +214,40 @@ static void check_pushes(void) {
     }
 }
 
+/* Which status tells that a place is no place of a ring, to which both places beside it lead back. */
+static uint32_t fault_of(uint32_t place) {
+    if (place == IC_NONE)
+        return IC_NULL;
+    if (place >= places)
+        return IC_OUT_OF_RANGE;
+    if (!is_member(place))
+        return IC_NOT_LINKED;
+    return beside(beside(place, 0), 1) == place && beside(beside(place, 1), 0) == place ? IC_OK : IC_BROKEN;
+}
+
+/* An edit of several calls tells the first fault, and has changed nothing then. */
+static void expect_edit(const struct ic_link2 *table, uint32_t is, uint32_t fault, const char *what) {
+    expect(is == fault && (fault == IC_OK || memcmp(table, words, places * sizeof *table) == 0), what);
+}
+
+static void check_ring_edits(void) {
+    const uint32_t names = places + OUTSIDE;
+    struct ic_link2 table[PLACES];
+    for (uint32_t i = 0; i < names * names * names; i++) {
+        const uint32_t at = asked[i % names], first = asked[i / names % names], last = asked[i / names / names];
+        const uint32_t fault = fault_of(at) ? fault_of(at) : fault_of(first) ? fault_of(first) : fault_of(last);
+        memcpy(table, words, places * sizeof *table);
+        if (at == last)
+            expect_edit(table, ic_ring_swap(table, places, at, first), fault, "ic_ring_swap");
+        memcpy(table, words, places * sizeof *table);
+        expect_edit(table, ic_ring_move_range_after(table, places, at, first, last),
+                    !fault && at == first && first != last ? (uint32_t)IC_BROKEN : fault, "ic_ring_move_range_after");
+        memcpy(table, words, places * sizeof *table);
+        const int is_within = !fault && first != last && at != first && (at == last || beside(at, 1) == first);
+        expect_edit(table, ic_ring_move_range_before(table, places, at, first, last), is_within ? (uint32_t)IC_BROKEN : fault, "ic_ring_move_range_before");
+    }
+}
+
 /* ---- Singly linked lists and hash tables ---- */
 
 static void check_go_on(const struct ic_link1 *table, const struct ic_stack *list, uint32_t first) {
@@ -224,6 +258,36 @@ static void check_go_on(const struct ic_link1 *table, const struct ic_stack *lis
         const uint32_t next = ic_stack_go_on(table, places, list, &moved, place);
         expect(after == place ? moved == place && next == beside(place, 0) : moved == from && next == after, "ic_stack_go_on");
     }
+}
+
+/* Where the walks along several chains lead, one after the other, to as many members as there are places at most. */
+static void walk_chains(const struct letter *const *heads, uint32_t count) {
+    uint32_t all[PLACES], all_count = 0;
+    for (uint32_t i = 0; i < count; i++) {
+        walk(heads[i]->place, 0, IC_NONE);
+        for (uint32_t j = 0; j < wanted_count && all_count < places; j++)
+            all[all_count++] = wanted[j];
+    }
+    memcpy(wanted, all, sizeof all);
+    wanted_count = all_count;
+}
+
+/* The loops over all members of three buckets, of which an inner one `break`s. */
+static void check_all_chains(const struct ic_link1 *table, const struct letter *const *heads) {
+    const struct ic_stack buckets[3] = {{heads[0]->word}, {heads[1]->word}, {heads[2]->word}};
+    uint32_t last = IC_NONE, rounds = 0;
+    for (uint32_t count = 0; count <= 3; count++) {
+        walk_chains(heads, count);
+        GIVES(IC_HASH_FOREACH_ALL(place, table, places, buckets, count), place, 1);
+        GIVES(IC_HASH_FOREACH_ALL_SAFE(bucket, from, place, table, places, buckets, count), place,
+              bucket < count && (from == IC_NONE ? ic_stack_first(&buckets[bucket]) : beside(from, 0)) == place);
+    }
+    IC_HASH_FOREACH_ALL(place, table, places, buckets, 3) {
+        last = place;
+        if (++rounds == wanted_count)
+            break;
+    }
+    expect(rounds == wanted_count && last == (wanted_count ? wanted[wanted_count - 1] : IC_NONE), "IC_HASH_FOREACH_ALL with a break");
 }
 
 static void check_stack(void) {
@@ -246,6 +310,10 @@ static void check_stack(void) {
         GIVES(IC_HASH_FOREACH(place, table, places, buckets, 3, 7), place, 1);
         wanted_count = 0;
         GIVES(IC_HASH_FOREACH(place, table, places, buckets, 0, 7), place, 1);
+        for (uint32_t j = 0; j < other_count; j++) {
+            const struct letter *const heads[3] = {first, &others[j], &others[(i + 2 * j) % other_count]};
+            check_all_chains(table, heads);
+        }
     }
 }
 
@@ -515,6 +583,7 @@ int main(int count, char **arguments) {
     try_tables("xor", most, 1, 1, check_xor);
     try_tables("list", most, 1, 2, check_list);
     try_tables("pushes", 2, 1, 2, check_pushes);
+    try_tables("ring-edits", most < PLACES ? 2 : 3, 1, 2, check_ring_edits);
     try_tables("tree", most < PLACES ? 2 : 3, 1, 3, check_tree);
     try_tables("steps", 2, 1, 3, check_steps);
     try_plain("plain-pushes", 2, check_pushes);

@@ -8,7 +8,9 @@
  */
 #define CALLS(X)                                                                           \
     X(tree_insert_left) X(tree_insert_right) X(tree_remove) X(tree_replace) X(tree_clear)  \
-    X(tree_insert) X(tree_find) X(tree_lower_bound) X(tree_upper_bound)                    \
+    X(tree_insert) X(tree_insert_unique) X(tree_insert_by) X(tree_insert_unique_by)        \
+    X(tree_find) X(tree_lower_bound) X(tree_upper_bound)                                   \
+    X(tree_find_by) X(tree_lower_bound_by) X(tree_upper_bound_by)                          \
     X(tree_next) X(tree_prev) X(tree_check)
 
 enum { PLACES = 64, TREES = 2, NOBODY = TREES, MORE_KEYS = 3, TALLEST = 12, UNSET = 123456789 };
@@ -151,6 +153,36 @@ static void step_insert(int t) {
         link_at(t, count_below(&sequences[t], keys[place], 1), place);
 }
 
+/* How a key compares with that of a member. */
+static int order(uint64_t key, uint32_t at) {
+    return (key > keys[at]) - (key < keys[at]);
+}
+
+/* An insertion by a comparison, or of a key that no other member has. What it hands out is the member with the key. */
+static void step_insert_otherwise(int t) {
+    const int is_by = now != CALL_tree_insert_unique, is_unique = now != CALL_tree_insert_by;
+    uint32_t place = to_link(), status, found = UNSET;
+    size_t count = is_by ? PLACES : key_count();
+    if (place < PLACES && owner[place] == NOBODY)
+        keys[place] = any_key();
+    const uint64_t key = place < PLACES ? keys[place] : 0;
+    const uint32_t lower = member(&sequences[t], count_below(&sequences[t], key, 0));
+    const int is_there = is_unique && !faults && lower != IC_NONE && keys[lower] == key;
+    if (!is_by)
+        status = ic_tree_insert_unique(table, PLACES, keys, count, &trees[t], place, &found);
+    else if (is_unique)
+        IC_TREE_INSERT_UNIQUE_BY(status, found, table, PLACES, &trees[t], place, order(key, found));
+    else
+        IC_TREE_INSERT_BY(status, found, table, PLACES, &trees[t], place, order(key, found));
+    const int is_made = made(status);
+    if (is_there)
+        expect(is_by ? owner[found] == t && keys[found] == key : found == lower, "gave another member than the one with the key");
+    else
+        expect(found == (is_made ? place : is_by ? (uint32_t)IC_NONE : (uint32_t)UNSET), "gave another member than the place");
+    if (is_made && !is_there)
+        link_at(t, count_below(&sequences[t], key, 1), place);
+}
+
 /* Now and then the root of another tree, which is no member of this one. */
 static uint32_t or_root(int t, uint32_t named) {
     int other = (int)below(TREES);
@@ -219,6 +251,22 @@ static void step_search(int t) {
     check_found(status, found, expected);
 }
 
+/* A search by a comparison gives what one by keys gives. */
+static void step_search_by(int t) {
+    const struct sequence *plain = &sequences[t];
+    uint64_t key = any_key();
+    uint32_t lower = member(plain, count_below(plain, key, 0)), upper = before(plain, count_below(plain, key, 1)), found;
+    if (now == CALL_tree_find_by) {
+        IC_TREE_FIND_BY(found, table, PLACES, &trees[t], order(key, found));
+        lower = lower != IC_NONE && keys[lower] == key ? lower : IC_NONE;
+    } else if (now == CALL_tree_lower_bound_by)
+        IC_TREE_LOWER_BOUND_BY(found, table, PLACES, &trees[t], order(key, found));
+    else
+        IC_TREE_UPPER_BOUND_BY(found, table, PLACES, &trees[t], order(key, found));
+    made(IC_OK);
+    expect(found == (now == CALL_tree_upper_bound_by ? upper : lower), "gave another member");
+}
+
 static void step_on(int t, uint32_t i) {
     const struct sequence *plain = &sequences[t];
     int is_next = now == CALL_tree_next;
@@ -256,13 +304,19 @@ static void step(void) {
     case CALL_tree_replace: step_replace(t, i); break;
     case CALL_tree_clear: step_clear(t); break;
     case CALL_tree_insert: step_insert(t); break;
+    case CALL_tree_insert_unique:
+    case CALL_tree_insert_by:
+    case CALL_tree_insert_unique_by: step_insert_otherwise(t); break;
     case CALL_tree_check: step_check(t); break;
     case CALL_tree_find:
     case CALL_tree_lower_bound:
     case CALL_tree_upper_bound: step_search(t); break;
+    case CALL_tree_find_by:
+    case CALL_tree_lower_bound_by:
+    case CALL_tree_upper_bound_by: step_search_by(t); break;
     default: step_on(t, i);
     }
-    if (faults || now > CALL_tree_insert)
+    if (faults || now > CALL_tree_insert_unique_by)
         check_same();
     else
         check(t);
@@ -271,7 +325,7 @@ static void step(void) {
 /* Any call, by turns with more inserts and more removals, so that trees of all sizes come up. */
 static enum call choose(void) {
     enum call call = (enum call)below(COUNT);
-    int inserts = call == CALL_tree_insert_left || call == CALL_tree_insert_right || call == CALL_tree_insert;
+    int inserts = call == CALL_tree_insert_left || call == CALL_tree_insert_right || (call >= CALL_tree_insert && call <= CALL_tree_insert_unique_by);
     if (!below(512))
         is_growing = !is_growing;
     int is_rare = call == CALL_tree_clear && below(64);
