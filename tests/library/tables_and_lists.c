@@ -1,4 +1,5 @@
-/* What docs/LIBRARY.md says of tables that grow, of lists that are copied or abandoned, and of a length that is too small.
+/* What docs/LIBRARY.md says of tables that grow, of lists that are copied or abandoned, of a length that is too small, of hash tables from which a
+ * member leaves without its hash, and of a sort by a comparison.
  *     tables_and_lists
  */
 #include "ic.h"
@@ -105,8 +106,69 @@ static void shorten(void) {
     EXPECT(ic_list_next(links, 5, 4) == IC_NONE && memcmp(before, links, sizeof links) == 0);
 }
 
+/* A hash table whose buckets are rings, from which a member leaves without its hash. */
+static void leave_bucket(void) {
+    enum { BUCKETS = 3, ALL = MORE + BUCKETS };
+    struct ic_link2 links[ALL] = {{0, 0}};
+    const uint64_t hashes[MORE] = {7, 8, 9, 10, 11, 12, 13};
+    for (uint32_t head = MORE; head < ALL; head++)
+        EXPECT(ic_ring_init(links, ALL, head) == IC_OK);
+    for (uint32_t place = 0; place < 7; place++)
+        EXPECT(ic_ring_push_front(links, ALL, MORE + (uint32_t)(hashes[place] % BUCKETS), place) == IC_OK);
+    EXPECT(ic_ring_remove(links, ALL, 3) == IC_OK && ic_ring_remove(links, ALL, 3) == IC_NOT_LINKED);
+    SUM(IC_RING_FOREACH(place, links, ALL, MORE + 7 % BUCKETS));
+    EXPECT(sum == 6 + 2 * 0);
+    SUM(IC_RING_FOREACH(place, links, ALL, MORE + 8 % BUCKETS));
+    EXPECT(sum == 4 + 2 * 1);
+    SUM(IC_RING_FOREACH(place, links, ALL, MORE + 9 % BUCKETS));
+    EXPECT(sum == 5 + 2 * 2);
+}
+
+/* A sort by a comparison, by ranks that a tree finds. Equal members keep their order. */
+static void sort_by_ranks(void) {
+    const char *const names[PLACES] = {"oak", "elm", "ash", "elm", "fir", "oak", "ash", "yew"};
+    const uint32_t sorted[PLACES] = {6, 2, 3, 1, 4, 5, 0, 7};
+    struct ic_link2 links[PLACES] = {{0, 0}};
+    struct ic_link3 nodes[PLACES] = {{0, 0, 0}};
+    struct ic_list list = {0, 0};
+    struct ic_tree tree = {0};
+    uint64_t ranks[PLACES] = {0}, rank = 0;
+    uint32_t other, status = IC_OK, count = 0;
+    for (uint32_t place = 0; place < PLACES; place++)
+        EXPECT(ic_list_push_front(links, PLACES, &list, place) == IC_OK);
+    IC_LIST_FOREACH(place, links, PLACES, &list) {
+        IC_TREE_INSERT_BY(status, other, nodes, PLACES, &tree, place, strcmp(names[place], names[other]));
+        EXPECT(status == IC_OK && other == place);
+    }
+    IC_TREE_FOREACH(place, nodes, PLACES, &tree)
+        ranks[place] = rank++;
+    EXPECT(ic_list_sort(links, PLACES, ranks, PLACES, &list) == IC_OK);
+    IC_LIST_FOREACH(place, links, PLACES, &list)
+        EXPECT(place == sorted[count++]);
+    EXPECT(count == PLACES);
+}
+
+/* A tree is taken down while the objects of its members are freed, in any order. */
+static void take_down(void) {
+    struct ic_link3 nodes[PLACES] = {{0, 0, 0}};
+    struct ic_tree tree = {0};
+    const uint64_t keys[PLACES] = {5, 3, 8, 1, 4, 7, 9, 2};
+    int *objects[PLACES];
+    for (uint32_t place = 0; place < PLACES; place++) {
+        objects[place] = malloc(sizeof *objects[place]);
+        EXPECT(objects[place] && ic_tree_insert(nodes, PLACES, keys, PLACES, &tree, place) == IC_OK);
+    }
+    SUM(IC_TREE_FOREACH(place, nodes, PLACES, &tree)) + (free(objects[place]), 0u);
+    EXPECT(sum == 3 + 2 * 7 + 3 * 1 + 4 * 4 + 6 * 5 + 7 * 2 + 8 * 6 && ic_tree_clear(nodes, PLACES, &tree) == IC_OK);
+    for (uint32_t place = 0; place < PLACES; place++)
+        EXPECT(!ic_tree_is_linked(nodes, PLACES, place));
+}
+
 int main(void) {
     grow();
+    leave_bucket();
+    sort_by_ranks();
+    take_down();
     copy();
     abandon();
     shorten();
