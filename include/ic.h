@@ -692,14 +692,11 @@ static inline uint32_t ic_ring_push_back(struct ic_link2 *table, ic_length place
     return ic_ring_insert_before(table, places, head, place);
 }
 
-/* These are edits of two calls. Each first tests the links that its calls test, so it is refused before it has changed anything. */
+/* These are edits of two calls. Each first tests the links that its second call tests, so it is refused before it has changed anything. */
 
-/* Returns IC_OK if the places on both sides of `place` lead back to it, or the status of a call that refuses it as a place of a ring. */
-static inline uint32_t ic_ring_fault_of(const struct ic_link2 *table, ic_length places, uint32_t place) {
-    if (ic_ring_is_linked(table, places, place) && ic_ring_next(table, places, ic_ring_prev(table, places, place)) == place &&
-        ic_ring_prev(table, places, ic_ring_next(table, places, place)) == place)
-        return IC_OK;
-    return ic_fault_of(places, place, ic_ring_is_linked(table, places, place));
+/* Returns whether `after` is the place after `before` in a ring, and leads back to it. */
+static inline int ic_ring_is_gap(const struct ic_link2 *table, ic_length places, uint32_t before, uint32_t after) {
+    return before != IC_NONE && ic_ring_next(table, places, before) == after && ic_ring_prev(table, places, after) == before;
 }
 
 /* Lets two places, of one ring or of two, change their places, as list_swap of Linux does, in O(1). Nothing changes if they are the same.
@@ -707,11 +704,13 @@ static inline uint32_t ic_ring_fault_of(const struct ic_link2 *table, ic_length 
  * linked. IC_BROKEN: `one` or `other` is in no ring. */
 IC_NODISCARD
 static inline uint32_t ic_ring_swap(struct ic_link2 *table, ic_length places, uint32_t one, uint32_t other) {
-    uint32_t status = ic_ring_fault_of(table, places, one);
-    if (status == IC_OK)
-        status = ic_ring_fault_of(table, places, other);
-    if (status == IC_OK)
-        status = ic_ring_exchange(table, places, ic_ring_prev(table, places, one), ic_ring_prev(table, places, other));
+    const uint32_t before_one = ic_ring_prev(table, places, one), before_other = ic_ring_prev(table, places, other);
+    uint32_t status;
+    if (!ic_ring_is_gap(table, places, before_one, one) || !ic_ring_is_gap(table, places, one, ic_ring_next(table, places, one)))
+        return ic_fault_of(places, one, ic_ring_is_linked(table, places, one));
+    if (!ic_ring_is_gap(table, places, before_other, other) || !ic_ring_is_gap(table, places, other, ic_ring_next(table, places, other)))
+        return ic_fault_of(places, other, ic_ring_is_linked(table, places, other));
+    status = ic_ring_exchange(table, places, before_one, before_other);
     return status == IC_OK ? ic_ring_exchange(table, places, one, other) : status;
 }
 
@@ -722,16 +721,17 @@ static inline uint32_t ic_ring_swap(struct ic_link2 *table, ic_length places, ui
  * linked. IC_BROKEN: one of them is in no ring, or `at` is `first`, and `last` is another place. */
 IC_NODISCARD
 static inline uint32_t ic_ring_move_range_after(struct ic_link2 *table, ic_length places, uint32_t at, uint32_t first, uint32_t last) {
-    uint32_t status = ic_ring_fault_of(table, places, at);
-    if (status == IC_OK)
-        status = ic_ring_fault_of(table, places, first);
-    if (status == IC_OK)
-        status = ic_ring_fault_of(table, places, last);
-    if (status != IC_OK || at == last)
-        return status;
+    const uint32_t before_first = ic_ring_prev(table, places, first);
+    uint32_t status;
+    if (!ic_ring_is_gap(table, places, at, ic_ring_next(table, places, at)))
+        return ic_fault_of(places, at, ic_ring_is_linked(table, places, at));
+    if (!ic_ring_is_gap(table, places, before_first, first))
+        return ic_fault_of(places, first, ic_ring_is_linked(table, places, first));
+    if (at == last)
+        return IC_OK;
     if (at == first)
         return IC_BROKEN;
-    status = ic_ring_exchange(table, places, ic_ring_prev(table, places, first), last);
+    status = ic_ring_exchange(table, places, before_first, last);
     return status == IC_OK ? ic_ring_exchange(table, places, at, last) : status;
 }
 
@@ -742,14 +742,12 @@ static inline uint32_t ic_ring_move_range_after(struct ic_link2 *table, ic_lengt
  * linked. IC_BROKEN: one of them is in no ring, or `at` is `last`, and `first` is another place. */
 IC_NODISCARD
 static inline uint32_t ic_ring_move_range_before(struct ic_link2 *table, ic_length places, uint32_t at, uint32_t first, uint32_t last) {
-    uint32_t status = ic_ring_fault_of(table, places, at);
-    if (status == IC_OK)
-        status = ic_ring_fault_of(table, places, first);
-    if (status != IC_OK)
-        return status;
+    const uint32_t before_at = ic_ring_prev(table, places, at);
+    if (!ic_ring_is_gap(table, places, before_at, at))
+        return ic_fault_of(places, at, ic_ring_is_linked(table, places, at));
     if (at == last && at != first)
         return IC_BROKEN;
-    return ic_ring_move_range_after(table, places, at == first ? last : ic_ring_prev(table, places, at), first, last);
+    return ic_ring_move_range_after(table, places, at == first ? last : before_at, first, last);
 }
 
 /* ---- Singly linked lists: 8 bytes a place, calls O(1) except ic_stack_splice_after, and to fill, clear and check ------------------------
@@ -1399,6 +1397,13 @@ static inline uint32_t ic_tree_insert_unique(struct ic_link3 *table, ic_length p
  * `tree` and `place` several times.
  */
 
+/* Returns the left child of the member `at`, or the right one, or IC_NONE. */
+static inline uint32_t ic_tree_child(const struct ic_link3 *table, ic_length places, uint32_t at, int is_left) {
+    if (!ic_tree_is_linked(table, places, at))
+        return IC_NONE;
+    return ic_place_within(places, is_left ? table[at].left : table[at].right);
+}
+
 /* The searches are made of this. It goes to the left of each member of which `comparison goes_left 0` is true, and `at` becomes the last one of
  * which `comparison is_found 0` is. */
 #define IC_SEARCH_BY(at, table, places, tree, comparison, is_found, goes_left)                  \
@@ -1409,7 +1414,7 @@ static inline uint32_t ic_tree_insert_unique(struct ic_link3 *table, ic_length p
             const int64_t ic_order_##at = (comparison);                                         \
             if (ic_order_##at is_found 0)                                                       \
                 ic_found_##at = at;                                                             \
-            at = (ic_order_##at goes_left 0 ? ic_tree_left : ic_tree_right)(table, places, at); \
+            at = ic_tree_child(table, places, at, ic_order_##at goes_left 0);                   \
         }                                                                                       \
         at = ic_found_##at;                                                                     \
     } while (0)
@@ -1437,7 +1442,7 @@ static inline uint32_t ic_tree_insert_unique(struct ic_link3 *table, ic_length p
             }                                                                                                                   \
             ic_under_##at = at;                                                                                                 \
             ic_is_left_##at = ic_order_##at < 0;                                                                                \
-            at = (ic_is_left_##at ? ic_tree_left : ic_tree_right)(table, places, at);                                           \
+            at = ic_tree_child(table, places, at, ic_is_left_##at);                                                             \
         }                                                                                                                       \
         status = IC_OK;                                                                                                         \
         if (ic_same_##at == IC_NONE)                                                                                            \

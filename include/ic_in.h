@@ -348,8 +348,8 @@ static inline uint32_t ic_ring_in_push_back(struct ic_ring_in in, uint32_t head,
     return ic_ring_push_back(in.table, in.places, head, place);
 }
 
-static inline uint32_t ic_ring_in_fault_of(struct ic_ring_in in, uint32_t place) {
-    return ic_ring_fault_of(in.table, in.places, place);
+static inline int ic_ring_in_is_gap(struct ic_ring_in in, uint32_t before, uint32_t after) {
+    return ic_ring_is_gap(in.table, in.places, before, after);
 }
 
 IC_NODISCARD
@@ -778,6 +778,10 @@ static inline uint32_t ic_tree_in_upper_bound(struct ic_tree_in in, uint64_t key
 IC_NODISCARD
 static inline uint32_t ic_tree_in_insert_unique(struct ic_tree_in in, uint32_t place, uint32_t *found) {
     return ic_tree_insert_unique(in.table, in.places, in.keys.keys, in.keys.count, in.tree, place, found);
+}
+
+static inline uint32_t ic_tree_in_child(struct ic_tree_in in, uint32_t at, int is_left) {
+    return ic_tree_child(in.table, in.places, at, is_left);
 }
 
 IC_NODISCARD

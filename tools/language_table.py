@@ -48,7 +48,7 @@ ALIASES = {
                "from_root": "from_words", "from_head": "from_words", "from_buckets": "from_words", "cursor: get_ptr": "cursor: get"},
 }
 # What is no call of a user, or is said by the types.
-LEFT_OUT = {"new", "constructor", "go_on", "safe_go_on", "fault_of", "end", "rend", "hash first", "adapter", "position_at", "cursor: new", "cursor: view", "view", "insert_linked",
+LEFT_OUT = {"new", "constructor", "go_on", "safe_go_on", "is_gap", "child", "end", "rend", "hash first", "adapter", "position_at", "cursor: new", "cursor: view", "view", "insert_linked",
             "with_used", "into_buckets", "cursor: into_ref", "cursor: clone_pointer", "cursor: as_cursor", "xor loop", "xor loop_safe", "xor loop_entry",
             "xor loop_entry_safe", "xor walk", "xor walk_safe", "xor round", "descend", "search"}
 

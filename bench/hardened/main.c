@@ -2,7 +2,8 @@
  *
  * It is a model of that list: a ring of addresses with its head in it, of which an insert and a removal test the neighbors' words, and a
  * removal leaves addresses that no object has. The tests are those of Linux 6.6, include/linux/list.h: `__list_add_valid` and
- * `__list_del_entry_valid`. Linux tests nothing in a cut or a splice.
+ * `__list_del_entry_valid`. Linux tests nothing in a cut, a splice or a replacement, nor do its list_bulk_move_tail and the half of its list_swap
+ * that replaces.
  *
  * `peer WORKLOAD MEMBERS OPERATIONS` prints the nanoseconds of all operations and a checksum. bench/README.md says what each workload
  * does. The functions timed_* are what is timed, and what callgrind counts. */
@@ -69,6 +70,34 @@ static inline void move_to_back(struct links *list, struct links *member) {
     push_back(list, member);
 }
 
+/* Replaces a member, as list_replace does. */
+static inline void replace(const struct links *old, struct links *added) {
+    added->next = old->next;
+    added->next->prev = added;
+    added->prev = old->prev;
+    added->prev->next = added;
+}
+
+/* Lets two members change their places, as list_swap does. */
+static inline void swap(struct links *one, struct links *other) {
+    struct links *before = other->prev;
+    unlink(other);
+    replace(one, other);
+    if (before == one)
+        before = other;
+    add_between(one, before, before->next);
+}
+
+/* Moves the members from `first` to `last` to the back, as list_bulk_move_tail does. */
+static inline void move_range_to_back(struct links *list, struct links *first, struct links *last) {
+    first->prev->next = last->next;
+    last->next->prev = first->prev;
+    list->prev->next = first;
+    first->prev = list->prev;
+    last->next = list;
+    list->prev = last;
+}
+
 static inline bool is_empty(const struct links *list) { return list->next == list; }
 
 static inline void make_empty(struct links *list) { list->next = list->prev = list; }
@@ -121,6 +150,23 @@ TIMED timed_touch(struct links *list, struct object **order, uint64_t members, u
     return 0;
 }
 
+TIMED timed_ring_swap(struct object **order, uint64_t members, uint64_t operations) {
+    uint64_t random = 1;
+    while (operations--) {
+        struct object *one = order[below(&random, members)], *other = order[below(&random, members)];
+        if (one != other)
+            swap(&one->links, &other->links);
+    }
+    return 0;
+}
+
+TIMED timed_ring_range(struct links *list, struct object **order, uint64_t members, uint64_t operations) {
+    uint64_t random = 1;
+    while (operations--)
+        move_range_to_back(list, list->next, &order[below(&random, members)]->links);
+    return 0;
+}
+
 TIMED timed_splice(struct links *list, struct object **order, uint64_t members, uint64_t operations) {
     uint64_t random = 1;
     while (operations--) {
@@ -159,6 +205,8 @@ static uint64_t work(const char *workload, const struct room *room, uint64_t *ti
     uint64_t start = now();
     uint64_t checksum = !strcmp(workload, "pair")     ? timed_pair(&list, room->operations)
                         : !strcmp(workload, "touch")  ? timed_touch(&list, order, room->members, room->operations)
+                        : !strcmp(workload, "ring_swap")  ? timed_ring_swap(order, room->members, room->operations)
+                        : !strcmp(workload, "ring_range") ? timed_ring_range(&list, order, room->members, room->operations)
                         : !strcmp(workload, "splice") ? timed_splice(&list, order, room->members, room->operations)
                         : !strcmp(workload, "step")   ? timed_step(&list, room->operations)
                                                       : timed_iter(&list, room->operations / room->members);

@@ -123,6 +123,77 @@ static uint64_t doubly(const char *workload, const struct room *room, uint64_t *
     return hash + checksum;
 }
 
+/* ---- Rings, whose head is the place after those of the members ---- */
+
+/* A ring in its table. */
+struct ringed {
+    struct ic_link2 *links;
+    uint32_t places, head;
+};
+
+TIMED timed_ring_pair(const struct ringed *it, uint64_t operations) {
+    uint64_t failed = 0;
+    while (operations--) {
+        uint32_t place;
+        failed += ic_ring_pop_front(it->links, it->places, it->head, &place);
+        failed += ic_ring_push_back(it->links, it->places, it->head, place);
+    }
+    return failed;
+}
+
+TIMED timed_ring_touch(const struct ringed *it, const uint32_t *order, uint64_t operations) {
+    uint64_t random = 1, failed = 0;
+    while (operations--)
+        failed += ic_ring_move_before(it->links, it->places, it->head, order[below(&random, it->head)]);
+    return failed;
+}
+
+TIMED timed_ring_leave(const struct ringed *it, const uint32_t *order, uint64_t operations) {
+    uint64_t random = 1, failed = 0;
+    while (operations--) {
+        uint32_t place = order[below(&random, it->head)];
+        failed += ic_ring_remove(it->links, it->places, place);
+        failed += ic_ring_push_back(it->links, it->places, it->head, place);
+    }
+    return failed;
+}
+
+TIMED timed_ring_swap(const struct ringed *it, const uint32_t *order, uint64_t operations) {
+    uint64_t random = 1, failed = 0;
+    while (operations--) {
+        uint32_t one = order[below(&random, it->head)];
+        failed += ic_ring_swap(it->links, it->places, one, order[below(&random, it->head)]);
+    }
+    return failed;
+}
+
+TIMED timed_ring_range(const struct ringed *it, const uint32_t *order, uint64_t operations) {
+    uint64_t random = 1, failed = 0;
+    while (operations--) {
+        uint32_t first = ic_ring_next(it->links, it->places, it->head);
+        failed += ic_ring_move_range_before(it->links, it->places, it->head, first, order[below(&random, it->head)]);
+    }
+    return failed;
+}
+
+static uint64_t ring(const char *workload, const struct room *room, uint64_t *time) {
+    struct ringed it = {room_for((uint64_t)room->members + 1, sizeof *it.links), room->members + 1, room->members};
+    must(ic_ring_init(it.links, it.places, it.head));
+    for (uint32_t index = 0; index < room->members; index++)
+        must(ic_ring_push_back(it.links, it.places, it.head, room->order[index]));
+    uint64_t start = now();
+    uint64_t checksum = !strcmp(workload, "ring_pair")    ? timed_ring_pair(&it, room->operations)
+                        : !strcmp(workload, "ring_touch") ? timed_ring_touch(&it, room->order, room->operations)
+                        : !strcmp(workload, "ring_leave") ? timed_ring_leave(&it, room->order, room->operations)
+                        : !strcmp(workload, "ring_swap")  ? timed_ring_swap(&it, room->order, room->operations)
+                                                          : timed_ring_range(&it, room->order, room->operations);
+    *time = now() - start;
+    uint64_t hash = 0;
+    IC_RING_FOREACH(at, it.links, it.places, it.head)
+        hash = hash * 31 + room->values[at];
+    return hash + checksum;
+}
+
 /* ---- The sort of a doubly linked list ---- */
 
 TIMED timed_sort(struct ic_link2 *links, uint32_t members, const uint64_t *values, struct ic_list *list) {
@@ -221,12 +292,37 @@ TIMED timed_hash_find(const struct ic_link1 *links, const struct room *room, con
     return sum;
 }
 
-static uint64_t hashed(const struct room *room, uint32_t count, uint64_t *time) {
+static uint64_t hash_of(uint64_t key) {
+    return key * UINT64_C(0x9E3779B97F4A7C15);
+}
+
+TIMED timed_hash_turn(struct ic_link1 *links, const struct room *room, struct ic_stack *buckets, uint32_t count) {
+    uint64_t random = 1, failed = 0;
+    for (uint64_t operations = room->operations; operations--;) {
+        uint32_t place = room->order[below(&random, room->members)];
+        failed += ic_hash_remove(links, room->members, buckets, count, hash_of(room->values[place]), place);
+        failed += ic_hash_insert(links, room->members, buckets, count, hash_of(room->values[place]), place);
+    }
+    return failed;
+}
+
+TIMED timed_hash_all(const struct ic_link1 *links, const struct room *room, const struct ic_stack *buckets, uint32_t count) {
+    uint64_t sum = 0;
+    for (uint64_t rounds = room->operations / room->members; rounds--;)
+        IC_HASH_FOREACH_ALL(at, links, room->members, buckets, count)
+            sum += room->values[at];
+    return sum;
+}
+
+static uint64_t hashed(const char *workload, const struct room *room, uint32_t count, uint64_t *time) {
     struct ic_link1 *links = room_for(room->members, sizeof *links);
     struct ic_stack *buckets = room_for(count, sizeof *buckets);
     for (uint32_t place = 0; place < room->members; place++)
-        must(ic_hash_insert(links, room->members, buckets, count, room->values[place] * UINT64_C(0x9E3779B97F4A7C15), place));
-    uint64_t start = now(), sum = timed_hash_find(links, room, buckets, count);
+        must(ic_hash_insert(links, room->members, buckets, count, hash_of(room->values[place]), place));
+    uint64_t start = now();
+    uint64_t sum = !strcmp(workload, "hash_turn")  ? timed_hash_turn(links, room, buckets, count)
+                   : !strcmp(workload, "hash_all") ? timed_hash_all(links, room, buckets, count)
+                                                   : timed_hash_find(links, room, buckets, count);
     *time = now() - start;
     return sum;
 }
@@ -266,6 +362,52 @@ TIMED timed_insert(struct keyed *it, const uint32_t *order, uint32_t count) {
     for (uint32_t index = 0; index < count; index++)
         failed += insert(it, order[index]);
     return failed;
+}
+
+TIMED timed_unique_insert(struct keyed *it, const uint32_t *order, uint32_t count) {
+    uint64_t failed = 0;
+    for (uint32_t index = 0; index < count; index++) {
+        uint32_t found;
+        failed += ic_tree_insert_unique(it->links, it->members, it->keys, it->members, &it->tree, order[index], &found);
+    }
+    return failed;
+}
+
+/* How a key compares with that of a member. */
+static int compare(const struct keyed *it, uint64_t key, uint32_t at) {
+    return (key > it->keys[at]) - (key < it->keys[at]);
+}
+
+TIMED timed_compared_insert(struct keyed *it, const uint32_t *order, uint32_t count) {
+    uint64_t failed = 0;
+    for (uint32_t index = 0; index < count; index++) {
+        uint32_t at, status;
+        IC_TREE_INSERT_BY(status, at, it->links, it->members, &it->tree, order[index], compare(it, it->keys[order[index]], at));
+        failed += status;
+    }
+    return failed;
+}
+
+TIMED timed_compared_unique_insert(struct keyed *it, const uint32_t *order, uint32_t count) {
+    uint64_t failed = 0;
+    for (uint32_t index = 0; index < count; index++) {
+        uint32_t at, status;
+        IC_TREE_INSERT_UNIQUE_BY(status, at, it->links, it->members, &it->tree, order[index], compare(it, it->keys[order[index]], at));
+        failed += status;
+    }
+    return failed;
+}
+
+TIMED timed_compared_find(const struct keyed *it, uint64_t operations) {
+    uint64_t random = 1, sum = 0;
+    while (operations--) {
+        uint32_t at;
+        uint64_t key = 2 * below(&random, it->members);
+        IC_TREE_FIND_BY(at, it->links, it->members, &it->tree, compare(it, key, at));
+        if (at != IC_NONE)
+            sum += it->keys[at];
+    }
+    return sum;
 }
 
 TIMED timed_remove(struct keyed *it, const uint32_t *order, uint32_t count) {
@@ -351,17 +493,25 @@ static void fill(struct keyed *it, const uint32_t *order) {
         must(insert(it, order[index]));
 }
 
+/* Fills an empty tree, by one of the ways to insert. */
+static uint64_t timed_fill(const char *workload, struct keyed *it, const uint32_t *order, uint32_t count) {
+    return !strcmp(workload, "insert")            ? timed_insert(it, order, count)
+           : !strcmp(workload, "unique_insert")   ? timed_unique_insert(it, order, count)
+           : !strcmp(workload, "compared_insert") ? timed_compared_insert(it, order, count)
+                                                  : timed_compared_unique_insert(it, order, count);
+}
+
 static uint64_t tree(const char *workload, const struct room *room, uint64_t *time) {
     uint32_t members = room->members, half = members / 2;
     uint64_t operations = room->operations, checksum = 0;
     struct keyed it = {.links = room_for(members, sizeof *it.links), .keys = room->values, .members = members};
     fill(&it, room->order);
     *time = 0;
-    if (!strcmp(workload, "insert")) {
+    if (strstr(workload, "insert")) {
         for (uint64_t rounds = operations / members; rounds--;) {
             reset(&it);
             uint64_t start = now();
-            checksum += timed_insert(&it, room->order, members);
+            checksum += timed_fill(workload, &it, room->order, members);
             *time += now() - start;
         }
     } else if (!strcmp(workload, "remove")) {
@@ -374,6 +524,7 @@ static uint64_t tree(const char *workload, const struct room *room, uint64_t *ti
     } else {
         uint64_t start = now();
         checksum = !strcmp(workload, "find")          ? timed_find(&it, operations)
+                   : !strcmp(workload, "compared_find") ? timed_compared_find(&it, operations)
                    : !strcmp(workload, "lower_bound") ? timed_lower_bound(&it, operations)
                    : !strcmp(workload, "turn")        ? timed_turn(&it, operations)
                    : !strcmp(workload, "queue")       ? timed_queue(&it, operations)
@@ -405,8 +556,9 @@ int main(int count, char **words) {
     uint64_t checksum = !strcmp(words[1], "singly") ? singly(&room, &time)
                         : !strcmp(words[1], "sort") ? sorted(&room, &time)
                         : !strcmp(words[1], "xor")  ? xor_list(&room, &time)
-                        : !strcmp(words[1], "hash") ? hashed(&room, 1024, &time)
-                        : !strcmp(words[1], "hash_prime") ? hashed(&room, 1021, &time)
+                        : !strncmp(words[1], "ring_", 5) ? ring(words[1], &room, &time)
+                        : !strcmp(words[1], "hash_prime") ? hashed(words[1], &room, 1021, &time)
+                        : !strncmp(words[1], "hash", 4) ? hashed(words[1], &room, 1024, &time)
                         : is_doubly                 ? doubly(words[1], &room, &time)
                                                     : tree(words[1], &room, &time);
     printf("%llu %llu\n", (unsigned long long)time, (unsigned long long)checksum);

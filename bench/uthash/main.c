@@ -1,4 +1,4 @@
-/* Finds in a hash table of uthash (Debian: uthash-dev).
+/* Finds, removals with insertions, and loops over all members in a hash table of uthash (Debian: uthash-dev).
  *
  * The table begins with as many buckets as members, rounded up to a power of two, and hashes a key as all programs do: the macros of
  * uthash say so. It has links from each member to the next one in the order of insertion, too.
@@ -38,6 +38,24 @@ TIMED timed_hash_find(struct object *table, uint64_t members, uint64_t operation
     return sum;
 }
 
+TIMED timed_hash_turn(struct object **table, struct object *objects, const uint64_t *order, uint64_t members, uint64_t operations) {
+    uint64_t random = 1;
+    while (operations--) {
+        struct object *object = &objects[order[below(&random, members)]];
+        HASH_DELETE(links, *table, object);
+        HASH_ADD(links, *table, value, sizeof object->value, object);
+    }
+    return 0;
+}
+
+TIMED timed_hash_all(const struct object *table, uint64_t rounds) {
+    uint64_t sum = 0;
+    while (rounds--)
+        for (const struct object *at = table; at; at = at->links.next)
+            sum += at->value;
+    return sum;
+}
+
 int main(int count, char **words) {
     if (count != 4)
         return 2;
@@ -52,7 +70,10 @@ int main(int count, char **words) {
         struct object *object = &objects[order[index]];
         HASH_ADD(links, table, value, sizeof object->value, object);
     }
-    uint64_t start = now(), sum = timed_hash_find(table, members, strtoull(words[3], NULL, 10)), time = now() - start;
-    printf("%" PRIu64 " %" PRIu64 "\n", time, sum);
+    uint64_t operations = strtoull(words[3], NULL, 10), start = now();
+    uint64_t sum = !strcmp(words[1], "hash_turn")  ? timed_hash_turn(&table, objects, order, members, operations)
+                   : !strcmp(words[1], "hash_all") ? timed_hash_all(table, operations / members)
+                                                   : timed_hash_find(table, members, operations);
+    printf("%" PRIu64 " %" PRIu64 "\n", now() - start, sum);
     return 0;
 }

@@ -154,7 +154,7 @@ static void edits(void) {
     EXPECT(status == IC_OK && at == 1 && ic_tree_in_insert_unique(tree, 5, &found) == IC_OK && found == 1);
     IC_TREE_IN_INSERT_BY(status, at, tree, 6, order(numbers[6], at));
     EXPECT(status == IC_OK && at == 6 && ic_tree_in_last(tree, &found) == IC_OK && found == 6 && ic_tree_in_remove(tree, 6) == IC_OK);
-    EXPECT(ic_ring_in_swap(ring, 0, 4) == IC_OK && ic_ring_in_front(ring, HEAD) == 4 && ic_ring_in_fault_of(ring, 7) == IC_NOT_LINKED);
+    EXPECT(ic_ring_in_swap(ring, 0, 4) == IC_OK && ic_ring_in_front(ring, HEAD) == 4 && ic_ring_in_is_gap(ring, HEAD, 4) && !ic_ring_in_is_gap(ring, 4, HEAD));
     EXPECT(ic_ring_in_move_range_after(ring, 3, 4, 1) == IC_OK && ic_ring_in_front(ring, HEAD) == 2);
     EXPECT(ic_ring_in_move_range_before(ring, 2, 4, 1) == IC_OK && ic_ring_in_front(ring, HEAD) == 4 && ic_ring_in_back(ring, HEAD) == 0);
     EXPECT(ic_stack_in_remove(stack, 7) == IC_BROKEN && ic_stack_in_remove(stack2, 7) == IC_OK && ic_stack_in_remove(stack2, 7) == IC_NOT_LINKED);

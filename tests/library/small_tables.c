@@ -214,15 +214,34 @@ static void check_pushes(void) {
     }
 }
 
-/* Which status tells that a place is no place of a ring, to which both places beside it lead back. */
-static uint32_t fault_of(uint32_t place) {
+/* Whether a place leads to one that leads back, by the word `which`. */
+static int is_beside(uint32_t place, uint32_t which) {
+    return is_member(place) && beside(beside(place, which), 1 - which) == place;
+}
+
+/* Which status tells that a place is no place of a ring, and OK of one of which `is_so` is true. */
+static uint32_t fault_of(uint32_t place, int is_so) {
     if (place == IC_NONE)
         return IC_NULL;
-    if (place >= places)
-        return IC_OUT_OF_RANGE;
-    if (!is_member(place))
-        return IC_NOT_LINKED;
-    return beside(beside(place, 0), 1) == place && beside(beside(place, 1), 0) == place ? IC_OK : IC_BROKEN;
+    return place >= places ? IC_OUT_OF_RANGE : !is_member(place) ? IC_NOT_LINKED : is_so ? IC_OK : IC_BROKEN;
+}
+
+/* Why a run does not go after a place: the first fault that is told. */
+static uint32_t fault_of_range(uint32_t at, uint32_t first, uint32_t last) {
+    if (!is_beside(at, 0))
+        return fault_of(at, 0);
+    if (!is_beside(first, 1))
+        return fault_of(first, 0);
+    return at == last ? IC_OK : at == first ? (uint32_t)IC_BROKEN : fault_of(last, is_beside(last, 0));
+}
+
+/* The same before a place. */
+static uint32_t fault_of_range_before(uint32_t at, uint32_t first, uint32_t last) {
+    if (!is_beside(at, 1))
+        return fault_of(at, 0);
+    if (at == last && at != first)
+        return IC_BROKEN;
+    return at == first ? fault_of(last, is_beside(last, 0)) : fault_of_range(beside(at, 1), first, last);
 }
 
 /* An edit of several calls tells the first fault, and has changed nothing then. */
@@ -235,16 +254,15 @@ static void check_ring_edits(void) {
     struct ic_link2 table[PLACES];
     for (uint32_t i = 0; i < names * names * names; i++) {
         const uint32_t at = asked[i % names], first = asked[i / names % names], last = asked[i / names / names];
-        const uint32_t fault = fault_of(at) ? fault_of(at) : fault_of(first) ? fault_of(first) : fault_of(last);
+        const uint32_t fault = fault_of(at, is_beside(at, 0) && is_beside(at, 1));
         memcpy(table, words, places * sizeof *table);
         if (at == last)
-            expect_edit(table, ic_ring_swap(table, places, at, first), fault, "ic_ring_swap");
+            expect_edit(table, ic_ring_swap(table, places, at, first), fault ? fault : fault_of(first, is_beside(first, 0) && is_beside(first, 1)),
+                        "ic_ring_swap");
         memcpy(table, words, places * sizeof *table);
-        expect_edit(table, ic_ring_move_range_after(table, places, at, first, last),
-                    !fault && at == first && first != last ? (uint32_t)IC_BROKEN : fault, "ic_ring_move_range_after");
+        expect_edit(table, ic_ring_move_range_after(table, places, at, first, last), fault_of_range(at, first, last), "ic_ring_move_range_after");
         memcpy(table, words, places * sizeof *table);
-        const int is_within = !fault && first != last && at != first && (at == last || beside(at, 1) == first);
-        expect_edit(table, ic_ring_move_range_before(table, places, at, first, last), is_within ? (uint32_t)IC_BROKEN : fault, "ic_ring_move_range_before");
+        expect_edit(table, ic_ring_move_range_before(table, places, at, first, last), fault_of_range_before(at, first, last), "ic_ring_move_range_before");
     }
 }
 
