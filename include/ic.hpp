@@ -713,6 +713,17 @@ public:
     status splice_after(std::uint32_t at, std::uint32_t given) const noexcept { return edit(ic_ring_splice_after, at, given); }
     status splice_before(std::uint32_t at, std::uint32_t given) const noexcept { return edit(ic_ring_splice_before, at, given); }
 
+    /// Lets two places change their places, in one ring or in two.
+    status swap(std::uint32_t one, std::uint32_t other) const noexcept { return edit(ic_ring_swap, one, other); }
+
+    /// Moves the places from `first` to `last` of a ring after a place of this or another ring, or before it, which is none of them.
+    status move_range_after(std::uint32_t at, std::uint32_t first, std::uint32_t last) const noexcept {
+        return edit(ic_ring_move_range_after, at, first, last);
+    }
+    status move_range_before(std::uint32_t at, std::uint32_t first, std::uint32_t last) const noexcept {
+        return edit(ic_ring_move_range_before, at, first, last);
+    }
+
     /// Exchanges what comes after two places that are in rings.
     status exchange(std::uint32_t one, std::uint32_t other) const noexcept { return edit(ic_ring_exchange, one, other); }
 
@@ -762,6 +773,9 @@ public:
     [[nodiscard]] std::optional<std::uint32_t> replace_after(std::uint32_t at, std::uint32_t place) const noexcept {
         return taken(ic_stack_replace_after, at, place);
     }
+
+    /// Removes a place, wherever it is in the list, in O(n).
+    status remove(std::uint32_t place) const noexcept { return edit(ic_stack_remove, place); }
 
     /// This and the next return ic::status::broken of this list itself, and of a list of another table.
     status splice_after(std::uint32_t at, stack_view given) const noexcept {
@@ -1023,6 +1037,19 @@ public:
         return {iterator_to(lower_bound(keys, key).value_or(none)), iterator_to(upper_bound(keys, key).value_or(none))};
     }
 
+    /// Returns the first member that is equal to what `order` compares with a member: `order(at)` is negative if that comes before `at`, 0
+    /// if both are equal, and positive otherwise, as strcmp and `<=>` say it.
+    template <class Order>
+    [[nodiscard]] std::optional<std::uint32_t> find_by(Order order) const {
+        std::uint32_t first = none;
+        descend([&](std::uint32_t at) {
+            const auto it = order(at);
+            first = it == 0 ? at : first;
+            return it <= 0;
+        });
+        return found(first);
+    }
+
     /// Returns the first member of which the predicate is false. It has to be false of all members after that one, too.
     template <class Predicate>
     [[nodiscard]] std::optional<std::uint32_t> partition_point(Predicate is_before) const {
@@ -1079,6 +1106,14 @@ public:
             return status::out_of_range;
         const hole end = descend([&](std::uint32_t at) { return is_less(place, at); });
         return end.is_left ? insert_left(end.under, place) : insert_right(end.under, place);
+    }
+
+    /// Inserts a place if no member has its key, and returns the first member that has the key, which is `place` if it was inserted. It
+    /// returns std::nullopt if the call is refused.
+    [[nodiscard]] std::optional<std::uint32_t> insert_unique(keys_view keys, std::uint32_t place) const noexcept {
+        std::uint32_t member = none;
+        const std::uint32_t done = ic_tree_insert_unique(table_, in_.places, keys.data(), keys.size(), head_, place, &member);
+        return done == IC_OK ? found(member) : std::nullopt;
     }
 
     status insert_left(std::uint32_t at, std::uint32_t place) const noexcept { return edit(ic_tree_insert_left, at, place); }

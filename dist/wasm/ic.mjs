@@ -458,6 +458,8 @@ export class Stack extends Collection {
   clear() { this.done(this.calls.ic_stack_clear(this.table, this.places, this.self)); }
   check() { return this.counted(this.calls.ic_stack_check(this.table, this.places, this.self, this.out)); }
   // to here
+  // A list is a hash table with one bucket.
+  remove(place) { this.done(this.calls.ic_hash_remove(this.table, this.places, this.self, 1n, 0n, placeNumber(place, "place"))); }
 }
 
 /** A hash table over links1. Each call for one object takes the same hash. */
@@ -615,6 +617,37 @@ export class Tree extends Collection {
   next(at) { return this.member(this.calls.ic_tree_next(this.table, this.places, this.self, placeNumber(at, "at"), this.out)); }
   prev(at) { return this.member(this.calls.ic_tree_prev(this.table, this.places, this.self, placeNumber(at, "at"), this.out)); }
   // to here
+  insertUnique(place) {
+    const at = placeNumber(place, "place"), isKnown = this.keys !== null && at < this.keys.length && !this.links.isLinked(place);
+    const member = isKnown ? this.find(this.keys.word(at)) : null;
+    if (member !== null) return member;
+    this.insert(place);
+    return place;
+  }
+  findBy(compare) {
+    let found = null;
+    this.descend((at) => {
+      const order = compare(at);
+      if (order === 0) found = at;
+      return order <= 0;
+    });
+    return found;
+  }
+  insertBy(place, compare) {
+    const at = placeNumber(place, "place"), mayGoIn = at < this.links.length && !this.links.isLinked(place);
+    const { under, isLeft } = mayGoIn ? this.descend((member) => compare(place, member) < 0) : { under: null, isLeft: true };
+    if (isLeft) this.insertLeft(under, place);
+    else this.insertRight(under, place);
+  }
+  // Goes down to the left of each member for which `goesLeft` returns true, and to the right of the others. It returns where the way ends.
+  descend(goesLeft) {
+    let gap = { under: null, isLeft: true }, at = this.root;
+    for (let left = this.links.length; left > 0 && this.links.isLinked(at); left--) {
+      gap = { under: at, isLeft: goesLeft(at) };
+      at = gap.isLeft ? this.left(at) : this.right(at);
+    }
+    return gap;
+  }
   // The member after one, or null if the call is refused.
   after(at) {
     const status = this.calls.ic_tree_next(this.table, this.places, this.self, placeNumber(at, "at"), this.out);

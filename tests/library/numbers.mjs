@@ -34,7 +34,7 @@ function lists(ic) {
     ["replace", "at", "place"], ["moveAfter", "at", "place"], ["moveBefore", "at", "place"], ["moveToFront", "place"], ["moveToBack", "place"],
     ["splitAfter", "at"], ["splitBefore", "at"], ["fill", "first", "count"]]);
   methods(stack, [["pushFront", "place"], ["insertAfter", "at", "place"], ["removeAfter", "at"], ["replaceAfter", "at", "place"], ["splitAfter", "at"],
-    ["fill", "first", "count"]]);
+    ["remove", "place"], ["fill", "first", "count"]]);
   methods(both, [["pushFront", "place"], ["pushBack", "place"], ["insertBetween", "before", "place", "after"], ["remove", "before", "at"],
     ["replace", "before", "at", "place"], ["splitBetween", "before", "after"], ["fill", "first", "count"]]);
   methods(ring, [["insertAfter", "at", "place"], ["insertBefore", "at", "place"], ["remove", "place"], ["exchange", "one", "other"], ["pushFront", "place"],
@@ -50,7 +50,7 @@ function lists(ic) {
 function keyed(ic) {
   const tree = new Tree(ic.links3(4), ic.keys(4)), table = new HashTable(ic.links1(4), 2, ic.keys(4));
   tree.insert(1);
-  methods(tree, [["insert", "place"], ["insertLeft", "at", "place"], ["insertRight", "at", "place"], ["remove", "at"], ["replace", "at", "place"],
+  methods(tree, [["insert", "place"], ["insertUnique", "place"], ["insertBy", "place"], ["insertLeft", "at", "place"], ["insertRight", "at", "place"], ["remove", "at"], ["replace", "at", "place"],
     ["next", "at"], ["prev", "at"], ["left", "at"], ["right", "at"], ["parent", "at"], ["isBlack", "at"]]);
   for (const search of ["find", "lowerBound", "upperBound"]) refuses("key", WRONG_WORDS, (key) => tree[search](key));
   refuses("hash", WRONG_WORDS, (hash) => table.insert(hash, 0));

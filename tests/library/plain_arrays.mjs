@@ -17,6 +17,14 @@ const remove = (plain, index) => (index < 0 ? REFUSED : (plain.splice(index, 1),
 const clear = (plain) => ((plain.length = 0), null);
 const sort = (plain, key) => (plain.sort((one, other) => key(one) - key(other)), null);
 
+/** A place goes in by its key if no member has that key, and else the member is what is returned. */
+function insertUnique(plain, key, place) {
+  const equal = plain.find((it) => key(it) === key(place)), behind = plain.findIndex((it) => key(it) > key(place));
+  if (plain.includes(place) || equal === undefined)
+    return insert(plain, [], behind < 0 ? plain.length : behind, place) ?? place;
+  return equal;
+}
+
 /** A run of places goes in at an index, if none of them is refused. */
 function fill(plain, index, first, count) {
   const run = Array.from({ length: count }, (_, i) => first + i);
@@ -195,6 +203,7 @@ function singly(ic, turns) {
       ["fill", [place, count], () => fill(plain, 0, place, count)],
       ["insertAfter", [at, place], () => insert(plain, [at], index + 1, place)],
       ["removeAfter", [at], () => (at !== null && index < 0 ? REFUSED : orNull(plain.splice(index + 1, 1)[0]))],
+      ["remove", [place], () => remove(plain, plain.indexOf(place))],
       ["check", [], () => plain.length],
       ...(turn % 60 === 0 ? [["clear", [], () => clear(plain)]] : []),
     ];
@@ -276,6 +285,9 @@ function tree(ic, turns) {
     assert.equal(made.prev(null), orNull(plain.at(-1)));
     return [
       ["insert", [place], () => insert(plain, [], behind < 0 ? plain.length : behind, place)],
+      ["insertBy", [place, (one, other) => key(one) - key(other)], () => insert(plain, [], behind < 0 ? plain.length : behind, place)],
+      ["insertUnique", [place], () => insertUnique(plain, key, place)],
+      ["findBy", [(member) => sought - key(member)], () => orNull(plain.find((it) => key(it) === sought))],
       ["remove", [place], () => remove(plain, plain.indexOf(place))],
       ["check", [], () => plain.length],
       ...(turn % 60 === 0 ? [["clear", [], () => clear(plain)]] : []),

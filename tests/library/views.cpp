@@ -270,7 +270,10 @@ void edit_own(lists<ic::stack_view> &it, int which, std::uint32_t index) {
         if (made(view.insert_after(before, place), linking))
             plain.insert(member, place);
     } else if (below(2)) {
-        expect_taken(view.remove_after(before), is_end ? std::nullopt : std::optional(*member));
+        if (is_end || below(2))
+            expect_taken(view.remove_after(before), is_end ? std::nullopt : std::optional(*member));
+        else
+            made(view.remove(*member), ic::status::ok);
         if (!is_end)
             plain.erase(member);
     } else if (other.empty()) {
@@ -363,6 +366,8 @@ void search(trees &it, int which) {
     expect(view.find(it.keys, key) == (lower != upper ? it.at(which, lower) : std::nullopt), "find finds another member");
     expect(view.at_most(it.keys, key) == (upper != plain.begin() ? it.at(which, std::prev(upper)) : std::nullopt), "at_most is wrong");
     expect(view.partition_point([&](std::uint32_t at) { return it.keys[at] < key; }) == it.at(which, lower), "partition_point is wrong");
+    const auto order = [&](std::uint32_t at) { return (key > it.keys[at]) - (key < it.keys[at]); };
+    expect(view.find_by(order) == view.find(it.keys, key), "find_by finds another member");
     const auto [first, last] = view.equal_range(it.keys, key);
     expect(std::equal(first, last, lower, upper, [](std::uint32_t at, const auto &member) { return at == member.second; }),
            "equal_range has other members");
@@ -377,6 +382,21 @@ void insert(trees &it, int which) {
         it.keys[place] = below(12);
     const auto is_less = [&](std::uint32_t one, std::uint32_t other) { return it.keys[one] < it.keys[other]; };
     if (made(below(2) ? view.insert(it.keys, place) : view.insert_by(place, is_less), linking))
+        it.plain[which].emplace(it.keys[place], place);
+}
+
+/// Inserts a place if no member has its key.
+void insert_unique(trees &it, int which) {
+    const ic::tree_view view = it.view(which);
+    const std::uint32_t place = below(places + 1);
+    const ic::status linking = to_link(view, place);
+    if (linking == ic::status::ok)
+        it.keys[place] = below(12);
+    const auto equal = place < places ? it.plain[which].find(it.keys[place]) : it.plain[which].end();
+    const bool is_there = equal != it.plain[which].end();
+    expect_taken(view.insert_unique(it.keys, place),
+                 linking != ic::status::ok ? std::nullopt : is_there ? it.at(which, it.plain[which].lower_bound(it.keys[place])) : std::optional(place));
+    if (linking == ic::status::ok && !is_there)
         it.plain[which].emplace(it.keys[place], place);
 }
 
@@ -438,6 +458,7 @@ void step(trees &it) {
         if (below(8) == 0 && made(view.clear(), ic::status::ok))
             plain.clear();
         break;
+    case 6: insert_unique(it, which); break;
     default: insert(it, which);
     }
     it.check_both();
@@ -470,6 +491,28 @@ struct rings {
     }
 };
 
+/// Two members of a ring change their places, or all from one on go to the front of the other ring, or to its back.
+void swap_or_move(rings &it, int which, std::list<std::uint32_t>::iterator member) {
+    const ic::ring_view view = it.view();
+    auto &plain = it.plain[which], &other = it.plain[1 - which];
+    const std::uint32_t head = rings::head(1 - which);
+    if (member == plain.end())
+        return;
+    switch (below(3)) {
+    case 0:
+        if (made(view.swap(*member, plain.front()), ic::status::ok))
+            std::iter_swap(member, plain.begin());
+        break;
+    case 1:
+        if (made(view.move_range_after(head, *member, plain.back()), ic::status::ok))
+            other.splice(other.begin(), plain, member, plain.end());
+        break;
+    default:
+        if (made(view.move_range_before(head, *member, plain.back()), ic::status::ok))
+            other.splice(other.end(), plain, member, plain.end());
+    }
+}
+
 void step(rings &it) {
     const int which = static_cast<int>(below(2));
     const ic::ring_view view = it.view();
@@ -493,6 +536,10 @@ void step(rings &it) {
             plain.splice(member, other);
         break;
     case 5:
+        if (below(2)) {
+            swap_or_move(it, which, member);
+            break;
+        }
         if (linking == ic::status::linked && made(view.remove(place), ic::status::ok)) {
             plain.remove(place);
             other.remove(place);

@@ -69,6 +69,24 @@ pub fn chain(buckets: &[Stack], hash: u64) -> Option<&Stack> {
     buckets.get(at as usize)
 }
 
+/// Iterates over all members, chain by chain, in O(buckets + n). It ends after as many members as the table has places.
+///
+/// ```
+/// use ic::{hash, Error, Link1, Stack};
+///
+/// let mut links = [Link1::UNLINKED; 5];
+/// let mut buckets = [const { Stack::new() }; 2];
+/// for place in 0..4 {
+///     hash::insert(&mut links, &mut buckets, place.into(), place)?;
+/// }
+/// assert!(hash::iter(&links, &buckets).eq([2, 0, 3, 1]));
+/// # Ok::<(), Error>(())
+/// ```
+#[inline]
+pub fn iter<'a>(table: &'a [Link1], buckets: &'a [Stack]) -> impl Iterator<Item = u32> + 'a {
+    buckets.iter().flat_map(|chain| chain.iter(table)).take(table.len())
+}
+
 // tools/c-calls --write writes from here: hash
 /// Inserts `place` at the front of the chain of `hash`, in O(1).
 ///

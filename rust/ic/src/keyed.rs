@@ -151,6 +151,32 @@ impl Tree {
         gap.insert(self, table, place)
     }
 
+    /// Finds the first member of which `compare` returns [`Ordering::Equal`], in O(log n). It returns whether the member comes before what you
+    /// look for ([`Ordering::Less`]), or after it, as that of [`slice::binary_search_by`] does.
+    ///
+    /// ```
+    /// # use ic::{Error, Link3, Tree};
+    /// let names = ["oak", "ash", "elm"];
+    /// let (mut links, mut tree) = ([Link3::UNLINKED; 3], Tree::new());
+    /// for place in 0..3 {
+    ///     tree.insert_by(&mut links, place, |one, other| names[one as usize].cmp(names[other as usize]))?;
+    /// }
+    /// assert_eq!(tree.find_by(&links, |member| names[member as usize].cmp("elm")), Some(2));
+    /// assert_eq!(tree.find_by(&links, |member| names[member as usize].cmp("fir")), None);
+    /// # Ok::<(), Error>(())
+    /// ```
+    pub fn find_by(&self, table: &[Link3], mut compare: impl FnMut(u32) -> Ordering) -> Option<u32> {
+        let mut found = None;
+        Gap::find(self, table, |member| {
+            let order = compare(member);
+            if order == Ordering::Equal {
+                found = Some(member);
+            }
+            order != Ordering::Less
+        });
+        found
+    }
+
     /// Iterates over the members whose keys are in a range, in order, in O(log n), and in O(n) for a walk over all. There are none if the
     /// range ends before it starts.
     ///

@@ -217,6 +217,18 @@ impl Stack {
         counted(|members| unsafe { ic_stack_check(links, places, &self.0, members) })
     }
     // to here
+
+    /// Removes `place`, wherever it is in the list, in O(n): a list is a hash table with one bucket.
+    ///
+    /// # Errors
+    ///
+    /// [`Error::Null`] if `place` is `u32::MAX`. [`Error::OutOfRange`] if `place` is not below the table's length. [`Error::NotLinked`] if
+    /// `place` is not linked. [`Error::Broken`] if `place` is no member of this list, but perhaps of another one, or the list does not belong
+    /// to this table.
+    #[inline]
+    pub fn remove(&mut self, table: &mut [Link1], place: u32) -> Result<(), Error> {
+        crate::hash::remove(table, core::slice::from_mut(self), 0, place)
+    }
 }
 
 collection!(Stack, Link1);

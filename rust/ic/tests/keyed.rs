@@ -128,6 +128,7 @@ impl Pair {
         assert_eq!(tree.lower_bound(links, keys, key), Ok(at_least.map(|(_, place)| place)));
         assert_eq!(tree.upper_bound(links, keys, key), Ok(at_most));
         assert_eq!(tree.find(links, keys, key), Ok(equal.map(|(_, place)| place)));
+        assert_eq!(tree.find_by(links, |member| keys[member as usize].cmp(&key)), equal.map(|(_, place)| place));
     }
 }
 

@@ -236,6 +236,15 @@ fn stack_refuses() {
     assert_eq!(stack.insert_after(&mut links, Some(1), 2), Err(Error::NotLinked));
     assert!(stack.pop_front(&mut links[..0]).is_err());
     assert!(stack.iter(&links).eq([0]));
+    let mut other = Stack::new();
+    other.push_front(&mut links, 3).unwrap();
+    other.push_front(&mut links, 2).unwrap();
+    assert_eq!(other.remove(&mut links, 0), Err(Error::Broken));
+    assert_eq!(other.remove(&mut links, 4), Err(Error::NotLinked));
+    assert_eq!(other.remove(&mut links, 8), Err(Error::OutOfRange));
+    assert_eq!(other.remove(&mut links, u32::MAX), Err(Error::Null));
+    assert_eq!(other.remove(&mut links, 3), Ok(()));
+    assert!(other.iter(&links).eq([2]) && stack.iter(&links).eq([0]));
 }
 
 #[test]
