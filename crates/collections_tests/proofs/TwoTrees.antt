@@ -11,6 +11,7 @@ use Rattle.ic_link_ops.proofs.Times.{one_at_other}
 use Rattle.ic_rbtree.specs.Ordered.{InsertsInOrder}
 use Rattle.ic_augmented.specs.Beside.{IsWrittenWithin}
 use Rattle.ic_augmented.specs.Consistent.{IsSameAt, ShowsConsistent, ShowsSummed}
+use Rattle.ic_augmented.specs.Fresh.{ShowsFresh}
 use Rattle.ic_augmented.specs.SumTables.{joined_in}
 use Rattle.ic_augmented.specs.Sums.{Sums}
 use Rattle.ic_augmented.specs.declared.sum_table.Cell.{Cell}
@@ -46,8 +47,8 @@ module _ {E S : Type 0} {n : E → Node} where
   nothing_right z v e = (nothing_there v e, λ q member but x fresh. absurd (omega (arith, member)))
 
   -- the first member of an empty tree
-  pub alone : {at : Place → Ordering} {y : Sums S} {old w : Table E} {root : Option Place} {p : Place} → InsertsInOrder (ShowsSummed n y) at old w root [] p → ShowsSummed n y w root (p ∷ [])
-  alone {y = y} {w = w} {root} {p} i = subst (ShowsSummed n y w root) (cut_nothing i.gap.front i.gap.back p i.same) i.inserted.shows
+  pub alone : {at : Place → Ordering} {y : Sums S} {old w : Table E} {root : Option Place} {p : Place} → InsertsInOrder (ShowsFresh n y) at old w root [] p → ShowsSummed n y w root (p ∷ [])
+  alone {y = y} {w = w} {root} {p} i = subst (ShowsSummed n y w root) (cut_nothing i.gap.front i.gap.back p i.same) i.inserted.shows.summed
 
   -- THE FIRST TREE STAYS SUMMED, where the second one gets its first member
   pub beside_stays : {v w : Table E} {z y : Sums S} {first second : Option Place} {p q : Place} → ShowsSummed n z v first (p ∷ []) → z.fresh q ≡ None → q ≢ p → second ≡ None

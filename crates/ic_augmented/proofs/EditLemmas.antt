@@ -28,6 +28,7 @@ use Rattle.ic_rbtree.proofs.ShownClosed.{among_there, with_itself, shown_closed,
 use Rattle.ic_augmented.specs.Sums.{Sums, is_fresh, Invalidates}
 use Rattle.ic_augmented.specs.Consistent.{IsSameAt, IsConsistentBut, IsConsistent, IsConsistentTree, KeepsConsistent, ShowsConsistent, ShowsSummed, Refreshes, IsJoined}
 use Rattle.ic_augmented.specs.Beside.{IsEdgeOf}
+use Rattle.ic_augmented.specs.Fresh.{ShowsFresh}
 use Rattle.ic_augmented.proofs.BesideLemmas.{edge_of}
 use Rattle.ic_augmented.proofs.FenceLemmas.{fence_of, fence_is, members_of, members_are}
 use Rattle.ic_augmented.proofs.ConsistencyLemmas.{not_stale, invalidated_same, times_top, summed_top, fresh_summed, consistent_tree, tree_consistent, consistent_kept, summed_consistent_tree}
@@ -99,6 +100,12 @@ module _ {E : Type 0} (n : E → Node) where
     -- the others are shown then, and nothing but entries of members is changed
     pub unlinked : {z : Table E} → ChangesOnly w z p → Removes (Shows n) v z new_root (record { front = front; back = p ∷ back })
     unlinked {z} only = removes n v w z root new_root p (record { front = front; back = p ∷ back }) back refl (shown_of n h) (taken v front back [] (shown_of n h)) only
+
+  -- the table covers as many places
+  pub attached_extent : (v w : Table E) (root new_root parent : Option Place) (d : Side) (p : Place) (gap : Cut) → Attaches n v w root new_root parent d p
+      → IsNode n v p → IsAbsent p (join gap) → Shows n v root (join gap) → IsHole n v parent d gap → w.extent ≡ v.extent
+  attached_extent v w root new_root parent d p gap done linked out h hole =
+      (inserts n v v w root new_root p gap (unchanged v p) (done v gap [] (loose_shown v root (join gap) p h out linked) hole)).frame.extent
 
   -- and a tree that shares no place with it is as it was
   pub attached_others : (v w : Table E) (root new_root parent other : Option Place) (d : Side) (p : Place) (gap : Cut) (t : List Place) → Attaches n v w root new_root parent d p
@@ -208,22 +215,16 @@ module _ {E S : Type 0} (n : E → Node) where
       → ShowsConsistent n z old root s → ShowsConsistent n z v root t
   acquired_consistent old v z root s t p e free only h = subst (ShowsConsistent n z v root) (sym e) (beside_shows old v z root s p (free_absent h.0 free) only h)
 
-  -- an insert in order, into a tree that is summed then
-  pub inserts_summed : {at : Place → Ordering} (old w : Table E) (x : Sums S) (root : Option Place) (s : List Place) (p : Place) (gap : Cut) → ShowsSummed n x w root (insert gap p)
-      → InsertsInOrder (Shows n) at old w root s p → InsertsInOrder (ShowsSummed n x) at old w root s p
-  inserts_summed old w x root s p gap h i = record {
-    gap = i.gap;
-    same = i.same;
-    border = i.border;
-    inserted = record { shows = subst (ShowsSummed n x w root) (one_sequence h.shows i.inserted.shows) h; frame = i.inserted.frame };
-  }
+  -- and so all is fresh
+  pub all_fresh : (v : Table E) (z : Sums S) (root : Option Place) (s : List Place) → ShowsSummed n z v root s → ShowsFresh n z v root s
+  all_fresh v z root s h = record { summed = h; consistent = still_consistent v z root s h }
 
-  -- and so consistent
-  pub inserts_still : {at : Place → Ordering} (old w : Table E) (x : Sums S) (root : Option Place) (s : List Place) (p : Place)
-      → InsertsInOrder (ShowsSummed n x) at old w root s p → InsertsInOrder (ShowsConsistent n x) at old w root s p
-  inserts_still old w x root s p i = record {
+  -- an insert in order, into a tree that is summed then
+  pub inserts_fresh : {at : Place → Ordering} (old w : Table E) (x : Sums S) (root : Option Place) (s : List Place) (p : Place) (gap : Cut) → ShowsFresh n x w root (insert gap p)
+      → InsertsInOrder (Shows n) at old w root s p → InsertsInOrder (ShowsFresh n x) at old w root s p
+  inserts_fresh old w x root s p gap h i = record {
     gap = i.gap;
     same = i.same;
     border = i.border;
-    inserted = record { shows = still_consistent w x root (insert i.gap p) i.inserted.shows; frame = i.inserted.frame };
+    inserted = record { shows = subst (ShowsFresh n x w root) (one_sequence h.summed.shows i.inserted.shows) h; frame = i.inserted.frame };
   }

@@ -8,6 +8,7 @@ use Rattle.ic_link_ops.proofs.ShownTrees.{one_sequence}
 use Rattle.ic_rbtree.specs.Ordered.{InsertsInOrder}
 use Rattle.ic_augmented.specs.declared.sum_table.SumTable.{SumTable}
 use Rattle.ic_augmented.specs.Consistent.{IsJoined, IsSameAt, IsConsistent, ShowsConsistent}
+use Rattle.ic_augmented.specs.Fresh.{ShowsFresh}
 use Rattle.ic_augmented.specs.Greatest.{greatest, greatest_of, number_at}
 use Rattle.ic_augmented.specs.GreatestLaws.{greatest_tells}
 use Rattle.ic_augmented.specs.Sums.{Sums}
@@ -26,6 +27,11 @@ module _ {E S : Type 0} (n : E → Node) where
   pub inserts_shown : {at : Place → Ordering} {old new : Table E} {z : Sums S} {root : Option Place} {s : List Place} {p : Place} → InsertsInOrder (ShowsConsistent n z) at old new root s p
       → InsertsInOrder (Shows n) at old new root s p
   inserts_shown i = record { gap = i.gap; same = i.same; border = i.border; inserted = record { shows = i.inserted.shows.0; frame = i.inserted.frame } }
+
+  -- and one after which all is fresh, of consistency alone
+  pub inserts_consistent : {at : Place → Ordering} {old new : Table E} {z : Sums S} {root : Option Place} {s : List Place} {p : Place} → InsertsInOrder (ShowsFresh n z) at old new root s p
+      → InsertsInOrder (ShowsConsistent n z) at old new root s p
+  inserts_consistent i = record { gap = i.gap; same = i.same; border = i.border; inserted = record { shows = i.inserted.shows.consistent; frame = i.inserted.frame } }
 
   -- what is consistent in one sequence that is shown is so in each
   pub consistent_in : {v : Table E} {z : Sums S} {root : Option Place} {t : List Place} (s : List Place) → ShowsConsistent n z v root t → Shows n v root s → IsConsistent n v z s

@@ -3,6 +3,7 @@ pub mod MarkLaws
 pub mod Summed
 pub mod Consistent
 pub mod Beside
+pub mod Fresh
 pub mod Fences
 pub mod SummedSteps
 pub mod StepLaws

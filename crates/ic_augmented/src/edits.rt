@@ -10,17 +10,17 @@
 
 ghost use Rattle.std.specs.Prelude.{◌≡◌, Option, Some, None, List, [], ◌∷◌, ◌++◌};
 ghost use Rattle.ic_unsafe_ref.specs.declared.place.Place.{Place};
-ghost use Rattle.ic_link_ops.specs.Sequences.{Cut, join, insert, IsAbsent, IsDisjoint, IsDistinct};
+ghost use Rattle.ic_link_ops.specs.Sequences.{Cut, join, insert, IsAbsent, IsDistinct};
 ghost use Rattle.ic_link_ops.specs.Positions.{HasMember};
 ghost use Rattle.ic_link_ops.specs.RedBlackTree.{Shows};
 ghost use Rattle.ic_rbtree.specs.Closed.{IsNode, IsSafeBut, KeepsNodes};
 ghost use Rattle.ic_rbtree.specs.Insertion.{IsHole, Attaches};
 ghost use Rattle.ic_rbtree.specs.Kept.{TellsEnds, IsBelow};
 ghost use Rattle.ic_rbtree.specs.Transplants.{TakesAway};
-ghost use Rattle.ic_rbtree.specs.Tree.{head_of, root_in, adapter_of};
+ghost use Rattle.ic_rbtree.specs.Tree.{head_of, root_in};
 ghost use Rattle.ic_augmented.specs.Summed.{links_of, sums_of};
-ghost use Rattle.ic_augmented.specs.Beside.{IsWrittenWithin};
 ghost use Rattle.ic_augmented.specs.Consistent.{IsSameAt, ShowsConsistent, ShowsSummed};
+ghost use Rattle.ic_augmented.specs.Fresh.{KeepsBesideTree, ShowsFresh};
 
 use crate::climb::{settle, settle_without};
 use crate::marking::{attach_marking, unlink_marking};
@@ -49,28 +49,16 @@ pub fn attach_fresh<A, E: TreeHead, N: Nodes, M: RenewSums>(
     requires hole { (gap : Cut) × IsNode N.node (N.table (links_of summed.old)) place × IsAbsent place (join gap)
         × Shows N.node (N.table (links_of summed.old)) (root_in E.kept tree.old) (join gap) × IsHole N.node (N.table (links_of summed.old)) parent side gap }
     requires covered { (q : Place) → IsNode N.node (N.table (links_of summed.old)) q → M.Covers (sums_of summed.old) q }
-    ensures summed { (gap : Cut) → IsNode N.node (N.table (links_of summed.old)) place → IsAbsent place (join gap)
+    ensures fresh { (gap : Cut) → IsNode N.node (N.table (links_of summed.old)) place → IsAbsent place (join gap)
         → ShowsConsistent N.node (M.sums (sums_of summed.old)) (N.table (links_of summed.old)) (root_in E.kept tree.old) (join gap)
         → IsHole N.node (N.table (links_of summed.old)) parent side gap
-        → ShowsSummed N.node (M.sums (sums_of summed.new)) (N.table (links_of summed.new)) (root_in E.kept tree.new) (insert gap place) }
-    ensures consistent { (gap : Cut) → IsNode N.node (N.table (links_of summed.old)) place → IsAbsent place (join gap)
-        → ShowsConsistent N.node (M.sums (sums_of summed.old)) (N.table (links_of summed.old)) (root_in E.kept tree.old) (join gap)
-        → IsHole N.node (N.table (links_of summed.old)) parent side gap
-        → ShowsConsistent N.node (M.sums (sums_of summed.new)) (N.table (links_of summed.new)) (root_in E.kept tree.new) (insert gap place) }
-    ensures others { (s t : List Place) (other : Option Place) → Shows N.node (N.table (links_of summed.old)) (root_in E.kept tree.old) s → IsDisjoint t s → IsAbsent place t
-        → ShowsConsistent N.node (M.sums (sums_of summed.old)) (N.table (links_of summed.old)) other t
-        → ShowsConsistent N.node (M.sums (sums_of summed.new)) (N.table (links_of summed.new)) other t }
-    ensures same { (s : List Place) → Shows N.node (N.table (links_of summed.old)) (root_in E.kept tree.old) s
-        → IsWrittenWithin (M.sums (sums_of summed.old)) (place ∷ s) → (q : Place) → IsAbsent q (place ∷ s)
-        → IsSameAt (M.sums (sums_of summed.old)) (M.sums (sums_of summed.new)) q }
+        → ShowsFresh N.node (M.sums (sums_of summed.new)) (N.table (links_of summed.new)) (root_in E.kept tree.new) (insert gap place) }
     ensures attached { Attaches N.node (N.table (links_of summed.old)) (N.table (links_of summed.new)) (root_in E.kept tree.old) (root_in E.kept tree.new) parent side place }
     ensures ends { (gap : Cut) → IsBelow parent side gap → IsDistinct (join gap) → TellsEnds (E.kept (head_of tree.old)) (join gap)
         → TellsEnds (E.kept (head_of tree.new)) (insert gap place) }
     ensures linked { KeepsNodes N.node (N.table (links_of summed.old)) (N.table (links_of summed.new)) }
     ensures quiet { N.Quiet (links_of summed.old) (links_of summed.new) }
-    ensures join { (M.sums (sums_of summed.new)).join ≡ (M.sums (sums_of summed.old)).join }
-    ensures covers { (q : Place) → M.Covers (sums_of summed.old) q → M.Covers (sums_of summed.new) q }
-    ensures adapter { adapter_of tree.new ≡ adapter_of tree.old }
+    ensures beside { KeepsBesideTree E.kept N.node N.table M.sums M.Covers (place ∷ []) (place ∷ []) tree.old tree.new summed.old summed.new }
 {
     invalidate_up(&summed.links, &mut summed.sums, place);
     let edge = attach_marking::<Brand, _, _, _, _>(tree, summed, parent, side, place);
@@ -93,23 +81,15 @@ pub fn unlink_fresh<A, E: TreeHead, N: Nodes, M: RenewSums>(
 )
     requires member { HasMember (Shows N.node (N.table (links_of summed.old)) (root_in E.kept tree.old)) place }
     requires covered { (q : Place) → IsNode N.node (N.table (links_of summed.old)) q → M.Covers (sums_of summed.old) q }
-    ensures summed { (front back : List Place)
+    ensures fresh { (front back : List Place)
         → ShowsConsistent N.node (M.sums (sums_of summed.old)) (N.table (links_of summed.old)) (root_in E.kept tree.old) (front ++ place ∷ back)
-        → ShowsSummed N.node (M.sums (sums_of summed.new)) (N.table (links_of summed.new)) (root_in E.kept tree.new) (front ++ back) }
-    ensures others { (s t : List Place) (other : Option Place) → Shows N.node (N.table (links_of summed.old)) (root_in E.kept tree.old) s → IsDisjoint t s
-        → ShowsConsistent N.node (M.sums (sums_of summed.old)) (N.table (links_of summed.old)) other t
-        → ShowsConsistent N.node (M.sums (sums_of summed.new)) (N.table (links_of summed.new)) other t }
-    ensures same { (s : List Place) → Shows N.node (N.table (links_of summed.old)) (root_in E.kept tree.old) s
-        → IsWrittenWithin (M.sums (sums_of summed.old)) s → (q : Place) → IsAbsent q s
-        → IsSameAt (M.sums (sums_of summed.old)) (M.sums (sums_of summed.new)) q }
+        → ShowsFresh N.node (M.sums (sums_of summed.new)) (N.table (links_of summed.new)) (root_in E.kept tree.new) (front ++ back) }
     ensures stale { (M.sums (sums_of summed.new)).fresh place ≡ None }
     ensures taken { TakesAway N.node (N.table (links_of summed.old)) (N.table (links_of summed.new)) (root_in E.kept tree.old) (root_in E.kept tree.new) place }
     ensures ends { (front back : List Place) → Shows N.node (N.table (links_of summed.old)) (root_in E.kept tree.old) (front ++ place ∷ back)
         → TellsEnds (E.kept (head_of tree.old)) (front ++ place ∷ back) → TellsEnds (E.kept (head_of tree.new)) (front ++ back) }
     ensures quiet { N.Quiet (links_of summed.old) (links_of summed.new) }
-    ensures join { (M.sums (sums_of summed.new)).join ≡ (M.sums (sums_of summed.old)).join }
-    ensures covers { (q : Place) → M.Covers (sums_of summed.old) q → M.Covers (sums_of summed.new) q }
-    ensures adapter { adapter_of tree.new ≡ adapter_of tree.old }
+    ensures beside { KeepsBesideTree E.kept N.node N.table M.sums M.Covers [] [] tree.old tree.new summed.old summed.new }
 {
     let edge = unlink_marking::<Brand, _, _, _, _>(tree, summed, place);
     settle_without(&summed.links, &mut summed.sums, place, edge);

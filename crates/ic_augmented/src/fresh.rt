@@ -7,20 +7,19 @@
 //! len(&other, &summed) // nor those of another tree in the table
 //! ```
 
-ghost use Rattle.std.specs.Prelude.{◌≡◌, Option, None, OnOk, OnErr, IfErr, List, [], ◌∷◌, ◌++◌};
+ghost use Rattle.std.specs.Prelude.{◌≡◌, None, OnOk, OnErr, IfErr, List, [], ◌∷◌, ◌++◌};
 ghost use Rattle.ic_unsafe_ref.specs.declared.place.Place.{Place};
 ghost use Rattle.ic_link_ops.specs.LinkSteps.{acquires, releases};
 ghost use Rattle.ic_link_ops.specs.Positions.{HasMember};
 ghost use Rattle.ic_link_ops.specs.RedBlackTree.{Shows};
-ghost use Rattle.ic_link_ops.specs.Sequences.{IsAbsent, IsDisjoint};
 ghost use Rattle.ic_link_ops.specs.Tables.{IsCovered, KeepsBeside};
 ghost use Rattle.ic_rbtree.specs.Comparing.{compared, own_order};
 ghost use Rattle.ic_rbtree.specs.Kept.{ShowsKept};
 ghost use Rattle.ic_rbtree.specs.Ordered.{InsertsInOrder};
 ghost use Rattle.ic_rbtree.specs.Tree.{head_of, root_in, adapter_of};
 ghost use Rattle.ic_augmented.specs.Summed.{links_of, sums_of};
-ghost use Rattle.ic_augmented.specs.Beside.{IsWrittenWithin};
-ghost use Rattle.ic_augmented.specs.Consistent.{IsSameAt, ShowsConsistent, ShowsSummed};
+ghost use Rattle.ic_augmented.specs.Consistent.{ShowsConsistent};
+ghost use Rattle.ic_augmented.specs.Fresh.{KeepsBesideTree, ShowsFresh};
 
 use crate::edits::{attach_fresh, unlink_fresh};
 use crate::summed::Summed;
@@ -46,29 +45,15 @@ pub fn insert_fresh<A: KeyAdapter, E: TreeHead, L: RBTreeOps + LinkValues<A::Val
     requires room { (q : Place) → IsCovered (L.table (links_of summed.old)) q → M.Covers (sums_of summed.old) q }
     ensures inserted { (s : List Place)
         → ShowsConsistent L.node (M.sums (sums_of summed.old)) (L.table (links_of summed.old)) (root_in E.kept tree.old) s
-        → OnOk result (InsertsInOrder (ShowsSummed L.node (M.sums (sums_of summed.new)))
-        (compared (own_order A.Key.cmp (A.key_of (adapter_of tree.old)) (L.values (links_of summed.old)) object) (L.values (links_of summed.old)))
-        (L.table (links_of summed.old)) (L.table (links_of summed.new)) (root_in E.kept tree.new) s object) }
-    ensures consistent { (s : List Place)
-        → ShowsConsistent L.node (M.sums (sums_of summed.old)) (L.table (links_of summed.old)) (root_in E.kept tree.old) s
-        → OnOk result (InsertsInOrder (ShowsConsistent L.node (M.sums (sums_of summed.new)))
+        → OnOk result (InsertsInOrder (ShowsFresh L.node (M.sums (sums_of summed.new)))
         (compared (own_order A.Key.cmp (A.key_of (adapter_of tree.old)) (L.values (links_of summed.old)) object) (L.values (links_of summed.old)))
         (L.table (links_of summed.old)) (L.table (links_of summed.new)) (root_in E.kept tree.new) s object) }
     ensures kept { (s : List Place) → ShowsKept E.kept L.node (L.table (links_of summed.old)) (head_of tree.old) s
         → OnOk result (InsertsInOrder (ShowsKept E.kept L.node)
         (compared (own_order A.Key.cmp (A.key_of (adapter_of tree.old)) (L.values (links_of summed.old)) object) (L.values (links_of summed.old)))
         (L.table (links_of summed.old)) (L.table (links_of summed.new)) (head_of tree.new) s object) }
-    ensures others { (s t : List Place) (other : Option Place) → Shows L.node (L.table (links_of summed.old)) (root_in E.kept tree.old) s → IsDisjoint t s
-        → ShowsConsistent L.node (M.sums (sums_of summed.old)) (L.table (links_of summed.old)) other t
-        → ShowsConsistent L.node (M.sums (sums_of summed.new)) (L.table (links_of summed.new)) other t }
-    ensures same { (s : List Place) → Shows L.node (L.table (links_of summed.old)) (root_in E.kept tree.old) s
-        → IsWrittenWithin (M.sums (sums_of summed.old)) (object ∷ s) → (q : Place) → IsAbsent q (object ∷ s)
-        → IsSameAt (M.sums (sums_of summed.old)) (M.sums (sums_of summed.new)) q }
     ensures acquired { OnOk result (L.Does (links_of summed.old) (links_of summed.new) (acquires object ∷ [])) }
-    ensures join { (M.sums (sums_of summed.new)).join ≡ (M.sums (sums_of summed.old)).join }
-    ensures covers { (q : Place) → M.Covers (sums_of summed.old) q → M.Covers (sums_of summed.new) q }
-    ensures extent { (L.table (links_of summed.new)).extent ≡ (L.table (links_of summed.old)).extent }
-    ensures adapter { adapter_of tree.new ≡ adapter_of tree.old }
+    ensures beside { KeepsBesideTree E.kept L.node L.table M.sums M.Covers [] (object ∷ []) tree.old tree.new summed.old summed.new }
     ensures refused { OnErr result (L.Refused (links_of summed.old) (links_of summed.new) object) }
     ensures unchanged { IfErr result (λ refused. (refused.0 ≡ object) × (tree.new ≡ tree.old) × (sums_of summed.new ≡ sums_of summed.old)) }
 {
@@ -99,22 +84,14 @@ pub fn remove_fresh<A: KeyAdapter, E: TreeHead, L: RBTreeOps, M: RenewSums>(
     requires room { (q : Place) → IsCovered (L.table (links_of summed.old)) q → M.Covers (sums_of summed.old) q }
     ensures removed { (front back : List Place)
         → ShowsConsistent L.node (M.sums (sums_of summed.old)) (L.table (links_of summed.old)) (root_in E.kept tree.old) (front ++ object.now ∷ back)
-        → ShowsSummed L.node (M.sums (sums_of summed.new)) (L.table (links_of summed.new)) (root_in E.kept tree.new) (front ++ back) }
+        → ShowsFresh L.node (M.sums (sums_of summed.new)) (L.table (links_of summed.new)) (root_in E.kept tree.new) (front ++ back) }
     ensures kept { (front back : List Place) → ShowsKept E.kept L.node (L.table (links_of summed.old)) (head_of tree.old) (front ++ object.now ∷ back)
         → ShowsKept E.kept L.node (L.table (links_of summed.new)) (head_of tree.new) (front ++ back) }
-    ensures others { (s t : List Place) (other : Option Place) → Shows L.node (L.table (links_of summed.old)) (root_in E.kept tree.old) s → IsDisjoint t s
-        → ShowsConsistent L.node (M.sums (sums_of summed.old)) (L.table (links_of summed.old)) other t
-        → ShowsConsistent L.node (M.sums (sums_of summed.new)) (L.table (links_of summed.new)) other t }
-    ensures same { (s : List Place) → Shows L.node (L.table (links_of summed.old)) (root_in E.kept tree.old) s
-        → IsWrittenWithin (M.sums (sums_of summed.old)) s → (q : Place) → IsAbsent q s
-        → IsSameAt (M.sums (sums_of summed.old)) (M.sums (sums_of summed.new)) q }
     ensures stale { (M.sums (sums_of summed.new)).fresh object.now ≡ None }
     ensures released { L.Does (links_of summed.old) (links_of summed.new) (releases object.now ∷ []) }
     ensures frame { (s : List Place) → Shows L.node (L.table (links_of summed.old)) (root_in E.kept tree.old) s
         → KeepsBeside (L.table (links_of summed.old)) (L.table (links_of summed.new)) s }
-    ensures join { (M.sums (sums_of summed.new)).join ≡ (M.sums (sums_of summed.old)).join }
-    ensures covers { (q : Place) → M.Covers (sums_of summed.old) q → M.Covers (sums_of summed.new) q }
-    ensures adapter { adapter_of tree.new ≡ adapter_of tree.old }
+    ensures beside { KeepsBesideTree E.kept L.node L.table M.sums M.Covers [] [] tree.old tree.new summed.old summed.new }
 {
     let place = object.place();
     unlink_fresh(tree, summed, place);

@@ -215,6 +215,10 @@ module _ {T K A : Type 0} {objects : Objects (Slot T)} {links : PlainTable (OneW
       counted = counted_more k.counted filled_puts refl first_vacant.2.1 (ap (home_or taken_home) first_vacant.1 ∙ ap taken_with first_vacant.2.0);
     }
 
+    -- which was vacant
+    pub filled_usable : IsUsable (object_at objects p)
+    filled_usable = subst IsUsable (sym first_vacant.1) first_vacant.2
+
     pub filled_handle : Inserts (record { place = p; generation = g }) value (naming_of objects len) (naming_of new (len + 1))
     filled_handle = inserts_filled (record { place = p; generation = g }) len first_vacant.1 (sym (fills first_vacant.0 first_vacant.1).0) filled_puts first_vacant.2.0
 

@@ -56,6 +56,10 @@ module _ {T : Type 0} where
   abbrev pub HasVacant : Naming T → Type 0
   HasVacant slots = (p : Place) × IsUsable (map.get slots.slots (index_of p))
 
+  -- the slot of a handle is vacant
+  abbrev pub IsVacantSlot : Handle → Naming T → Type 0
+  IsVacantSlot h slots = IsUsable (map.get slots.slots (index_of h.place))
+
   -- NOTHING IS NAMED, and no handle was given out
   pub record NamesNothing (slots : Naming T) : Type 0 where
     pub names : (h : Handle) → named slots h ≡ None

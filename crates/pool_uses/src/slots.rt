@@ -90,7 +90,7 @@ fn empty<T, A: Allocator>(pool: &mut Pool<Slot<T>, LinkOps<A>, A>, slot: &Unsafe
 }
 
 impl<T: Drop, A: Allocator> Slots<T, A> {
-    ghost use Rattle.pool_uses.specs.Slots.{NamesNothing, HasVacant, IsUnchanged, Inserts, Removes};
+    ghost use Rattle.pool_uses.specs.Slots.{NamesNothing, HasVacant, IsVacantSlot, IsUnchanged, Inserts, Removes};
 
     /// No value, and no handle. It takes no memory.
     pub fn new(alloc: A) -> Slots<T, A>
@@ -138,12 +138,13 @@ impl<T: Drop, A: Allocator> Slots<T, A> {
     ///
     /// The handle was never given out before. A refused value comes back, and nothing has changed: with `NoPlaceLeft`
     /// exactly if no place is left, of 4,294,967,296, and else with `OutOfMemory`. None is refused while a slot is
-    /// vacant.
+    /// vacant, and then no slot is added.
     pub fn insert(&mut self, value: T) -> Result<Handle, PlaceError<T>>
         ensures inserted { IfOk result (λ handle. Inserts handle value self.old self.new) }
         ensures refused { IfErr result (λ refused. (value_of refused ≡ value) × IsUnchanged self.old self.new
             × (lacks_place refused ≡ self.old.is_full)) }
         ensures ready { HasVacant self.old → IsOk result }
+        ensures reused { HasVacant self.old → IfOk result (λ handle. IsVacantSlot handle self.old) }
     {
         if let Some(slot) = self.vacant.pop_front(&mut self.pool.links) {
             let generation = fill(&mut self.pool, &slot, value);

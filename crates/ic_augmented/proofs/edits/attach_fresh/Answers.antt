@@ -11,7 +11,7 @@ use Rattle.ic_augmented.proofs.BesideLemmas.{written_among, absent_out, absent_i
 use Rattle.ic_augmented.proofs.ConsistencyLemmas.{same_on}
 use Rattle.ic_augmented.proofs.FenceLemmas.{fence_is}
 use Rattle.ic_augmented.proofs.ChangeLemmas.{member_out}
-use Rattle.ic_augmented.proofs.EditLemmas.{attach_closed, attached_shows, attached_others, stale_with, refreshed_tree, still_consistent, others_consistent}
+use Rattle.ic_augmented.proofs.EditLemmas.{all_fresh, attach_closed, attached_extent, attached_shows, attached_others, stale_with, refreshed_tree, others_consistent}
 use Rattle.ic_augmented.proofs.edits.attach_fresh.Goals as goal
 
 pub attach_marking-edge-requires : goal.attach_marking-edge-requires
@@ -39,41 +39,18 @@ pub refresh_below-requires-clause-covered : goal.refresh_below-requires-clause-c
 refresh_below-requires-clause-covered g c q is =
     c.settle.ensures.covers q (c.attach_marking-edge.ensures.covers q (c.invalidate_up.ensures.covers q (c.requires.covered q (sym (c.attach_marking-edge.ensures.linked q) ∙ is))))
 
-pub returns-clause-summed : goal.returns-clause-summed
-returns-clause-summed g c gap linked out h hole =
+pub returns-clause-fresh : goal.returns-clause-fresh
+returns-clause-fresh g c gap linked out h hole =
     let n = g.N.Nodes.node in
     let v = g.N.Nodes.table c.args.summed.now.links in
     let shown = attached_shows n v _ _ _ c.args.parent c.args.side c.args.place gap c.attach_marking-edge.ensures.attached linked out h.0 hole in
     let kept = stale_with n v _ _ c.args.place gap c.invalidate_up.ensures.stale c.invalidate_up.ensures.consistent h.1 in
     let right = c.settle.ensures.consistent _ gap.front gap.back shown (c.attach_marking-edge.ensures.consistent (insert gap c.args.place) kept) in
-    refreshed_tree n _ _ _ _ (insert gap c.args.place) shown right (c.refresh_below.ensures.refreshed None shown.tree shown.held.entries (c.root-top.ensures ∙ shown.starts))
+    all_fresh n _ _ _ (insert gap c.args.place)
+    (refreshed_tree n _ _ _ _ (insert gap c.args.place) shown right (c.refresh_below.ensures.refreshed None shown.tree shown.held.entries (c.root-top.ensures ∙ shown.starts)))
 
-pub returns-clause-consistent : goal.returns-clause-consistent
-returns-clause-consistent g c gap linked out h hole = still_consistent g.N.Nodes.node _ _ _ (insert gap c.args.place) (returns-clause-summed g c gap linked out h hole)
-
-pub returns-clause-join : goal.returns-clause-join
-returns-clause-join g c =
-    let r = c.requires.hole in
-    let h = attached_shows g.N.Nodes.node _ _ _ _ c.args.parent c.args.side c.args.place r.0 c.attach_marking-edge.ensures.attached r.1 r.2 r.3 r.4 in
-    (c.refresh_below.ensures.refreshed None h.tree h.held.entries (c.root-top.ensures ∙ h.starts)).join
-    ∙ (c.settle.ensures.join ∙ (c.attach_marking-edge.ensures.join ∙ c.invalidate_up.ensures.consistent.join))
-
-pub returns-clause-others : goal.returns-clause-others
-returns-clause-others g c s t other shown apart absent h =
-    let n = g.N.Nodes.node in
-    let p = c.args.place in
-    let r = c.requires.hole in
-    let done = c.attach_marking-edge.ensures.attached in
-    let tree = attached_shows n _ _ _ _ c.args.parent c.args.side p r.0 done r.1 r.2 r.3 r.4 in
-    let from : IsDisjoint t (join r.0) = subst (IsDisjoint t) (one_sequence shown r.3) apart in
-    let still = attached_others n _ _ _ _ c.args.parent other c.args.side p r.0 t done r.1 r.2 r.3 r.4 from absent h.0 in
-    let both : IsDisjoint (insert r.0 p) t = disjoint_insert r.0.front r.0.back t p (disjoint_sym t (join r.0) from) absent in
-    let settled = c.settle.ensures.others _ other r.0.front r.0.back t tree still both (c.attach_marking-edge.ensures.consistent t (c.invalidate_up.ensures.consistent.consistent t h.1)) in
-    let fresh = c.refresh_below.ensures.refreshed None tree.tree tree.held.entries (c.root-top.ensures ∙ tree.starts) in
-    others_consistent n _ _ _ other t fresh.join (λ q m. fresh.frame q (holds_out tree.held q (member_out q (insert r.0 p) t both m))) (still, settled)
-
-pub returns-clause-same : goal.returns-clause-same
-returns-clause-same g c s shown within q absent =
+pub returns-clause-beside : goal.returns-clause-beside
+returns-clause-beside g c =
     let n = g.N.Nodes.node in
     let p = c.args.place in
     let r = c.requires.hole in
@@ -82,15 +59,30 @@ returns-clause-same g c s shown within q absent =
     let z2 = g.M.Sums.sums c.attach_marking-edge.new.summed.sums in
     let z3 = g.M.Sums.sums c.settle.new.sums in
     let z4 = g.M.Sums.sums c.refresh_below.new.sums in
-    let inside = with_place p s in
-    let out = absent_out q (p ∷ s) absent in
-    let written = written_among z0 (p ∷ s) within in
-    let stale = c.invalidate_up.ensures.beside inside written (among_there p [] s) q out in
-    let still = written_still z0 z1 c.invalidate_up.ensures.consistent.marks inside written in
-    let edge = subst (λ (S : Place → Bool). IsIn S c.attach_marking-edge.result) (fence_is n p shown) c.attach_marking-edge.ensures.inside in
-    let put = subst (λ (S : Place → Bool). IsWrittenIn z1 S → IsSameBeside z1 z2 S) (fence_is n p shown) c.attach_marking-edge.ensures.beside still in
-    let tree = attached_shows n _ _ _ _ c.args.parent c.args.side p r.0 c.attach_marking-edge.ensures.attached r.1 r.2 r.3 r.4 in
-    let beyond = absent_insert q p r.0 s (one_sequence shown r.3) absent in
+    let done = c.attach_marking-edge.ensures.attached in
+    let tree = attached_shows n _ _ _ _ c.args.parent c.args.side p r.0 done r.1 r.2 r.3 r.4 in
     let fresh = c.refresh_below.ensures.refreshed None tree.tree tree.held.entries (c.root-top.ensures ∙ tree.starts) in
-    let settled = c.settle.ensures.beside _ r.0.front r.0.back tree inside (written_still z1 z2 c.attach_marking-edge.ensures.marks inside still) edge q beyond out in
-    same_on z0 z1 z4 q stale (same_on z1 z2 z4 q (put q out) (same_on z2 z3 z4 q settled (fresh.frame q (holds_out tree.held q beyond))))
+    record {
+      others = λ s t other shown apart h.
+          let both = disjoint_sym t (p ∷ s) apart in
+          let from : IsDisjoint t (join r.0) = subst (IsDisjoint t) (one_sequence shown r.3) (disjoint_sym s t both.1) in
+          let still = attached_others n _ _ _ _ c.args.parent other c.args.side p r.0 t done r.1 r.2 r.3 r.4 from both.0 h.0 in
+          let all : IsDisjoint (insert r.0 p) t = disjoint_insert r.0.front r.0.back t p (disjoint_sym t (join r.0) from) both.0 in
+          let settled = c.settle.ensures.others _ other r.0.front r.0.back t tree still all (c.attach_marking-edge.ensures.consistent t (c.invalidate_up.ensures.consistent.consistent t h.1)) in
+          others_consistent n _ _ _ other t fresh.join (λ q m. fresh.frame q (holds_out tree.held q (member_out q (insert r.0 p) t all m))) (still, settled);
+      same = λ s shown within q absent.
+          let inside = with_place p s in
+          let out = absent_out q (p ∷ s) absent in
+          let written = written_among z0 (p ∷ s) within in
+          let stale = c.invalidate_up.ensures.beside inside written (among_there p [] s) q out in
+          let still = written_still z0 z1 c.invalidate_up.ensures.consistent.marks inside written in
+          let edge = subst (λ (S : Place → Bool). IsIn S c.attach_marking-edge.result) (fence_is n p shown) c.attach_marking-edge.ensures.inside in
+          let put = subst (λ (S : Place → Bool). IsWrittenIn z1 S → IsSameBeside z1 z2 S) (fence_is n p shown) c.attach_marking-edge.ensures.beside still in
+          let beyond = absent_insert q p r.0 s (one_sequence shown r.3) absent in
+          let settled = c.settle.ensures.beside _ r.0.front r.0.back tree inside (written_still z1 z2 c.attach_marking-edge.ensures.marks inside still) edge q beyond out in
+          same_on z0 z1 z4 q stale (same_on z1 z2 z4 q (put q out) (same_on z2 z3 z4 q settled (fresh.frame q (holds_out tree.held q beyond))));
+      join = fresh.join ∙ (c.settle.ensures.join ∙ (c.attach_marking-edge.ensures.join ∙ c.invalidate_up.ensures.consistent.join));
+      covers = λ q h. c.refresh_below.ensures.covers q (c.settle.ensures.covers q (c.attach_marking-edge.ensures.covers q (c.invalidate_up.ensures.covers q h)));
+      extent = attached_extent n _ _ _ _ c.args.parent c.args.side p r.0 done r.1 r.2 r.3 r.4;
+      adapter = c.attach_marking-edge.ensures.adapter;
+    }

@@ -4,13 +4,14 @@ use Rattle.ic_unsafe_ref.specs.Places.{index_of}
 use Rattle.ic_link_ops.specs.Sequences.{join}
 use Rattle.ic_link_ops.specs.RedBlackTree.{Shows}
 use Rattle.ic_link_ops.specs.Tables.{Table, Extent}
+use Rattle.ic_link_ops.proofs.SequenceLemmas.{disjoint_cons}
 use Rattle.ic_link_ops.proofs.ShownTrees.{free_absent}
 use Rattle.ic_rbtree.specs.Kept.{alone, root_kept}
 use Rattle.ic_rbtree.proofs.InOrder.{ended_in_order, still_shown, fits_safe, fitted, own_is}
 use Rattle.ic_rbtree.proofs.KeptHeads.{shown}
 use Rattle.ic_rbtree.proofs.PlacedMembers.{members_placed}
 use Rattle.ic_augmented.specs.Consistent.{ShowsConsistent}
-use Rattle.ic_augmented.proofs.EditLemmas.{free_member, acquired_consistent, beside_shows, own_searched, inserts_summed, inserts_still}
+use Rattle.ic_augmented.proofs.EditLemmas.{free_member, acquired_consistent, beside_shows, own_searched, inserts_fresh}
 use Rattle.ic_augmented.proofs.fresh.insert_fresh.Goals as goal
 
 pub descend-hole-requires-clause-placed : goal.descend-hole-requires-clause-placed
@@ -56,17 +57,14 @@ returns-clause-inserted g c s was =
     let there = still_shown n g.L.LinkOps.linked alike l.was l.is c.acquire_link.ensures.frame was.0 in
     let x = ended_in_order n there (c.descend-hole.ensures.ends s there) c.get.ensures in
     let free = alike _ ∙ l.was in
-    let summed = c.attach_fresh.ensures.summed x.gap (alike _ ∙ l.is) (free_member n _ _ s (join x.gap) c.place-place.result x.same was.0 free)
+    let fresh = c.attach_fresh.ensures.fresh x.gap (alike _ ∙ l.is) (free_member n _ _ s (join x.gap) c.place-place.result x.same was.0 free)
     (acquired_consistent n _ _ _ _ s (join x.gap) c.place-place.result x.same free c.acquire_link.ensures.frame was) x.hole in
     own_searched g.A.Key.Ord.cmp (g.A.KeyAdapter.key_of c.args.tree.now.adapter) c.place-place.ensures (g.met.L.LinkValues.values_stay _ _ c.acquire_link.ensures.frame.extent)
     (own_is g.A.Key.Ord.cmp g.A.KeyAdapter.key_of values (c.new-probe.ensures.adapter ∙ c.adapter-adapter.ensures)
     (c.new-probe.ensures.key ∙ (c.get_key.ensures ∙ ap (λ z. g.A.KeyAdapter.key_of z c.value.result.now) c.adapter-adapter.ensures)) refl c.value.ensures)
-    (inserts_summed n _ _ _ _ s c.place-place.result x.gap summed
+    (inserts_fresh n _ _ _ _ s c.place-place.result x.gap fresh
     (fitted n g.L.LinkOps.linked alike l.was l.is c.acquire_link.ensures.frame alone (root_kept (kept c.args.tree.now.head)) (root_kept (kept c.attach_fresh.new.tree.head)) was.0 x
     c.attach_fresh.ensures.attached (λ gap below distinct told. tt)))
-
-pub returns-clause-consistent : goal.returns-clause-consistent
-returns-clause-consistent g c s was = inserts_still g.L.RBTreeOps.node _ _ _ _ s _ (returns-clause-inserted g c s was)
 
 pub returns-clause-kept : goal.returns-clause-kept
 returns-clause-kept g c s h =
@@ -82,35 +80,33 @@ returns-clause-kept g c s h =
     (c.new-probe.ensures.key ∙ (c.get_key.ensures ∙ ap (λ z. g.A.KeyAdapter.key_of z c.value.result.now) c.adapter-adapter.ensures)) refl c.value.ensures)
     (fitted n g.L.LinkOps.linked alike l.was l.is c.acquire_link.ensures.frame kept c.args.tree.now.head c.attach_fresh.new.tree.head h x c.attach_fresh.ensures.attached c.attach_fresh.ensures.ends)
 
-pub returns-clause-extent : goal.returns-clause-extent
-returns-clause-extent g c =
-    let n = g.L.RBTreeOps.node in
-    let kept = g.E.TreeHead.kept in
-    let alike = g.met.L.RBTreeOps.linked_alike in
-    let r = c.requires.shown in
-    let l = g.met.L.LinkOps.does_replay _ _ _ c.if-not-acquire_link.ensures.acquired in
-    let there = still_shown n g.L.LinkOps.linked alike l.was l.is c.acquire_link.ensures.frame r.1 in
-    let x = ended_in_order n there (c.descend-hole.ensures.ends r.0 there) c.get.ensures in
-    (fitted n g.L.LinkOps.linked alike l.was l.is c.acquire_link.ensures.frame alone (root_kept (kept c.args.tree.now.head)) (root_kept (kept c.attach_fresh.new.tree.head)) r.1 x
-    c.attach_fresh.ensures.attached (λ gap below distinct told. tt)).inserted.frame.extent
-
-pub returns-clause-others : goal.returns-clause-others
-returns-clause-others g c s t other was apart h =
+pub returns-clause-beside : goal.returns-clause-beside
+returns-clause-beside g c =
     let n = g.L.RBTreeOps.node in
     let alike = g.met.L.RBTreeOps.linked_alike in
     let l = g.met.L.LinkOps.does_replay _ _ _ c.if-not-acquire_link.ensures.acquired in
     let only = c.acquire_link.ensures.frame in
-    let absent = free_absent h.0 (alike _ ∙ l.was) in
-    c.attach_fresh.ensures.others s t other (still_shown n g.L.LinkOps.linked alike l.was l.is only was) apart absent (beside_shows n _ _ _ other t c.place-place.result absent only h)
+    let kept = c.attach_fresh.ensures.beside in
+    record {
+      others = λ s t other was apart h.
+          let absent = free_absent h.0 (alike _ ∙ l.was) in
+          kept.others s t other (still_shown n g.L.LinkOps.linked alike l.was l.is only was) (disjoint_cons c.place-place.result t s absent apart) (beside_shows n _ _ _ other t c.place-place.result absent only h);
+      same = λ s was within q absent. kept.same s (still_shown n g.L.LinkOps.linked alike l.was l.is only was) (rw c.place-place.ensures within) q (rw c.place-place.ensures absent);
+      join = kept.join;
+      covers = kept.covers;
+      extent = kept.extent ∙ only.extent;
+      adapter = kept.adapter;
+    }
 
-pub returns-then-not-acquire_link-clause-others : goal.returns-then-not-acquire_link-clause-others
-returns-then-not-acquire_link-clause-others g c s t other was apart h =
-    subst (λ (v : Table g.row.L-Entry.Denot). ShowsConsistent g.L.RBTreeOps.node (g.M.Sums.sums c.args.summed.now.sums) v other t)
-    (sym (g.met.L.LinkOps.refused_keeps _ _ _ c.if-not-acquire_link.ensures.refused)) h
-
-pub returns-clause-same : goal.returns-clause-same
-returns-clause-same g c s was within q absent =
-    let n = g.L.RBTreeOps.node in
-    let alike = g.met.L.RBTreeOps.linked_alike in
-    let l = g.met.L.LinkOps.does_replay _ _ _ c.if-not-acquire_link.ensures.acquired in
-    c.attach_fresh.ensures.same s (still_shown n g.L.LinkOps.linked alike l.was l.is c.acquire_link.ensures.frame was) (rw c.place-place.ensures within) q (rw c.place-place.ensures absent)
+pub returns-then-not-acquire_link-clause-beside : goal.returns-then-not-acquire_link-clause-beside
+returns-then-not-acquire_link-clause-beside g c =
+    let stays = g.met.L.LinkOps.refused_keeps _ _ _ c.if-not-acquire_link.ensures.refused in
+    record {
+      others = λ s t other was apart h.
+          subst (λ (v : Table g.row.L-Entry.Denot). ShowsConsistent g.L.RBTreeOps.node (g.M.Sums.sums c.args.summed.now.sums) v other t) (sym stays) h;
+      same = λ s was within q absent. record { fresh = refl; upper = refl };
+      join = refl;
+      covers = λ q h. h;
+      extent = ap (λ (v : Table g.row.L-Entry.Denot). v.extent) stays;
+      adapter = refl;
+    }

@@ -4,7 +4,7 @@ use Rattle.ic_link_ops.proofs.SequenceLemmas.{disjoint_right, disjoint_sym}
 use Rattle.ic_link_ops.proofs.ShownTrees.{one_sequence}
 use Rattle.ic_rbtree.proofs.KeptHeads.{shown, shows, told}
 use Rattle.ic_rbtree.proofs.Removing.{spot, spot_linked, shown_of}
-use Rattle.ic_augmented.proofs.EditLemmas.{beside_shows, beside_summed, unlinked, unlinked_absent}
+use Rattle.ic_augmented.proofs.EditLemmas.{all_fresh, beside_shows, beside_summed, unlinked, unlinked_absent}
 use Rattle.ic_augmented.proofs.fresh.remove_fresh.Goals as goal
 
 pub unlink_fresh-requires-clause-member : goal.unlink_fresh-requires-clause-member
@@ -25,7 +25,8 @@ returns-clause-removed g c front back h =
     let n = g.L.RBTreeOps.node in
     let p = c.place-place.result in
     let was = rw (← c.place-place.ensures) at h in
-    beside_summed n _ _ _ _ (front ++ back) p (unlinked_absent n _ _ _ _ front p back c.unlink_fresh.ensures.taken was.0) c.release_link.ensures.frame (c.unlink_fresh.ensures.summed front back was)
+    all_fresh n _ _ _ (front ++ back)
+    (beside_summed n _ _ _ _ (front ++ back) p (unlinked_absent n _ _ _ _ front p back c.unlink_fresh.ensures.taken was.0) c.release_link.ensures.frame (c.unlink_fresh.ensures.fresh front back was).summed)
 
 pub returns-clause-kept : goal.returns-clause-kept
 returns-clause-kept g c front back h =
@@ -36,14 +37,6 @@ returns-clause-kept g c front back h =
     shows (g.E.TreeHead.kept c.unlink_fresh.new.tree.head)
     (unlinked n _ _ _ _ front p back c.unlink_fresh.ensures.taken (shown kept was) c.release_link.ensures.frame).shows
     (c.unlink_fresh.ensures.ends front back (shown kept was) (told n _ kept (front ++ p ∷ back) was))
-
-pub returns-clause-others : goal.returns-clause-others
-returns-clause-others g c s t other was apart h =
-    let n = g.L.RBTreeOps.node in
-    let m = rw (← c.place-place.ensures) at c.requires.member in
-    let from : IsDisjoint t (m.front ++ c.place-place.result ∷ m.back) = subst (IsDisjoint t) (one_sequence was m.shown) apart in
-    let absent = (disjoint_sym t (c.place-place.result ∷ m.back) (disjoint_right t m.front (c.place-place.result ∷ m.back) from)).0 in
-    beside_shows n _ _ _ other t c.place-place.result absent c.release_link.ensures.frame (c.unlink_fresh.ensures.others s t other was apart h)
 
 pub returns-clause-stale : goal.returns-clause-stale
 returns-clause-stale g c = rw (← c.place-place.ensures) c.unlink_fresh.ensures.stale
@@ -56,3 +49,22 @@ pub returns-clause-frame : goal.returns-clause-frame
 returns-clause-frame g c s was =
     let m = rw (← c.place-place.ensures) at c.requires.member in
     rw (one_sequence was m.shown) (unlinked g.L.RBTreeOps.node _ _ _ _ m.front c.place-place.result m.back c.unlink_fresh.ensures.taken m.shown c.release_link.ensures.frame).frame
+
+pub returns-clause-beside : goal.returns-clause-beside
+returns-clause-beside g c =
+    let n = g.L.RBTreeOps.node in
+    let p = c.place-place.result in
+    let m = rw (← c.place-place.ensures) at c.requires.member in
+    let kept = c.unlink_fresh.ensures.beside in
+    let only = c.release_link.ensures.frame in
+    record {
+      others = λ s t other was apart h.
+          let from : IsDisjoint t (m.front ++ p ∷ m.back) = subst (IsDisjoint t) (one_sequence was m.shown) apart in
+          let absent = (disjoint_sym t (p ∷ m.back) (disjoint_right t m.front (p ∷ m.back) from)).0 in
+          beside_shows n _ _ _ other t p absent only (kept.others s t other was apart h);
+      same = kept.same;
+      join = kept.join;
+      covers = kept.covers;
+      extent = only.extent ∙ kept.extent;
+      adapter = kept.adapter;
+    }

@@ -24,5 +24,5 @@ nth-requires g c =
     let ok = sym c.is_ok.ensures.value ∙ is in
     let other : q ≢ p = λ i. let same : index_of q ≡ index_of p = ap index_of i in omega (arith, same, c.reference.ensures, c.reference-2.ensures) in
     let one = alone (on_ok c.insert_fresh-put.result ok (e.inserted [] (nothing_right z (g.L.LinkOps.table c.args.summed.now.links) c.requires.empty.0))) in
-    let stale = (e.same [] (nothing_there (g.L.LinkOps.table c.args.summed.now.links) c.requires.empty.0) (within_itself z p (c.requires.stale p)) q (other, tt)).fresh ∙ c.requires.stale q in
-    (p ∷ [], beside_stays one stale other c.requires.empty.1 c.insert_fresh-beside.ensures.same c.insert_fresh-beside.ensures.others)
+    let stale = (e.beside.same [] (nothing_there (g.L.LinkOps.table c.args.summed.now.links) c.requires.empty.0) (within_itself z p (c.requires.stale p)) q (other, tt)).fresh ∙ c.requires.stale q in
+    (p ∷ [], beside_stays one stale other c.requires.empty.1 c.insert_fresh-beside.ensures.beside.same c.insert_fresh-beside.ensures.beside.others)

@@ -39,5 +39,5 @@ nth-requires g c =
     let other : q ≢ p = λ i. let same : index_of q ≡ index_of p = ap index_of i in omega (arith, same, c.reference.ensures, c.reference-2.ensures) in
     let one = alone (on_ok c.insert_fresh-put.result (sym c.is_ok.ensures.value ∙ put) (e.inserted [] (nothing_right z v c.requires.empty.0))) in
     let two = alone (on_ok c.insert_fresh-beside.result (sym c.is_ok-2.ensures.value ∙ beside) (c.insert_fresh-beside.ensures.inserted [] (nothing_right y w c.requires.empty.1))) in
-    let stale = (e.same [] (nothing_there v c.requires.empty.0) (within_itself z p (c.requires.stale p)) q (other, tt)).fresh ∙ c.requires.stale q in
-    (p ∷ [], leaving_stays (beside_stays one stale other c.requires.empty.1 c.insert_fresh-beside.ensures.same c.insert_fresh-beside.ensures.others) two other c.remove_fresh.ensures.same c.remove_fresh.ensures.others)
+    let stale = (e.beside.same [] (nothing_there v c.requires.empty.0) (within_itself z p (c.requires.stale p)) q (other, tt)).fresh ∙ c.requires.stale q in
+    (p ∷ [], leaving_stays (beside_stays one stale other c.requires.empty.1 c.insert_fresh-beside.ensures.beside.same c.insert_fresh-beside.ensures.beside.others) two other c.remove_fresh.ensures.beside.same c.remove_fresh.ensures.beside.others)

@@ -1,5 +1,5 @@
-use Rattle.std.proofs.Common.{is_some, ap, ◌∙◌, arith}
-use Rattle.pool_uses.proofs.KeepingSlots.{few, filled, filled_handle, first_of_vacant, inserts_new, kept_grown, kept_placed, shown}
+use Rattle.std.proofs.Common.{is_some, ap, ◌∙◌, arith, sym, true≢false}
+use Rattle.pool_uses.proofs.KeepingSlots.{few, filled, filled_handle, filled_usable, first_of_vacant, inserts_new, kept_grown, kept_placed, shown}
 use Rattle.pool_uses.proofs.slots.Slots.insert.Goals as goal
 
 pub pop_front-requires : goal.pop_front-requires
@@ -18,6 +18,11 @@ pub returns-in-Some-clause-inserted : goal.returns-in-Some-clause-inserted
 returns-in-Some-clause-inserted g c =
     let pop = c.in-Some.ensures in
     rw (c.place.ensures, ← c.self.view_is) (filled_handle c.self.invariant c.pop_front.new.links c.pop_front.new.self c.args.value pop.answer pop.removed pop.released pop.frame c.fill-generation.ensures.filled)
+
+pub returns-in-Some-clause-reused : goal.returns-in-Some-clause-reused
+returns-in-Some-clause-reused g c can =
+    let pop = c.in-Some.ensures in
+    rw (c.place.ensures, ← c.self.view_is) (filled_usable c.self.invariant c.pop_front.new.links c.pop_front.new.self c.args.value pop.answer pop.removed pop.released pop.frame c.fill-generation.ensures.filled)
 
 -- there is none, and no place or no memory
 pub invariant_of-self-in-Err-NoPlaceLeft : goal.invariant_of-self-in-Err-NoPlaceLeft
@@ -47,3 +52,9 @@ invariant_of-self-2 g c =
 
 pub returns-clause-inserted : goal.returns-clause-inserted
 returns-clause-inserted g c = rw (c.place-3.ensures, ← c.self.view_is) (inserts_new c.in-Ok.slot c.self.inside.len c.in-Ok.ensures.placed)
+
+-- and no slot was vacant
+pub returns-clause-reused : goal.returns-clause-reused
+returns-clause-reused g c can =
+    let k = c.self.invariant in
+    absurd (true≢false (sym (ap is_some (c.in_default.ensures.answer _ (shown k)) ∙ first_of_vacant k (rw (← c.self.view_is) at can))))
