@@ -5,7 +5,7 @@ import re
 
 from checks import ROOT
 
-CRATE, RECORDS = ROOT / "crates/ic_ffi", ROOT / "crates/ic_raw/specs"
+CRATE, RECORDS = ROOT / "crates/ic_ffi", [ROOT / f"crates/{name}/specs" for name in ("ic_raw", "ic_raw_lists")]
 TABLE = CRATE / "calls.txt"
 HEADER = ROOT / "include/ic.h"
 CASES = ROOT / "tests/library/reads.txt"
@@ -15,13 +15,13 @@ Call = collections.namedtuple("Call", "name family group args roles cost what nu
 # or a slice.
 Arg = collections.namedtuple("Arg", "name type is_mut form")
 
-# A contract that is one record, and a record of crates/ic_raw, with the parameters of the module in which it stands.
+# A contract that is one record, and a record of crates/ic_raw or crates/ic_raw_lists, with the parameters of the module in which it stands.
 WHOLE = re.compile(r"^    ensures \{ ([\w.]+) (.*) \}\n$")
 MODULE = re.compile(r"^module _ (.*) where$", re.M)
 RECORD = re.compile(r"^  pub record (\w+)(.*) : Type 0 where\n((?:    .*\n)+)", re.M)
 FIELD = re.compile(r"^    pub (\w+) : ((?:.*\n)(?:      .*\n)*)", re.M)
 # By which names a file of calls has the records: each by its own, or all of one file behind a name for that file.
-USED = re.compile(r"^ghost use Rattle\.ic_raw\.specs\.(\w+Calls)(?:\.\{(.*)\}| as (\w+));$", re.M)
+USED = re.compile(r"^ghost use Rattle\.ic_raw(?:_lists)?\.specs\.(\w+Calls)(?:\.\{(.*)\}| as (\w+));$", re.M)
 # What is handed to a record in place of one parameter, and a name in a field.
 HANDED = re.compile(r"(?:\([^()]*\)|[^\s()])+")
 NAME = re.compile(r"(?<![\w.'])[\w']+(?![\w.'])")
@@ -56,7 +56,7 @@ def parameters(text):
 def records():
     """Each record that is a whole contract, by its file and its name: its parameters, and its fields by their names."""
     found = {}
-    for file in sorted(RECORDS.glob("*Calls.antt")):
+    for file in sorted(file for folder in RECORDS for file in folder.glob("*Calls.antt")):
         outer, *parts = re.split(r"^(?=module _)", file.read_text(), flags=re.M)
         for part in parts:
             module = parameters(MODULE.search(part)[1])

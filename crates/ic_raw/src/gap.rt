@@ -23,14 +23,16 @@ pub enum Side {
 /// The places on both sides of a gap, or of a member.
 #[derive(Clone, Copy)]
 pub struct Gap {
-    pub(crate) before: Option<Place>,
-    pub(crate) behind: Option<Place>,
+    /// In front of the gap.
+    pub before: Option<Place>,
+    /// Behind it.
+    pub behind: Option<Place>,
 }
 
 impl Gap {
-    // Whether the place is on neither side.
+    /// Whether the place is on neither side.
     #[inline]
-    pub(crate) fn is_apart(&self, place: Place) -> bool
+    pub fn is_apart(&self, place: Place) -> bool
         ensures { (result ≡ true) ↔ IsApart self.now place }
     {
         let word = Place::to_word(Some(place));
@@ -38,9 +40,9 @@ impl Gap {
     }
 }
 
-// Whether both lists begin with the same member, as the two names of one list do.
+/// Whether both lists begin with the same member, as the two names of one list do.
 #[inline]
-pub(crate) fn begin_alike<K: ListKind, T>(list: &Chain<K, T>, given: &Chain<K, T>) -> bool
+pub fn begin_alike<K: ListKind, T>(list: &Chain<K, T>, given: &Chain<K, T>) -> bool
     ensures apart { result ≡ false → (p : Place) → given.now.head ≡ Some p → list.now.head ≢ Some p }
     ensures alike { result ≡ true → (p : Place) × (given.now.head ≡ Some p) × (list.now.head ≡ Some p) }
 {

@@ -30,7 +30,7 @@ use ic_unsafe_ref::Place;
 use std::mem;
 
 /// A list of the caller's.
-pub(crate) type List = LinkedList<()>;
+pub type List = LinkedList<()>;
 
 // What stands behind a place, the first of the list at none.
 #[inline]
@@ -99,9 +99,9 @@ pub(crate) fn follows(
     Place::to_word(prev_of(links, list, place)) == Place::to_word(prev)
 }
 
-// The gap beside a place, at none the outermost one. None where the words tell of no gap.
+/// The gap beside a place, at none the outermost one. None where the words tell of no gap.
 #[inline]
-pub(crate) fn gap_at(
+pub fn gap_at(
     links: &RawTable<'_, RawTwo>,
     list: &List,
     side: Side,
@@ -134,9 +134,9 @@ pub(crate) fn gap_at(
     }
 }
 
-// The places on both sides of a member, at none the last one and the first. None where the words tell of no such places.
+/// The places on both sides of a member, at none the last one and the first. None where the words tell of no such places.
 #[inline]
-pub(crate) fn beside(links: &RawTable<'_, RawTwo>, list: &List, at: Option<Place>) -> Option<Gap>
+pub fn beside(links: &RawTable<'_, RawTwo>, list: &List, at: Option<Place>) -> Option<Gap>
     ensures at { (gap : Gap) → result ≡ Some gap → Stands is_linked_two (lent_table links.now) at }
     ensures stands { (gap : Gap) → result ≡ Some gap → StandBeside is_linked_two (lent_table links.now) gap }
     ensures before { (gap : Gap) → result ≡ Some gap → TellsGap Before (lent_table links.now) list.now at }

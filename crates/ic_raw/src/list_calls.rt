@@ -21,17 +21,17 @@ use crate::{list, whole};
 use ic_linked_list::LinkedList;
 use ic_unsafe_ref::Place;
 
-// The list of its two words.
+/// The list of its two words.
 #[inline]
-pub(crate) fn list_of(words: &RawEnds) -> list::List
+pub fn list_of(words: &RawEnds) -> list::List
     ensures { result ≡ ends_of words.now }
 {
     LinkedList::from_ends(place_in(words.head), place_in(words.tail))
 }
 
-// Writes the ends of the list as its two words.
+/// Writes the ends of the list as its two words.
 #[inline]
-pub(crate) fn write_back(words: &mut RawEnds, list: list::List)
+pub fn write_back(words: &mut RawEnds, list: list::List)
     ensures set { ends_of words.new ≡ list }
     ensures words { words.new ≡ words_of (ends_of words.new) }
 {

@@ -19,7 +19,7 @@ pub(crate) fn place_in(word: u64) -> Option<Place>
 
 /// The place with that index, and none at [`NONE`](crate::NONE).
 #[inline]
-pub(crate) fn place_of(index: u32) -> Option<Place>
+pub fn place_of(index: u32) -> Option<Place>
     ensures { result ≡ place_of index }
 {
     Place::from_word(8 * u64::from(index.wrapping_add(1)))

@@ -25,7 +25,7 @@ use ic_ring::{bypass, turn_to};
 use ic_unsafe_ref::Place;
 
 /// Two places, of which the second stands behind the first.
-pub(crate) type Pair = (Place, Place);
+pub type Pair = (Place, Place);
 
 // The two places, where the words tell that the second stands behind the first: both are linked, and each names the other.
 #[inline]
@@ -50,9 +50,9 @@ fn pair(links: &RawTable<'_, RawTwo>, before: Option<Place>, behind: Option<Plac
     Some((before, behind))
 }
 
-// A place and its neighbor on this side, where the words tell of them.
+/// A place and its neighbor on this side, where the words tell of them.
 #[inline]
-pub(crate) fn beside(links: &RawTable<'_, RawTwo>, side: Side, at: Place) -> Option<Pair>
+pub fn beside(links: &RawTable<'_, RawTwo>, side: Side, at: Place) -> Option<Pair>
     ensures told { (x : Place × Place) → result ≡ Some x → IsTold (lent_table links.now) x.0 x.1 × (own_on side x ≡ at) }
     ensures tells { (x : Place × Place) → IsTold (lent_table links.now) x.0 x.1 → own_on side x ≡ at → result ≡ Some x }
 {

@@ -28,7 +28,7 @@ use ic_singly_linked_list::SinglyLinkedList;
 use ic_unsafe_ref::Place;
 
 /// A list of the caller's.
-pub(crate) type Stack = SinglyLinkedList<()>;
+pub type Stack = SinglyLinkedList<()>;
 
 // What stands behind a place, the first of the list at none.
 #[inline]
@@ -153,8 +153,8 @@ pub(crate) fn replace(
     true
 }
 
-// The last member of the list with this front, if its places lead to an end within as many steps as the table has places.
-pub(crate) fn last_from(links: &RawTable<'_, RawOne>, front: Place) -> Option<Place>
+/// The last member of the list with this front, if its places lead to an end within as many steps as the table has places.
+pub fn last_from(links: &RawTable<'_, RawOne>, front: Place) -> Option<Place>
     ensures ended { (end : Place) → result ≡ Some end
         → (s : List Place) × Shows (lent_table links.now) (list_from (Some front)) s × (Some end ≡ last s) }
     ensures shown { (s : List Place) → Shows (lent_table links.now) (list_from (Some front)) s → result ≡ last s }

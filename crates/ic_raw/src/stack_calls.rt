@@ -18,17 +18,17 @@ use crate::words::{RawFront, RawOne};
 use crate::{stack, whole};
 use ic_singly_linked_list::SinglyLinkedList;
 
-// The list of its word.
+/// The list of its word.
 #[inline]
-pub(crate) fn stack_of(words: &RawFront) -> stack::Stack
+pub fn stack_of(words: &RawFront) -> stack::Stack
     ensures { result ≡ list_from (front_of words.now) }
 {
     SinglyLinkedList::from_front(place_in(words.head))
 }
 
-// Writes the front of the list as its word.
+/// Writes the front of the list as its word.
 #[inline]
-pub(crate) fn write_back(words: &mut RawFront, list: stack::Stack)
+pub fn write_back(words: &mut RawFront, list: stack::Stack)
     ensures set { front_of words.new ≡ list.head }
     ensures words { words.new ≡ word_of_front (front_of words.new) }
 {
