@@ -27,6 +27,7 @@ mod search_calls;
 mod sort_calls;
 mod stack_calls;
 mod stack_sort_calls;
+mod transfer_calls;
 mod tree_calls;
 mod xor_calls;
 

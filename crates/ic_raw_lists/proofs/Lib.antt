@@ -1,1 +1,2 @@
 pub mod SharedEnds
+pub mod Transfers

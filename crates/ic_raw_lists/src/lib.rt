@@ -11,3 +11,5 @@
 #![tactic(auto)]
 
 pub mod stack_sort_calls;
+mod transfer;
+pub mod transfer_calls;

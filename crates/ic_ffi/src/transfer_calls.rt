@@ -1,0 +1,46 @@
+//! The calls that move a member of one doubly linked list into another one of the same table.
+//!
+//! ```text
+//! ic_list_transfer_after(links, 64, &ready, IC_NONE, &waiting, 7); // IC_OK: 7 is the first member of `ready`, and no longer one of `waiting`
+//! ```
+
+ghost use Rattle.ic_raw.specs.declared.gap.Side.TheVariants.{After, Before};
+ghost use Rattle.ic_raw.specs.Words.{place_of};
+ghost use Rattle.ic_raw_lists.specs.TransferCalls.{TransferCall};
+
+use ic_raw::{RawEnds, RawTwo, Side};
+use ic_raw_lists::transfer_calls;
+
+/// Moves the member `place` of the given list after the member `at` of the list, at [`NONE`](crate::NONE) to the front. It stays linked. O(1).
+///
+/// It returns [`NULL`](crate::NULL) where `place` is [`NONE`](crate::NONE), and else the first fault of the two, or
+/// [`BROKEN`](crate::BROKEN), as for lists that begin with the same member.
+#[unsafe(no_mangle)]
+pub extern "C" fn ic_list_transfer_after(
+    table: &mut [RawTwo],
+    list: &mut RawEnds,
+    at: u32,
+    given: &mut RawEnds,
+    place: u32,
+) -> u32
+    ensures { TransferCall table.old table.new list.old list.new result After (place_of at) given.old given.new (place_of place) }
+{
+    transfer_calls::transfer_at(table, list, Side::After, at, given, place)
+}
+
+/// Moves the member `place` of the given list before the member `at` of the list, at [`NONE`](crate::NONE) to the back. It stays linked. O(1).
+///
+/// It returns [`NULL`](crate::NULL) where `place` is [`NONE`](crate::NONE), and else the first fault of the two, or
+/// [`BROKEN`](crate::BROKEN), as for lists that begin with the same member.
+#[unsafe(no_mangle)]
+pub extern "C" fn ic_list_transfer_before(
+    table: &mut [RawTwo],
+    list: &mut RawEnds,
+    at: u32,
+    given: &mut RawEnds,
+    place: u32,
+) -> u32
+    ensures { TransferCall table.old table.new list.old list.new result Before (place_of at) given.old given.new (place_of place) }
+{
+    transfer_calls::transfer_at(table, list, Side::Before, at, given, place)
+}

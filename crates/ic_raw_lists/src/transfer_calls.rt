@@ -1,0 +1,45 @@
+//! What the call does that moves a member of one doubly linked list into another one of the same table.
+//!
+//! ```text
+//! transfer_at(table, list, Side::After, NONE, given, 7) // OK: 7 is the first member of `list`, and no longer one of `given`
+//! ```
+
+ghost use Rattle.ic_raw.specs.Words.{place_of};
+ghost use Rattle.ic_raw_lists.specs.TransferCalls.{TransferCall};
+
+use crate::transfer::{gaps_to_transfer, relocate};
+use ic_raw::list_calls::{list_of, write_back};
+use ic_raw::number::place_of;
+use ic_raw::{NULL, OK, RawEnds, RawTable, RawTwo, Side};
+
+/// Moves the member `place` of the given list into the gap on this side of the member `at` of the list, at [`NONE`](ic_raw::NONE) to the end
+/// that the side means. It stays linked. O(1).
+///
+/// It returns [`NULL`] where `place` is [`NONE`](ic_raw::NONE), and else the first fault of the two, or [`BROKEN`](ic_raw::BROKEN), as for lists
+/// that begin with the same member. A refused call leaves the words as they are.
+#[inline]
+pub fn transfer_at(
+    table: &mut [RawTwo],
+    list: &mut RawEnds,
+    side: Side,
+    at: u32,
+    given: &mut RawEnds,
+    place: u32,
+) -> u32
+    ensures { TransferCall table.old table.new list.old list.new result side (place_of at) given.old given.new (place_of place) }
+{
+    let Some(member) = place_of(place) else {
+        return NULL;
+    };
+    let mut links = RawTable::new(table);
+    let mut edited = list_of(&*list);
+    let mut other = list_of(&*given);
+    let Some((from, to)) = gaps_to_transfer(&links, &edited, side, place_of(at), &other, member)
+    else {
+        return links.refusal_at_both(at, place);
+    };
+    relocate(&mut links, &mut edited, &mut other, from, member, to);
+    write_back(list, edited);
+    write_back(given, other);
+    OK
+}
