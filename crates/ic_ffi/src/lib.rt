@@ -23,6 +23,7 @@ mod hash_calls;
 mod list_calls;
 mod move_calls;
 mod ring_calls;
+mod ring_check_calls;
 mod search_calls;
 mod sort_calls;
 mod stack_calls;

@@ -1,2 +1,4 @@
 pub mod SharedEnds
 pub mod Transfers
+pub mod RingWalks
+pub mod RingViews

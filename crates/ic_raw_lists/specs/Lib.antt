@@ -1,2 +1,4 @@
 pub mod Stacks
 pub mod TransferCalls
+pub mod RingOrders
+pub mod RingCheckCalls

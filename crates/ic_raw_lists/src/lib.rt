@@ -10,6 +10,8 @@
 //! function tests what it reads and writes by, returns a status of `ic_raw`, and leaves all as it was where that is not `OK`.
 #![tactic(auto)]
 
+pub mod ring_check_calls;
+mod ring_walk;
 pub mod stack_sort_calls;
 mod transfer;
 pub mod transfer_calls;

@@ -1,0 +1,102 @@
+-- A walk around a ring of whose words nobody vouches: each place that it passes leads to the next one, which leads back.
+use Rattle.std.proofs.Common.{◌≡◌, ◌≢◌, ℕ, ◌+◌, ◌<◌, Some, None, List, [], ◌∷◌, ◌++◌, length, length-append, append_assoc, append-nil, true, refl, sym, ap, subst, ◌∙◌, arith}
+use Rattle.ic_unsafe_ref.specs.declared.place.Place.{Place}
+use Rattle.ic_link_ops.specs.Sequences.{IsAbsent, IsDistinct, first_or, last_or, last}
+use Rattle.ic_link_ops.specs.Tables.{Table, IsCovered}
+use Rattle.ic_link_ops.specs.LinkedList.{Neighbors, neighbors_at, IsBetween, IsChain}
+use Rattle.ic_link_ops.proofs.SequenceLemmas.{distinct_insert, first_or-append, last_not, last_or-append, some_same}
+use Rattle.ic_link_ops.proofs.Chains.{chain_cut, chain_glue}
+use Rattle.ic_link_ops.proofs.Walks.{stretch_length}
+use Rattle.ic_ring.specs.Rings.{IsCircle}
+
+module _ {E : Type 0} (n : E → Neighbors) where
+  -- a place that leads back to the last of a chain is none of those after its first
+  next_absent : (t : Place → E) (y x : Place) (s : List Place) → IsChain n t (Some y) s (Some x) → (n (t x)).prev ≡ last_or (Some y) s → IsDistinct (y ∷ s) → IsAbsent x s
+  next_absent t y x [] c back d = tt
+  next_absent t y x (z ∷ s) c back d = (
+    (λ e. last_not (Some z) s y (λ k. d.0.0 (sym (some_same k))) d.0.1 (sym back ∙ ap (λ q. (n (t q)).prev) e ∙ c.0.prev)),
+    next_absent t z x s c.1 back d.1,
+  )
+
+  -- THE WALK HAS PASSED `count` places, from the head on, and has come to `at`
+  pub record Passes (t : Table E) (head at : Place) (count : ℕ) : Type 0 where
+    pub passed : List Place
+    pub chain : IsChain n t.entry (neighbors_at n t head).prev passed (Some at)
+    pub starts : Some head ≡ first_or passed (Some at)
+    pub comes : (neighbors_at n t at).prev ≡ last_or (neighbors_at n t head).prev passed
+    pub distinct : IsDistinct (passed ++ at ∷ [])
+    pub counted : count ≡ length passed
+    pub leads : (s : List Place) → IsCircle n t.entry (head ∷ s) → (rest : List Place) × (head ∷ s ≡ passed ++ at ∷ rest)
+
+  -- at first it has passed none
+  pub passes_none : (t : Table E) (head : Place) → Passes t head head 0
+  passes_none t head = record { passed = []; chain = tt; starts = refl; comes = refl; distinct = (tt, tt); counted = refl; leads = λ s c. (s, refl) }
+
+  module _ {t : Table E} {head at : Place} {count : ℕ} (k : Passes t head at count) where
+    -- HOW THE PLACE STANDS in any circle: before the rest, and after the last of that the head stands again
+    pub stands_there : (s : List Place) (c : IsCircle n t.entry (head ∷ s)) → (neighbors_at n t at).next ≡ first_or (k.leads s c).0 (Some head)
+    stands_there s c =
+        let parts = (k.leads s c).1 in
+        let whole = subst (λ r. IsChain n t.entry (last (head ∷ s)) r (Some head)) parts c.chain in
+        (chain_cut (IsBetween n) t.entry (last (head ∷ s)) k.passed (at ∷ (k.leads s c).0) (Some head) whole).1.0.next
+
+    -- no circle has more places than the table
+    pub few_passed : ((q : Place) → (neighbors_at n t q).linked ≡ true → IsCovered t q) → (s : List Place) → IsCircle n t.entry (head ∷ s) → count < t.extent.places
+    few_passed covered s c =
+        let few = stretch_length {between = IsBetween n} t (λ q b a h. covered q h.linked) {b = last (head ∷ s)} {from = Some head} {to = last (head ∷ s)} {a = Some head} {w = head ∷ s}
+        (record { distinct = c.distinct; chain = c.chain; starts = refl; ends = refl }) in
+        let l = k.leads s c in
+        omega (arith, few, k.counted, ap length l.1, length-append k.passed (at ∷ l.0))
+
+    -- `next`: the place after it, which leads back to it
+    module _ {next : Place} (linked : (neighbors_at n t at).linked ≡ true) (leads : (neighbors_at n t at).next ≡ Some next) (back : (neighbors_at n t next).prev ≡ Some at) where
+      chain_on : IsChain n t.entry (neighbors_at n t head).prev (k.passed ++ at ∷ []) (Some next)
+      chain_on =
+          chain_glue (IsBetween n) t.entry (neighbors_at n t head).prev k.passed (at ∷ []) (Some next) k.chain (record { linked = linked; prev = k.comes; next = leads }, tt)
+
+      starts_on : Some head ≡ first_or (k.passed ++ at ∷ []) (Some next)
+      starts_on = k.starts ∙ sym (first_or-append k.passed (at ∷ []) (Some next))
+
+      comes_on : (neighbors_at n t next).prev ≡ last_or (neighbors_at n t head).prev (k.passed ++ at ∷ [])
+      comes_on = back ∙ sym (last_or-append (neighbors_at n t head).prev k.passed (at ∷ []))
+
+      new_place : (w : List Place) → IsDistinct w → IsChain n t.entry (neighbors_at n t head).prev w (Some next)
+          → (neighbors_at n t next).prev ≡ last_or (neighbors_at n t head).prev w → Some head ≡ first_or w (Some next) → next ≢ head → IsAbsent next w
+      new_place [] d c e starts other = tt
+      new_place (y ∷ w) d c e starts other = ((λ h. other (h ∙ sym (some_same starts))), next_absent t.entry y next w c.1 e d)
+
+      -- THE WALK GOES ON to another place than the head
+      pub passes_more : next ≢ head → {more : ℕ} → more ≡ count + 1 → Passes t head next more
+      passes_more other {more} is = record {
+        passed = k.passed ++ at ∷ [];
+        chain = chain_on;
+        starts = starts_on;
+        comes = comes_on;
+        distinct =
+            distinct_insert (k.passed ++ at ∷ []) [] next (rw append-nil k.distinct)
+            (rw append-nil (new_place (k.passed ++ at ∷ []) k.distinct chain_on comes_on starts_on other));
+        counted = omega (arith, is, k.counted, length-append k.passed (at ∷ []));
+        leads = λ s c. goes_on s c (k.leads s c).0 (k.leads s c).1 (stands_there s c);
+      } where
+        goes_on : (s : List Place) (c : IsCircle n t.entry (head ∷ s)) (rest : List Place) → head ∷ s ≡ k.passed ++ at ∷ rest
+            → (neighbors_at n t at).next ≡ first_or rest (Some head) → (r : List Place) × (head ∷ s ≡ (k.passed ++ at ∷ []) ++ next ∷ r)
+        goes_on s c [] parts stands = absurd (other (some_same (sym leads ∙ stands)))
+        goes_on s c (x ∷ rest) parts stands =
+            let same : x ≡ next = some_same (sym stands ∙ leads) in (rest, parts ∙ ap (λ p. k.passed ++ at ∷ p ∷ rest) same ∙ sym (append_assoc k.passed (at ∷ []) (next ∷ rest)))
+
+      -- AND WHERE IT COMES BACK to the head, the places are a circle
+      pub passes_all : next ≡ head → (s : List Place) × IsCircle n t.entry (head ∷ s) × (length s ≡ count)
+      passes_all same =
+          let ends : (neighbors_at n t head).prev ≡ last (k.passed ++ at ∷ []) =
+          ap (λ q. (neighbors_at n t q).prev) (sym same) ∙ back ∙ sym (last_or-append None k.passed (at ∷ [])) in
+          closes (k.passed ++ at ∷ []) k.distinct chain_on starts_on ends (omega (arith, k.counted, length-append k.passed (at ∷ []))) where
+            closes : (w : List Place) → IsDistinct w → IsChain n t.entry (neighbors_at n t head).prev w (Some next) → Some head ≡ first_or w (Some next)
+                → (neighbors_at n t head).prev ≡ last w → length w ≡ count + 1 → (s : List Place) × IsCircle n t.entry (head ∷ s) × (length s ≡ count)
+            closes [] d c starts ends long = absurd (omega (arith, long))
+            closes (y ∷ w) d c starts ends long =
+                let first_is : y ≡ head = sym (some_same starts) in
+                let back_there : IsChain n t.entry (neighbors_at n t head).prev (y ∷ w) (Some head) = subst (λ q. IsChain n t.entry (neighbors_at n t head).prev (y ∷ w) (Some q)) same c in
+                let round : IsChain n t.entry (last (y ∷ w)) (y ∷ w) (Some head) = subst (λ b. IsChain n t.entry b (y ∷ w) (Some head)) ends back_there in
+                let chain : IsChain n t.entry (last (y ∷ w)) (y ∷ w) (Some y) = subst (λ q. IsChain n t.entry (last (y ∷ w)) (y ∷ w) (Some q)) (sym first_is) round in
+                let circle : IsCircle n t.entry (y ∷ w) = record { distinct = d; chain = chain } in
+                (w, subst (λ q. IsCircle n t.entry (q ∷ w)) first_is circle, omega (arith, long))
