@@ -24,6 +24,7 @@ mod list_calls;
 mod move_calls;
 mod ring_calls;
 mod ring_check_calls;
+mod ring_sort_calls;
 mod search_calls;
 mod sort_calls;
 mod stack_calls;

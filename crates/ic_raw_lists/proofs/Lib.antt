@@ -2,3 +2,4 @@ pub mod SharedEnds
 pub mod Transfers
 pub mod RingWalks
 pub mod RingViews
+pub mod OpenedRings

@@ -11,6 +11,8 @@
 #![tactic(auto)]
 
 pub mod ring_check_calls;
+mod ring_order;
+pub mod ring_sort_calls;
 mod ring_walk;
 pub mod stack_sort_calls;
 mod transfer;
