@@ -11,7 +11,7 @@ use ic_unsafe_ref::Place;
 
 /// The place that a word names, whatever its bits are: the three lowest, and those from `2^36` on, count for nothing.
 #[inline]
-pub(crate) fn place_in(word: u64) -> Option<Place>
+pub fn place_in(word: u64) -> Option<Place>
     ensures { result ≡ place_in word }
 {
     Place::from_word(word / 8 % 8_589_934_592 * 8)
@@ -28,7 +28,7 @@ pub fn place_of(index: u32) -> Option<Place>
 /// The index of the place, as many of its bits as the number has. No call puts a place in whose index has more.
 #[inline]
 #[tactic(auto, using(crate::proofs::Numbers::index_named))]
-pub(crate) fn number_of(place: Place) -> u32
+pub fn number_of(place: Place) -> u32
     ensures { HasNumber place result }
 {
     (place.index() % 4_294_967_296) as u32
