@@ -5,7 +5,9 @@ import re
 
 from checks import ROOT
 
-CRATE, RECORDS = ROOT / "crates/ic_ffi", [ROOT / f"crates/{name}/specs" for name in ("ic_raw", "ic_raw_lists")]
+CRATE = ROOT / "crates/ic_ffi"
+# The crates whose specs have the records that are contracts.
+HOMES = ("ic_raw", "ic_raw_lists", "ic_raw_keyed")
 TABLE = CRATE / "calls.txt"
 HEADER = ROOT / "include/ic.h"
 CASES = ROOT / "tests/library/reads.txt"
@@ -15,13 +17,13 @@ Call = collections.namedtuple("Call", "name family group args roles cost what nu
 # or a slice.
 Arg = collections.namedtuple("Arg", "name type is_mut form")
 
-# A contract that is one record, and a record of crates/ic_raw or crates/ic_raw_lists, with the parameters of the module in which it stands.
+# A contract that is one record, and a record of one of these crates, with the parameters of the module in which it stands.
 WHOLE = re.compile(r"^    ensures \{ ([\w.]+) (.*) \}\n$")
 MODULE = re.compile(r"^module _ (.*) where$", re.M)
 RECORD = re.compile(r"^  pub record (\w+)(.*) : Type 0 where\n((?:    .*\n)+)", re.M)
 FIELD = re.compile(r"^    pub (\w+) : ((?:.*\n)(?:      .*\n)*)", re.M)
 # By which names a file of calls has the records: each by its own, or all of one file behind a name for that file.
-USED = re.compile(r"^ghost use Rattle\.ic_raw(?:_lists)?\.specs\.(\w+Calls)(?:\.\{(.*)\}| as (\w+));$", re.M)
+USED = re.compile(r"^(?:ghost )?use Rattle\.(\w+)\.specs\.(\w+Calls)(?:\.\{(.*)\}| as (\w+));?$", re.M)
 # What is handed to a record in place of one parameter, and a name in a field.
 HANDED = re.compile(r"(?:\([^()]*\)|[^\s()])+")
 NAME = re.compile(r"(?<![\w.'])[\w']+(?![\w.'])")
@@ -54,34 +56,48 @@ def parameters(text):
 
 
 def records():
-    """Each record that is a whole contract, by its file and its name: its parameters, and its fields by their names."""
-    found = {}
-    for file in sorted(file for folder in RECORDS for file in folder.glob("*Calls.antt")):
-        outer, *parts = re.split(r"^(?=module _)", file.read_text(), flags=re.M)
+    """Each record that is a whole contract, by its crate, its file and its name: its parameters, and its fields by their names. A field `call` is the record of
+    another call, whose fields it has, too."""
+    found, called = {}, {}
+    files = [file for home in HOMES for file in sorted((ROOT / f"crates/{home}/specs").glob("*Calls.antt"))]
+    for file in files:
+        home, text = file.parts[-3], file.read_text()
+        outer, *parts = re.split(r"^(?=module _)", text, flags=re.M)
         for part in parts:
             module = parameters(MODULE.search(part)[1])
-            found.update({(file.stem, name): (module + parameters(own), dict(FIELD.findall(fields))) for name, own, fields in RECORD.findall(part)})
+            for name, own, fields in RECORD.findall(part):
+                found[home, file.stem, name] = module + parameters(own), dict(FIELD.findall(fields))
+                called[home, file.stem, name] = text
+    # A crate's records are made of those of the crates before it.
+    for key, (names, fields) in found.items():
+        if "call" in fields:
+            whole = re.match(r"([\w.]+) (.*)\n", fields["call"])
+            found[key] = names, {**filled(records_of(called[key], found)[whole[1]], whole[2]), **fields}
     return found
 
 
 def records_of(text, of):
-    """The records that a file of calls uses, by the names that it has for them."""
+    """The records that a file uses, by the names that it has for them."""
     found = {}
-    for file, names, short in USED.findall(text):
-        found.update({name: of[file, name] for name in names.split(", ") if name})
-        found.update({f"{short}.{name}": it for (home, name), it in of.items() if short and home == file})
+    for home, file, names, short in USED.findall(text):
+        found.update({name: of[home, file, name] for name in names.split(", ") if name})
+        found.update({f"{short}.{name}": it for (crate, stem, name), it in of.items() if short and (crate, stem) == (home, file)})
     return found
 
 
+def filled(record, words):
+    """The fields of a record, with what it is handed in place of its parameters."""
+    names, fields = record
+    handed = dict(zip(names, HANDED.findall(words)))
+    return {field: NAME.sub(lambda it: handed.get(it[0], it[0]), text) for field, text in fields.items()}
+
+
 def clauses_of(contract, of):
-    """The clauses of a contract by their names, or the fields of the record that it is, with what it hands to the record in place of parameters."""
+    """The clauses of a contract by their names, or the fields of the record that it is."""
     whole = WHOLE.match(contract)
     if not whole or whole[1] not in of:
         return dict(re.findall(r"^    ensures (\w+) \{(.*?)\}\n(?=    ensures|\Z)", contract, re.M | re.S))
-    names, fields = of[whole[1]]
-    handed = dict(zip(names, HANDED.findall(whole[2])))
-    filled = {field: NAME.sub(lambda it: handed.get(it[0], it[0]), text) for field, text in fields.items()}
-    return {field: re.sub(r"\((place_of \w+)\) ≡", r"\1 ≡", text) for field, text in filled.items()}
+    return {field: re.sub(r"\((place_of \w+)\) ≡", r"\1 ≡", text) for field, text in filled(of[whole[1]], whole[2]).items()}
 
 
 def signatures():

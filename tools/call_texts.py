@@ -8,7 +8,8 @@ from call_table import OUT, has, refusals
 # The types of the numbers, and of lengths, in C and in Rust. A slice is handed as a pointer and a length.
 NUMBERS = {"u32": ("uint32_t", "u32"), "u64": ("uint64_t", "u64")}
 LENGTH = ("ic_length", "usize")
-STRUCTS = {"RawOne": "ic_link1", "RawTwo": "ic_link2", "RawThree": "ic_link3", "RawFront": "ic_stack", "RawEnds": "ic_list", "RawRoot": "ic_tree"}
+STRUCTS = {"RawOne": "ic_link1", "RawTwo": "ic_link2", "RawThree": "ic_link3", "RawFront": "ic_stack", "RawEnds": "ic_list", "RawRoot": "ic_tree",
+           "RawTreeEnds": "ic_tree_ends"}
 COUNTS = {"table": "places", "keys": "key_count", "hashes": "hash_count", "buckets": "bucket_count"}
 # The classes and types of the bindings, and how many words a link of each kind has.
 CLASSES = {"list": "List", "stack": "Stack", "xor": "XorList", "tree": "Tree", "ring": "Ring", "hash": "HashTable"}
@@ -119,7 +120,7 @@ def is_none_refused(call):
 def rust_arguments(call):
     """The parameters of the method, and what it hands to the call."""
     reads = next(c_arguments(call))[0]
-    handed = {"table": ["links", "places"], "given": ["&mut given.0"], "rest": ["&mut rest.0"]}
+    handed = {"table": ["links", "places"], "given": ["&mut given.0"], "rest": ["&mut rest.0"], "ends": ["&mut ends.0"]}
     handed.update({name: [f"{name}.as_ptr()", f"{name}.len()"] for name in ("keys", "hashes")})
     params, words = [], []
     for arg in call.args:
@@ -133,7 +134,7 @@ def rust_arguments(call):
         else:
             words += handed.get(arg.name, [f"number({arg.name})" if call.roles.get(arg.name) == "gap" else arg.name])
         kinds = {"table": f"&{'mut ' * (not reads)}[Link{LINKS[call.family]}]", "keys": "&[u64]", "hashes": "&[u64]", "given": f"&mut {CLASSES[call.family]}",
-                 "buckets": f"&{'mut ' * arg.is_mut}[Stack]"}
+                 "buckets": f"&{'mut ' * arg.is_mut}[Stack]", "ends": "&mut TreeEnds"}
         if arg.name not in ("rest", *OUT):
             params.append(f"{arg.name}: " + kinds.get(arg.name, "Option<u32>" if call.roles.get(arg.name) == "gap" else arg.type))
     owner = [f"&{'mut ' * arg.is_mut}self" for arg in call.args if arg.name in SELF]
@@ -213,7 +214,7 @@ def camel(name):
 def script_words(call):
     """What the method hands to the call. Each number is checked by its name."""
     fixed = {"table": "this.table, this.places", "list": "this.self", "tree": "this.self", "keys": "this.keysAt, this.keyCount",
-             "buckets": "this.bucketsAt, this.bucketCount", "given": "this.given(given)", "rest": "rest",
+             "buckets": "this.bucketsAt, this.bucketCount", "given": "this.given(given)", "rest": "rest", "ends": "this.endsAt",
              "hashes": "...keyParts(hashes, this.links)"}
     if call.family == "list":
         fixed["keys"] = "...keyParts(keys, this.links)"
@@ -225,8 +226,8 @@ def script_words(call):
 
 
 def script_parameters(call):
-    """The parameters of a method. A tree and a hash table keep their keys and buckets, and a ring the head out of which it pops."""
-    kept = {"buckets", *(["keys"] if call.family != "list" else []), *(["head"] if has(call, "popped") else [])}
+    """The parameters of a method. A tree and a hash table keep their keys, ends and buckets, and a ring the head out of which it pops."""
+    kept = {"buckets", "ends", *(["keys"] if call.family != "list" else []), *(["head"] if has(call, "popped") else [])}
     return [arg for arg in free(call) if arg.name not in kept]
 
 

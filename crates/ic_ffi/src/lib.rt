@@ -18,6 +18,7 @@
 #![tactic(auto)]
 
 mod check_calls;
+mod ends_calls;
 mod fill_calls;
 mod hash_calls;
 mod list_calls;
@@ -37,3 +38,4 @@ pub use ic_raw::{
     BROKEN, LINKED, NONE, NOT_LINKED, NULL, OK, OUT_OF_RANGE, RawEnds, RawFront, RawOne, RawRoot,
     RawThree, RawTwo,
 };
+pub use ic_raw_keyed::RawTreeEnds;
