@@ -495,7 +495,38 @@ uint32_t ic_list_merge(struct ic_link2 *table, ic_length places, const uint64_t 
 
 /* to here */
 
-/* ---- Rings: 16 bytes a place, all calls O(1) ---------------------------------------------------------------------------------------
+/* ---- Members that go from list to list ----
+ *
+ * A transfer moves one member of another list of the same table, as a scheduler does with a task that waits no longer:
+ *
+ *     status = ic_list_transfer_before(links, 100, &ready, IC_NONE, &waiting, 7);  // 7 becomes the last member of `ready`
+ *
+ * A splice moves all members, and a move within one list is ic_list_move_after. Members of rings go from ring to ring by ic_ring_move_after.
+ */
+
+/* tools/c-calls --write writes from here: list-transfer */
+
+/* Moves the member `place` of `given` after the member `at`, or to the front if `at` is IC_NONE, in O(1). The place stays linked during the
+ * call.
+ * IC_NULL: `place` is IC_NONE. IC_OUT_OF_RANGE: `at` or `place` is not below `places`. IC_NOT_LINKED: `at` or `place` is not linked.
+ * IC_BROKEN: `at` is no member of the list, or `place` is none of `given`, or both lists begin with the same member, as a list and its copy
+ * do. */
+IC_NODISCARD
+uint32_t ic_list_transfer_after(struct ic_link2 *table, ic_length places, struct ic_list *list, uint32_t at, struct ic_list *given,
+                                uint32_t place);
+
+/* Moves the member `place` of `given` before the member `at`, or to the back if `at` is IC_NONE, in O(1). The place stays linked during the
+ * call.
+ * IC_NULL: `place` is IC_NONE. IC_OUT_OF_RANGE: `at` or `place` is not below `places`. IC_NOT_LINKED: `at` or `place` is not linked.
+ * IC_BROKEN: `at` is no member of the list, or `place` is none of `given`, or both lists begin with the same member, as a list and its copy
+ * do. */
+IC_NODISCARD
+uint32_t ic_list_transfer_before(struct ic_link2 *table, ic_length places, struct ic_list *list, uint32_t at, struct ic_list *given,
+                                 uint32_t place);
+
+/* to here */
+
+/* ---- Rings: 16 bytes a place, calls O(1) except to check and sort -----------------------------------------------------------------------
  *
  * A ring is a doubly linked list whose head is a place of the table. Its head and its members form a circle. A call removes a member, or
  * inserts a place beside one, without the name of a ring. That is good if the code that removes an object does not know its queue. These are
@@ -595,7 +626,7 @@ static inline int ic_ring_is_singular(const struct ic_link2 *table, ic_length pl
     IC_LOOP_ENTRY_SAFE(object, objects, ic_at_##object, ic_next_##object, at, places, \
                        ic_at_##object != (head) && ic_ring_is_linked(table, places, ic_at_##object), ic_ring_next(table, places, ic_at_##object))
 
-/* tools/c-calls --write writes from here: ring */
+/* tools/c-calls --write writes from here: ring ring-check */
 
 /* Makes `head` the head of a ring with no members, as INIT_LIST_HEAD of Linux does, in O(1).
  * IC_OUT_OF_RANGE: `head` is not below `places`. IC_LINKED: `head` is linked already. */
@@ -676,6 +707,13 @@ uint32_t ic_ring_splice_after(struct ic_link2 *table, ic_length places, uint32_t
 IC_NODISCARD
 uint32_t ic_ring_splice_before(struct ic_link2 *table, ic_length places, uint32_t at, uint32_t head);
 
+/* Counts the members of the head `head`, and sets *members to how many there are, in O(n). Call it if the words come from a file, or from
+ * memory that others write. If the status is IC_OK, each call does what it says of a ring that the table holds.
+ * IC_NULL: `head` is IC_NONE. IC_OUT_OF_RANGE: `head` is not below `places`. IC_NOT_LINKED: `head` is not linked. IC_BROKEN: the links do
+ * not lead from `head` around a ring and back to it, each to the next place and back. */
+IC_NODISCARD
+uint32_t ic_ring_check(const struct ic_link2 *table, ic_length places, uint32_t head, uint64_t *members);
+
 /* to here */
 
 /* These are two more names for calls of a head, as lists have them. */
@@ -750,7 +788,23 @@ static inline uint32_t ic_ring_move_range_before(struct ic_link2 *table, ic_leng
     return ic_ring_move_range_after(table, places, at == first ? last : before_at, first, last);
 }
 
-/* ---- Singly linked lists: 8 bytes a place, calls O(1) except ic_stack_splice_after, and to fill, clear and check ------------------------
+/* ---- Rings by keys ----
+ *
+ * The keys are as for lists: numbers, of which the least comes first, and one for each place. The call checks the ring first, so it is never
+ * half done. It calls itself, at most 33 times within one another.
+ */
+
+/* tools/c-calls --write writes from here: ring-keys */
+
+/* Sorts the members of the head `head` by their keys, as list_sort of Linux does, in O(n log n). Members with equal keys keep their order.
+ * IC_NULL: `head` is IC_NONE. IC_OUT_OF_RANGE: there are fewer keys than places, or `head` is not below `places`. IC_NOT_LINKED: `head` is
+ * not linked. IC_BROKEN: the links do not lead from `head` around a ring and back to it, each to the next place and back. */
+IC_NODISCARD
+uint32_t ic_ring_sort(struct ic_link2 *table, ic_length places, const uint64_t *keys, ic_length key_count, uint32_t head);
+
+/* to here */
+
+/* ---- Singly linked lists: 8 bytes a place, calls O(1) except ic_stack_splice_after, and to fill, clear, check, sort and merge -----------
  *
  * Take them for stacks and free lists. Calls edit the list after the member `at`, or at the front if `at` is IC_NONE. If you keep the last member
  * beside it, a list is a queue, in which you insert after that member and pop at the front.
@@ -896,6 +950,29 @@ uint32_t ic_stack_clear(struct ic_link1 *table, ic_length places, struct ic_stac
  * IC_BROKEN: the links lead from the first member to no end within the table. */
 IC_NODISCARD
 uint32_t ic_stack_check(const struct ic_link1 *table, ic_length places, const struct ic_stack *list, uint64_t *members);
+
+/* to here */
+
+/* ---- Singly linked lists by keys ----
+ *
+ * The keys are as for doubly linked lists. Both calls check the lists first, so they are never half done. A sort calls itself, at most 33 times
+ * within one another.
+ */
+
+/* tools/c-calls --write writes from here: stack-keys */
+
+/* Sorts the members by their keys, in O(n log n). Members with equal keys keep their order.
+ * IC_OUT_OF_RANGE: there are fewer keys than places. IC_BROKEN: the links lead from the first member to no end within the table. */
+IC_NODISCARD
+uint32_t ic_stack_sort(struct ic_link1 *table, ic_length places, const uint64_t *keys, ic_length key_count, struct ic_stack *list);
+
+/* Moves all members of `given` to where their keys belong, if both lists are in the order of their keys, in O(n). Of members with equal
+ * keys, those of `list` come first. The call leaves `given` empty.
+ * IC_OUT_OF_RANGE: there are fewer keys than places. IC_BROKEN: the links of one of the lists lead from its first member to no end within
+ * the table, or both lists end with the same member, as lists do that share one. */
+IC_NODISCARD
+uint32_t ic_stack_merge(struct ic_link1 *table, ic_length places, const uint64_t *keys, ic_length key_count, struct ic_stack *list,
+                        struct ic_stack *given);
 
 /* to here */
 

@@ -133,6 +133,8 @@ struct doubly : headed<ic_link2, ic_list> {
     static constexpr bool is_bidirectional = true, needs_from = false;
     static constexpr auto clear = ic_list_clear;
     static constexpr auto check = ic_list_check;
+    static constexpr auto sort = ic_list_sort;
+    static constexpr auto merge = ic_list_merge;
     static constexpr auto fill = ic_list_fill;
     static constexpr auto push_front = ic_list_push_front, push_back = ic_list_push_back;
     static constexpr auto pop_front = ic_list_pop_front, pop_back = ic_list_pop_back;
@@ -154,6 +156,8 @@ struct singly : headed<ic_link1, ic_stack> {
     static constexpr bool is_bidirectional = false, needs_from = true;
     static constexpr auto clear = ic_stack_clear;
     static constexpr auto check = ic_stack_check;
+    static constexpr auto sort = ic_stack_sort;
+    static constexpr auto merge = ic_stack_merge;
     static constexpr auto fill = ic_stack_fill;
     static constexpr auto push_front = ic_stack_push_front;
     static constexpr auto pop_front = ic_stack_pop_front;
@@ -215,6 +219,8 @@ struct circular {
     using handle = head;
     static handle handle_of(argument place) noexcept { return place; }
     static constexpr bool is_bidirectional = true, needs_from = false;
+    static constexpr auto check = ic_ring_check;
+    static constexpr auto sort = ic_ring_sort;
     static constexpr auto push_front = ic_ring_push_front, push_back = ic_ring_push_back;
     static constexpr auto pop_front = ic_ring_pop_front, pop_back = ic_ring_pop_back;
 
@@ -393,7 +399,7 @@ public:
     [[nodiscard]] bool empty() const noexcept { return Kind::is_empty(in_); }
 
     /// Returns how many members there are, in O(n), for words that come from a file or that others write. It returns std::nullopt if they
-    /// form no list or tree. An XOR list has no check.
+    /// form no list, ring or tree. An XOR list has no check.
     [[nodiscard]] std::optional<std::uint64_t> check() const noexcept {
         std::uint64_t count = 0;
         return Kind::check(in_.table, in_.places, in_.head, &count) == IC_OK ? std::optional<std::uint64_t>(count) : std::nullopt;
@@ -596,6 +602,37 @@ public:
     status clear() const noexcept { return this->edit(kind::clear); }
 };
 
+/// Sorts a list or the members of a ring.
+template <class Base>
+class sorts : public Base {
+public:
+    using kind = typename Base::kind;
+    using keys_view = array_view<const std::uint64_t>;
+    using Base::Base;
+
+    /// Sorts the members by their keys, of which there is one for each place. Members with equal keys keep their order.
+    status sort(keys_view keys) const noexcept {
+        return static_cast<status>(kind::sort(this->table_, this->in_.places, keys.data(), keys.size(), this->head_));
+    }
+};
+
+/// Merges another list into one, too.
+template <class Base>
+class merges : public sorts<Base> {
+public:
+    using kind = typename Base::kind;
+    using typename sorts<Base>::keys_view;
+    using sorts<Base>::sorts;
+
+    /// Moves all members of `given` to where their keys belong, after members with equal keys. It returns ic::status::broken where a splice
+    /// does.
+    status merge(keys_view keys, const merges &given) const noexcept {
+        if (given.table_ != this->table_ || given.head_ == this->head_)
+            return status::broken;
+        return static_cast<status>(kind::merge(this->table_, this->in_.places, keys.data(), keys.size(), this->head_, given.head_));
+    }
+};
+
 } // namespace detail
 
 // ---- Doubly linked lists -----------------------------------------------------------------------------------------------------------
@@ -603,10 +640,9 @@ public:
 using const_list_view = detail::of_head<detail::placed<detail::doubly>>;
 
 /// Edits a doubly linked list.
-class list_view : public detail::list_edits<detail::end_edits<const_list_view>> {
+class list_view : public detail::merges<detail::list_edits<detail::end_edits<const_list_view>>> {
 public:
-    using keys_view = array_view<const std::uint64_t>;
-    using list_edits::list_edits;
+    using merges::merges;
 
     /// Inserts a place before an iterator's member, and at the back if that is end().
     status insert(iterator at, std::uint32_t place) const noexcept { return insert_before(*at, place); }
@@ -634,17 +670,18 @@ public:
     status split_after(std::uint32_t at, list_view rest) const noexcept { return edit_both(rest, ic_list_split_after, at, rest.head_); }
     status split_before(std::uint32_t at, list_view rest) const noexcept { return edit_both(rest, ic_list_split_before, at, rest.head_); }
 
-    /// Sorts the members by their keys, of which there is one for each place. Members with equal keys keep their order.
-    status sort(keys_view keys) const noexcept {
-        return static_cast<status>(ic_list_sort(table_, in_.places, keys.data(), keys.size(), head_));
+    /// Moves the member of an iterator of `given` before an iterator's member, and to the back if that is end(). The place stays linked. This
+    /// and the next two return ic::status::broken where a splice of all members does.
+    status splice(iterator at, list_view given, iterator member) const noexcept { return transfer_before(*at, given, *member); }
+
+    /// Moves the member `place` of `given` after the member `at`, and to the front if that is `none`. The place stays linked.
+    status transfer_after(std::uint32_t at, list_view given, std::uint32_t place) const noexcept {
+        return edit_both(given, ic_list_transfer_after, at, given.head_, place);
     }
 
-    /// Moves all members of `given` to where their keys belong, after members with equal keys. It returns ic::status::broken where a splice
-    /// does.
-    status merge(keys_view keys, list_view given) const noexcept {
-        if (given.table_ != table_ || given.head_ == head_)
-            return status::broken;
-        return static_cast<status>(ic_list_merge(table_, in_.places, keys.data(), keys.size(), head_, given.head_));
+    /// Moves the member `place` of `given` before the member `at`, and to the back if that is `none`. The place stays linked.
+    status transfer_before(std::uint32_t at, list_view given, std::uint32_t place) const noexcept {
+        return edit_both(given, ic_list_transfer_before, at, given.head_, place);
     }
 };
 
@@ -660,9 +697,9 @@ public:
 };
 
 /// Edits the members of one ring.
-class ring_members : public detail::end_edits<const_ring_members> {
+class ring_members : public detail::sorts<detail::end_edits<const_ring_members>> {
 public:
-    using end_edits::end_edits;
+    using sorts::sorts;
 
     /// Inserts a place before an iterator's member, and at the back if that is end().
     status insert(iterator at, std::uint32_t place) const noexcept {
@@ -679,6 +716,10 @@ public:
     [[nodiscard]] bool is_linked(std::uint32_t place) const noexcept { return ic_ring_is_linked(in_.data(), in_.size(), place) != 0; }
     [[nodiscard]] std::uint32_t next(std::uint32_t at) const noexcept { return ic_ring_next(in_.data(), in_.size(), at); }
     [[nodiscard]] std::uint32_t prev(std::uint32_t at) const noexcept { return ic_ring_prev(in_.data(), in_.size(), at); }
+
+    /// Returns how many members a head has, in O(n), for words that come from a file or that others write. It returns std::nullopt if they
+    /// form no ring with this head.
+    [[nodiscard]] std::optional<std::uint64_t> check(std::uint32_t head) const noexcept { return members(head).check(); }
 
     /// Returns the members of a head, for a loop or an algorithm.
     [[nodiscard]] const_ring_members members(std::uint32_t head) const noexcept { return {in_, head}; }
@@ -727,6 +768,9 @@ public:
     /// Exchanges what comes after two places that are in rings.
     status exchange(std::uint32_t one, std::uint32_t other) const noexcept { return edit(ic_ring_exchange, one, other); }
 
+    /// Sorts the members of a head by their keys, of which there is one for each place. Members with equal keys keep their order.
+    status sort(array_view<const std::uint64_t> keys, std::uint32_t head) const noexcept { return members(head).sort(keys); }
+
     /// Removes the first member of a head, or the last one, and returns it. It returns std::nullopt if there is none, or if the call is
     /// refused.
     [[nodiscard]] std::optional<std::uint32_t> pop_front(std::uint32_t head) const noexcept { return taken(ic_ring_pop_front, head); }
@@ -760,9 +804,9 @@ private:
 using const_stack_view = detail::of_head<detail::members<detail::singly>>;
 
 /// Edits a singly linked list. Its edits in the middle are after the member `at`, or at the front if that is `none`.
-class stack_view : public detail::list_edits<detail::front_edits<const_stack_view>> {
+class stack_view : public detail::merges<detail::list_edits<detail::front_edits<const_stack_view>>> {
 public:
-    using list_edits::list_edits;
+    using merges::merges;
 
     status insert_after(std::uint32_t at, std::uint32_t place) const noexcept { return edit(ic_stack_insert_after, at, place); }
 

@@ -213,6 +213,20 @@ static inline uint32_t ic_list_in_merge(struct ic_list_in in, struct ic_keys key
     return ic_list_merge(in.table, in.places, keys.keys, keys.count, in.list, given.list);
 }
 
+IC_NODISCARD
+static inline uint32_t ic_list_in_transfer_after(struct ic_list_in in, uint32_t at, struct ic_list_in given, uint32_t place) {
+    if (given.table != in.table || given.list == in.list)
+        return IC_BROKEN;
+    return ic_list_transfer_after(in.table, in.places, in.list, at, given.list, place);
+}
+
+IC_NODISCARD
+static inline uint32_t ic_list_in_transfer_before(struct ic_list_in in, uint32_t at, struct ic_list_in given, uint32_t place) {
+    if (given.table != in.table || given.list == in.list)
+        return IC_BROKEN;
+    return ic_list_transfer_before(in.table, in.places, in.list, at, given.list, place);
+}
+
 #define IC_LIST_IN_FOREACH(place, in) IC_LIST_FOREACH(place, (in).table, (in).places, (in).list)
 #define IC_LIST_IN_FOREACH_REVERSE(place, in) IC_LIST_FOREACH_REVERSE(place, (in).table, (in).places, (in).list)
 #define IC_LIST_IN_FOREACH_SAFE(place, next, in) IC_LIST_FOREACH_SAFE(place, next, (in).table, (in).places, (in).list)
@@ -339,6 +353,11 @@ static inline uint32_t ic_ring_in_splice_before(struct ic_ring_in in, uint32_t a
 }
 
 IC_NODISCARD
+static inline uint32_t ic_ring_in_check(struct ic_ring_in in, uint32_t head, uint64_t *members) {
+    return ic_ring_check(in.table, in.places, head, members);
+}
+
+IC_NODISCARD
 static inline uint32_t ic_ring_in_push_front(struct ic_ring_in in, uint32_t head, uint32_t place) {
     return ic_ring_push_front(in.table, in.places, head, place);
 }
@@ -365,6 +384,11 @@ static inline uint32_t ic_ring_in_move_range_after(struct ic_ring_in in, uint32_
 IC_NODISCARD
 static inline uint32_t ic_ring_in_move_range_before(struct ic_ring_in in, uint32_t at, uint32_t first, uint32_t last) {
     return ic_ring_move_range_before(in.table, in.places, at, first, last);
+}
+
+IC_NODISCARD
+static inline uint32_t ic_ring_in_sort(struct ic_ring_in in, struct ic_keys keys, uint32_t head) {
+    return ic_ring_sort(in.table, in.places, keys.keys, keys.count, head);
 }
 
 #define IC_RING_IN_FOREACH(place, in, head) IC_RING_FOREACH(place, (in).table, (in).places, head)
@@ -482,6 +506,18 @@ static inline uint32_t ic_stack_in_clear(struct ic_stack_in in) {
 IC_NODISCARD
 static inline uint32_t ic_stack_in_check(struct ic_stack_in in, uint64_t *members) {
     return ic_stack_check(in.table, in.places, in.list, members);
+}
+
+IC_NODISCARD
+static inline uint32_t ic_stack_in_sort(struct ic_stack_in in, struct ic_keys keys) {
+    return ic_stack_sort(in.table, in.places, keys.keys, keys.count, in.list);
+}
+
+IC_NODISCARD
+static inline uint32_t ic_stack_in_merge(struct ic_stack_in in, struct ic_keys keys, struct ic_stack_in given) {
+    if (given.table != in.table || given.list == in.list)
+        return IC_BROKEN;
+    return ic_stack_merge(in.table, in.places, keys.keys, keys.count, in.list, given.list);
 }
 
 IC_NODISCARD

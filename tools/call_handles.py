@@ -3,6 +3,7 @@
 import re
 import textwrap
 
+from call_texts import KEEP_KEYS
 from languages import HEADER, c_family, c_items
 
 # What a handle has of the arguments of a call, by the name of the argument. A ring's head is a place, and is handed as before.
@@ -20,9 +21,10 @@ def renamed(name):
 
 
 def handed(family, arguments):
-    """The parameters of a function over a handle, and what it hands to the call: `keys` of a list, and `hashes`, are an argument of their own."""
+    """The parameters of a function over a handle, and what it hands to the call: `keys` are an argument of their own, unless the handle has them, and so
+    are `hashes`."""
     params, words = [f"struct ic_{family}_in in"], []
-    own = {name: count for name, count in COUNTED.items() if name == "hashes" or family == "list"}
+    own = {name: count for name, count in COUNTED.items() if name == "hashes" or family not in KEEP_KEYS}
     for argument in arguments:
         kind, name = re.match(r"(.*?[ *])(\w+)$", argument).groups()
         if name in OTHERS:

@@ -1,15 +1,15 @@
 """What the players of tests/library/same_calls do with a line that names a call of the library, a read or a walk: in C, C++, Rust and JavaScript,
 from crates/ic_ffi/calls.txt.
 
-Behind the name of a call a line has the number of the list, the tree or the hash table, unless it is of a ring, and then the other arguments in the
-order of C: a place or `none`, a number, or the number of another list."""
+After the name of a call a line has the number of the list, the tree, the hash table or the keys, which a call of rings has only if it takes keys, and
+then the other arguments in the order of C: a place or `none`, a number, or the number of another list."""
 
 import re
 
 import call_table
-from call_table import OUT
+from call_table import OUT, has
 from call_handles import renamed
-from call_texts import SELF, STRUCTS, c_arguments, camel, is_none_refused, outcome, short
+from call_texts import KEEP_KEYS, SELF, STRUCTS, c_arguments, camel, is_none_refused, is_of_head, outcome, short
 
 # How many places each table of links has. Rings share that of the lists, and hash tables that of the singly linked lists.
 PLACES = {"list": 12, "stack": 10, "xor": 7, "tree": 24}
@@ -23,10 +23,15 @@ PRINTS = {None: "done", "popped": "member", "removed": "member", "found": "membe
 READ = re.compile(r"^static inline (?:int|uint32_t) (ic_\w+)\(const struct ic_link\d \*table, ic_length places((?:, uint32_t \w+)+)\)", re.M)
 
 
+def has_number(call):
+    """Whether a line has the number of a list, a tree, a hash table or keys."""
+    return call.family != "ring" or has(call, "keys")
+
+
 def arguments(call):
-    """The arguments of a line besides the first number of a list, and where each stands."""
+    """The arguments of a line besides that number, and where each stands."""
     names = [arg for arg in call.args if arg.name not in ("table", "keys", "hashes", "buckets", *SELF, *OUT)]
-    return {arg.name: at for at, arg in enumerate(names, call.family != "ring")}
+    return {arg.name: at for at, arg in enumerate(names, has_number(call))}
 
 
 def reads():
@@ -98,10 +103,10 @@ def handle_call(call):
     kind = next((STRUCTS[arg.type] for arg in call.args if arg.name == "rest"), "")
     rest = f"((struct ic_{call.family}_in){{{', '.join(c_links(call.family))}, &rest}})"
     keys = "((struct ic_keys){keys, key_count(n[0])})"
-    fixed = {"members": "&out.members", "rest": rest * bool(kind), "keys": keys * (call.family == "list"), "hashes": keys}
+    fixed = {"members": "&out.members", "rest": rest * bool(kind), "keys": keys * (call.family not in KEEP_KEYS), "hashes": keys}
     fixed.update({name: "&out.place" for name in OUT if name != "members"})
     of = lambda name: handle(call.family, at[name]) if name == "given" else "(uint32_t)" * (types[name] == "u32") + f"n[{at[name]}]"
-    left = {"table", "buckets", *SELF, *({"keys"} if call.family != "list" else ())}
+    left = {"table", "buckets", *SELF, *({"keys"} if call.family in KEEP_KEYS else ())}
     words = [fixed.get(arg.name) or of(arg.name) for arg in call.args if arg.name not in left]
     return f"{renamed(call.name)}({', '.join([handle(call.family, 0), *words])})"
 
@@ -253,12 +258,12 @@ def script_body(call):
     of = lambda name: f"BigInt(n[{at[name]}])" if types[name] == "u64" else f"place(n[{at[name]}])"
     if call.name == "ic_ring_init":
         return "void new w.Ring(w.links.list, place(n[0]))"
-    left = ("table", "buckets", "rest", *SELF, *OUT, *(() if call.family == "list" else ("keys",)))
+    left = ("table", "buckets", "rest", *SELF, *OUT, *(("keys",) if call.family in KEEP_KEYS else ()))
     fixed = {"keys": "w.keys[n[0]]", "hashes": "w.keys[n[0]]", "given": f"w.{heads}[n[{at.get('given')}]]", "head": f"w.ringOf(place(n[{at.get('head')}]))"}
     names = [arg.name for arg in call.args if arg.name not in left]
     owner = f"w.{heads}[n[0]]" if call.family != "ring" else "w.ringOf(0)"
-    if call.family == "ring" and outcome(call):
-        owner, names = fixed["head"], []
+    if is_of_head(call):
+        owner, names = fixed["head"], [name for name in names if name != "head"]
     made = f"{owner}.{camel(short(call))}({', '.join(fixed.get(name) or of(name) for name in names)})"
     other = f"w.{heads}[n[{at.get('rest')}]]"
     return f'({other}.isEmpty ? w.fill({other}, () => {made}) : "skipped")' if "rest" in at else made

@@ -15,6 +15,8 @@ COUNTS = {"table": "places", "keys": "key_count", "hashes": "hash_count", "bucke
 CLASSES = {"list": "List", "stack": "Stack", "xor": "XorList", "tree": "Tree", "ring": "Ring", "hash": "HashTable"}
 LINKS = {"list": 2, "ring": 2, "stack": 1, "hash": 1, "xor": 1, "tree": 3}
 SELF = ("list", "tree")
+# The families whose handles and objects keep the keys. The calls of the others are handed them.
+KEEP_KEYS = ("hash", "tree")
 ERRORS = {"NULL": "Null", "OUT_OF_RANGE": "OutOfRange", "LINKED": "Linked", "NOT_LINKED": "NotLinked", "BROKEN": "Broken"}
 # What the bindings have in place of the table's words in braces.
 BOUND = {"self": "this list", "rest": "a new list, which it returns", "rest_has": "", "accepted": "it returns a number"}
@@ -216,18 +218,23 @@ def script_words(call):
     fixed = {"table": "this.table, this.places", "list": "this.self", "tree": "this.self", "keys": "this.keysAt, this.keyCount",
              "buckets": "this.bucketsAt, this.bucketCount", "given": "this.given(given)", "rest": "rest", "ends": "this.endsAt",
              "hashes": "...keyParts(hashes, this.links)"}
-    if call.family == "list":
+    if call.family not in KEEP_KEYS:
         fixed["keys"] = "...keyParts(keys, this.links)"
     if call.family == "ring":
-        fixed["head"] = "this.head" if has(call, "popped") else "this.given(head)"
+        fixed["head"] = "this.head" if is_of_head(call) else "this.given(head)"
     for arg in call.args:
         check = "u64" if arg.type == "u64" else "placeNumber" if arg.name in call.roles and call.roles[arg.name] != "run" else "u32"
         yield "this.out" if arg.name in OUT else fixed.get(arg.name) or f'{check}({arg.name}, "{arg.name}")'
 
 
+def is_of_head(call):
+    """Whether a call of rings names its head and no other place, so that the ring of that head makes it."""
+    return call.roles == {"head": "ring"}
+
+
 def script_parameters(call):
-    """The parameters of a method. A tree and a hash table keep their keys, ends and buckets, and a ring the head out of which it pops."""
-    kept = {"buckets", "ends", *(["keys"] if call.family != "list" else []), *(["head"] if has(call, "popped") else [])}
+    """The parameters of a method. A tree and a hash table keep their keys, ends and buckets, and a ring its head."""
+    kept = {"buckets", "ends", *(["keys"] if call.family in KEEP_KEYS else []), *(["head"] if is_of_head(call) else [])}
     return [arg for arg in free(call) if arg.name not in kept]
 
 

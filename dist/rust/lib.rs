@@ -105,7 +105,7 @@ pub const fn ic_place(word: u64) -> u32 {
 }
 
 extern "C" {
-    // tools/c-calls --write writes from here: list list-keys ring stack hash xor tree tree-keys tree-steps
+    // tools/c-calls --write writes from here: list list-keys list-transfer ring ring-check ring-keys stack stack-keys hash xor tree tree-keys tree-steps
     pub fn ic_list_push_front(table: *mut ic_link2, places: usize, list: *mut ic_list, place: u32) -> u32;
     pub fn ic_list_push_back(table: *mut ic_link2, places: usize, list: *mut ic_list, place: u32) -> u32;
     pub fn ic_list_pop_front(table: *mut ic_link2, places: usize, list: *mut ic_list, popped: *mut u32) -> u32;
@@ -165,6 +165,22 @@ extern "C" {
         list: *mut ic_list,
         given: *mut ic_list,
     ) -> u32;
+    pub fn ic_list_transfer_after(
+        table: *mut ic_link2,
+        places: usize,
+        list: *mut ic_list,
+        at: u32,
+        given: *mut ic_list,
+        place: u32,
+    ) -> u32;
+    pub fn ic_list_transfer_before(
+        table: *mut ic_link2,
+        places: usize,
+        list: *mut ic_list,
+        at: u32,
+        given: *mut ic_list,
+        place: u32,
+    ) -> u32;
     pub fn ic_ring_init(table: *mut ic_link2, places: usize, head: u32) -> u32;
     pub fn ic_ring_insert_after(table: *mut ic_link2, places: usize, at: u32, place: u32) -> u32;
     pub fn ic_ring_insert_before(table: *mut ic_link2, places: usize, at: u32, place: u32) -> u32;
@@ -177,6 +193,8 @@ extern "C" {
     pub fn ic_ring_move_before(table: *mut ic_link2, places: usize, at: u32, place: u32) -> u32;
     pub fn ic_ring_splice_after(table: *mut ic_link2, places: usize, at: u32, head: u32) -> u32;
     pub fn ic_ring_splice_before(table: *mut ic_link2, places: usize, at: u32, head: u32) -> u32;
+    pub fn ic_ring_check(table: *const ic_link2, places: usize, head: u32, members: *mut u64) -> u32;
+    pub fn ic_ring_sort(table: *mut ic_link2, places: usize, keys: *const u64, key_count: usize, head: u32) -> u32;
     pub fn ic_stack_push_front(table: *mut ic_link1, places: usize, list: *mut ic_stack, place: u32) -> u32;
     pub fn ic_stack_pop_front(table: *mut ic_link1, places: usize, list: *mut ic_stack, popped: *mut u32) -> u32;
     pub fn ic_stack_insert_after(table: *mut ic_link1, places: usize, list: *mut ic_stack, at: u32, place: u32) -> u32;
@@ -212,6 +230,21 @@ extern "C" {
     pub fn ic_stack_fill(table: *mut ic_link1, places: usize, list: *mut ic_stack, first: u32, count: u32) -> u32;
     pub fn ic_stack_clear(table: *mut ic_link1, places: usize, list: *mut ic_stack) -> u32;
     pub fn ic_stack_check(table: *const ic_link1, places: usize, list: *const ic_stack, members: *mut u64) -> u32;
+    pub fn ic_stack_sort(
+        table: *mut ic_link1,
+        places: usize,
+        keys: *const u64,
+        key_count: usize,
+        list: *mut ic_stack,
+    ) -> u32;
+    pub fn ic_stack_merge(
+        table: *mut ic_link1,
+        places: usize,
+        keys: *const u64,
+        key_count: usize,
+        list: *mut ic_stack,
+        given: *mut ic_stack,
+    ) -> u32;
     pub fn ic_hash_insert(
         table: *mut ic_link1,
         places: usize,

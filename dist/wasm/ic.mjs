@@ -330,7 +330,7 @@ export class List extends Collection {
   removeIf(isUnwanted) {
     return removeIf(this.links, isUnwanted, (_, at) => (at === null ? this.first : this.next(at)), (_, at) => this.remove(at));
   }
-  // tools/c-calls --write writes from here: list list-keys
+  // tools/c-calls --write writes from here: list list-keys list-transfer
   pushFront(place) { this.done(this.calls.ic_list_push_front(this.table, this.places, this.self, placeNumber(place, "place"))); }
   pushBack(place) { this.done(this.calls.ic_list_push_back(this.table, this.places, this.self, placeNumber(place, "place"))); }
   popFront() { return this.member(this.calls.ic_list_pop_front(this.table, this.places, this.self, this.out)); }
@@ -373,6 +373,16 @@ export class List extends Collection {
   merge(keys, given) {
     this.done(this.calls.ic_list_merge(this.table, this.places, ...keyParts(keys, this.links), this.self, this.given(given)));
   }
+  transferAfter(at, given, place) {
+    this.done(this.calls.ic_list_transfer_after(
+      this.table, this.places, this.self, placeNumber(at, "at"), this.given(given), placeNumber(place, "place"),
+    ));
+  }
+  transferBefore(at, given, place) {
+    this.done(this.calls.ic_list_transfer_before(
+      this.table, this.places, this.self, placeNumber(at, "at"), this.given(given), placeNumber(place, "place"),
+    ));
+  }
   // to here
 }
 
@@ -392,7 +402,7 @@ export class Ring extends Calls {
   removeIf(isUnwanted) {
     return removeIf(this.links, isUnwanted, (_, at) => this.unlessHead(this.next(at ?? this.head)), (_, at) => this.remove(at));
   }
-  // tools/c-calls --write writes from here: ring
+  // tools/c-calls --write writes from here: ring ring-check ring-keys
   insertAfter(at, place) {
     this.done(this.calls.ic_ring_insert_after(this.table, this.places, placeNumber(at, "at"), placeNumber(place, "place")));
   }
@@ -414,6 +424,8 @@ export class Ring extends Calls {
   }
   spliceAfter(at, head) { this.done(this.calls.ic_ring_splice_after(this.table, this.places, placeNumber(at, "at"), this.given(head))); }
   spliceBefore(at, head) { this.done(this.calls.ic_ring_splice_before(this.table, this.places, placeNumber(at, "at"), this.given(head))); }
+  check() { return this.counted(this.calls.ic_ring_check(this.table, this.places, this.head, this.out)); }
+  sort(keys) { this.done(this.calls.ic_ring_sort(this.table, this.places, ...keyParts(keys, this.links), this.head)); }
   // to here
   pushFront(place) { this.insertAfter(this.head, place); }
   pushBack(place) { this.insertBefore(this.head, place); }
@@ -434,7 +446,7 @@ export class Stack extends Collection {
   removeIf(isUnwanted) {
     return removeIf(this.links, isUnwanted, (_, at) => (at === null ? this.first : this.next(at)), (before) => this.removeAfter(before));
   }
-  // tools/c-calls --write writes from here: stack
+  // tools/c-calls --write writes from here: stack stack-keys
   pushFront(place) { this.done(this.calls.ic_stack_push_front(this.table, this.places, this.self, placeNumber(place, "place"))); }
   popFront() { return this.member(this.calls.ic_stack_pop_front(this.table, this.places, this.self, this.out)); }
   insertAfter(at, place) {
@@ -457,6 +469,10 @@ export class Stack extends Collection {
   fill(first, count) { this.done(this.calls.ic_stack_fill(this.table, this.places, this.self, u32(first, "first"), u32(count, "count"))); }
   clear() { this.done(this.calls.ic_stack_clear(this.table, this.places, this.self)); }
   check() { return this.counted(this.calls.ic_stack_check(this.table, this.places, this.self, this.out)); }
+  sort(keys) { this.done(this.calls.ic_stack_sort(this.table, this.places, ...keyParts(keys, this.links), this.self)); }
+  merge(keys, given) {
+    this.done(this.calls.ic_stack_merge(this.table, this.places, ...keyParts(keys, this.links), this.self, this.given(given)));
+  }
   // to here
   // A list is a hash table with one bucket.
   remove(place) { this.done(this.calls.ic_hash_remove(this.table, this.places, this.self, 1n, 0n, placeNumber(place, "place"))); }

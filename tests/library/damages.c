@@ -2,27 +2,27 @@
  *
  *     damages [DAMAGES [SEED]]
  *
- * Random calls make two lists, trees or hash tables of a table, and the check of each has to accept what they made, and count its members. Then
- * one word of a member, or of the list, tree or bucket, or a hash is overwritten, and the check has to say whether the words show a sequence
- * still. What they show is read here from the definition alone: over the numbers and marks that the header speaks of, with a note of each place that has been met. There are
- * 10,000 damages of each kind, or more, that leave no sequence. Prints for each check how often it accepted what calls made, how many damages
- * left a sequence, and how many left none.
+ * Random calls make two lists, rings, trees or hash tables of a table, and the check of each has to accept what they made, and count its members.
+ * Then one word of a member, or of the list, head, tree or bucket, or a hash is overwritten, and the check has to say whether the words show a
+ * sequence still. What they show is read here from the definition alone: over the numbers and marks that the header speaks of, with a note of each
+ * place that has been met. There are 10,000 damages of each kind, or more, that leave no sequence. Prints for each check how often it accepted
+ * what calls made, how many damages left a sequence, and how many left none.
  */
 #include "common.h"
 #include <string.h>
 
-enum kind { LIST, STACK, TREE, HASH, KINDS };
-enum { PLACES = 20, BUCKETS = 5, AT_LEAST = 10000, NO_PLACE = -1, OUTSIDE = -2 };
+enum kind { LIST, STACK, TREE, HASH, RING, KINDS };
+enum { PLACES = 20, HEADS = PLACES - 2, BUCKETS = 5, AT_LEAST = 10000, NO_PLACE = -1, OUTSIDE = -2 };
 
-static const char *const names[KINDS] = {"ic_list_check", "ic_stack_check", "ic_tree_check", "ic_hash_check"};
-static struct ic_link2 doubly[PLACES];
+static const char *const names[KINDS] = {"ic_list_check", "ic_stack_check", "ic_tree_check", "ic_hash_check", "ic_ring_check"};
+static struct ic_link2 doubly[PLACES]; /* of doubly linked lists, and of rings */
 static struct ic_link1 singly[PLACES]; /* of a singly linked list, and of a hash table */
 static struct ic_link3 nodes[PLACES];
 static struct ic_list lists[2];
 static struct ic_stack stacks[2], buckets[2][BUCKETS];
 static struct ic_tree trees[2];
 static uint64_t keys[PLACES], hashes[PLACES], accepted[KINDS], left_one[KINDS], left_none[KINDS];
-static int owner[PLACES]; /* 0 or 1: in which it is; else 2 */
+static int owner[PLACES]; /* 0 or 1: in which it is; 2: in none; 3: it is the head of a ring */
 
 static void stop(enum kind kind, const char *wrong) {
     printf("%s %s\n", names[kind], wrong);
@@ -47,6 +47,20 @@ static int count_list(const struct ic_list *list) {
         count++;
     }
     return named(list->tail) == before ? count : -1;
+}
+
+/* The members between a head and itself. Each place leads to the next one and back. */
+static int count_ring(int head) {
+    int is_met[PLACES] = {0}, before = head, count = 0;
+    for (int at = named(doubly[head].next); doubly[head].next & 1; at = named(doubly[at].next)) {
+        if (at == NO_PLACE || at == OUTSIDE || is_met[at]++ || !(doubly[at].next & 1) || named(doubly[at].prev) != before)
+            return -1;
+        if (at == head)
+            return count;
+        before = at;
+        count++;
+    }
+    return -1;
 }
 
 static int count_stack(const struct ic_stack *list) {
@@ -97,6 +111,7 @@ static int count_shown(enum kind kind, int which) {
     case LIST: return count_list(&lists[which]);
     case STACK: return count_stack(&stacks[which]);
     case HASH: return count_hash(buckets[which]);
+    case RING: return count_ring(HEADS + which);
     default: return count_tree(&trees[which]);
     }
 }
@@ -117,6 +132,15 @@ static uint32_t link_stack(int which, uint32_t place) {
                     : ic_stack_insert_after(singly, PLACES, &stacks[which], first, place);
 }
 
+static uint32_t link_ring(int which, uint32_t place) {
+    const uint32_t head = HEADS + (uint32_t)which;
+    switch (below(3)) {
+    case 0: return ic_ring_push_front(doubly, PLACES, head, place);
+    case 1: return ic_ring_push_back(doubly, PLACES, head, place);
+    default: return ic_ring_insert_after(doubly, PLACES, ic_ring_next(doubly, PLACES, head), place);
+    }
+}
+
 /* Takes a member off, and returns it, or IC_NONE. */
 static uint32_t unlink_some(enum kind kind, int which) {
     uint32_t place = below(PLACES), status;
@@ -126,6 +150,7 @@ static uint32_t unlink_some(enum kind kind, int which) {
         return IC_NONE;
     status = kind == LIST ? ic_list_remove(doubly, PLACES, &lists[which], place)
              : kind == HASH ? ic_hash_remove(singly, PLACES, buckets[which], BUCKETS, hashes[place], place)
+             : kind == RING ? ic_ring_remove(doubly, PLACES, place)
                             : ic_tree_remove(nodes, PLACES, &trees[which], place);
     return status == IC_OK ? place : IC_NONE;
 }
@@ -146,6 +171,7 @@ static void edit(enum kind kind, int which) {
     status = kind == LIST ? link_list(which, place)
              : kind == STACK ? link_stack(which, place)
              : kind == HASH ? ic_hash_insert(singly, PLACES, buckets[which], BUCKETS, hashes[place], place)
+             : kind == RING ? link_ring(which, place)
                              : ic_tree_insert(nodes, PLACES, keys, PLACES, &trees[which], place);
     if (status != IC_OK)
         stop(kind, "is tried after an edit that is refused");
@@ -154,14 +180,22 @@ static void edit(enum kind kind, int which) {
 
 /* ---- Checks and damages ----------------------------------------------------------------------------------------------------------- */
 
-/* The check says that there are so many members, or for -1 that there is no sequence. */
+static uint32_t checked(enum kind kind, int which, uint64_t *members) {
+    switch (kind) {
+    case LIST: return ic_list_check(doubly, PLACES, &lists[which], members);
+    case STACK: return ic_stack_check(singly, PLACES, &stacks[which], members);
+    case HASH: return ic_hash_check(singly, PLACES, hashes, PLACES, buckets[which], BUCKETS, members);
+    case RING: return ic_ring_check(doubly, PLACES, HEADS + (uint32_t)which, members);
+    default: return ic_tree_check(nodes, PLACES, &trees[which], members);
+    }
+}
+
+/* The check says that there are so many members, or for -1 that there is no sequence. Of a head that is not linked it says that. */
 static void expect_check(enum kind kind, int which, int count) {
+    const uint32_t refusal = kind == RING && !(doubly[HEADS + which].next & 1) ? IC_NOT_LINKED : IC_BROKEN;
     uint64_t members = UINT64_MAX;
-    uint32_t status = kind == LIST ? ic_list_check(doubly, PLACES, &lists[which], &members)
-                      : kind == STACK ? ic_stack_check(singly, PLACES, &stacks[which], &members)
-                      : kind == HASH ? ic_hash_check(singly, PLACES, hashes, PLACES, buckets[which], BUCKETS, &members)
-                                      : ic_tree_check(nodes, PLACES, &trees[which], &members);
-    if (count < 0 ? status != IC_BROKEN || members != UINT64_MAX : status != IC_OK || members != (uint64_t)count)
+    uint32_t status = checked(kind, which, &members);
+    if (count < 0 ? status != refusal || members != UINT64_MAX : status != IC_OK || members != (uint64_t)count)
         stop(kind, count < 0 ? "accepts words that show no sequence" : "refuses words that show a sequence, or counts others");
 }
 
@@ -175,7 +209,7 @@ static uint64_t overwritten(uint64_t word) {
     }
 }
 
-/* A word of a member, or of the list, tree or bucket itself, or a hash. */
+/* A word of a member, or of the list, head, tree or bucket itself, or a hash. */
 static uint64_t *some_word(enum kind kind, int which, uint32_t place) {
     int of_itself = owner[place] != which || below(8) == 0;
     if (kind == LIST)
@@ -184,6 +218,10 @@ static uint64_t *some_word(enum kind kind, int which, uint32_t place) {
         return of_itself ? &stacks[which].head : &singly[place].next;
     if (kind == HASH)
         return of_itself ? &buckets[which][below(BUCKETS)].head : below(4) ? &singly[place].next : &hashes[place];
+    if (kind == RING) {
+        struct ic_link2 *link = &doubly[of_itself ? HEADS + (uint32_t)which : place];
+        return below(2) ? &link->next : &link->prev;
+    }
     uint64_t *const of_node[] = {&nodes[place].left, &nodes[place].right, &nodes[place].parent};
     return of_itself ? &trees[which].root : of_node[below(3)];
 }
@@ -198,7 +236,7 @@ static void damage(enum kind kind, int which) {
     uint64_t *word = some_word(kind, which, below(PLACES)), was = *word;
     *word = overwritten(was);
     int count = count_shown(kind, which);
-    if (kind == LIST && (count < 0) == says_the_same(word, was, which))
+    if ((kind == LIST || kind == RING) && (count < 0) == says_the_same(word, was, which))
         stop(kind, "is tried on a damage that is none, or on none that is one");
     expect_check(kind, which, count);
     ++*(count < 0 ? &left_none[kind] : &left_one[kind]);
@@ -228,6 +266,11 @@ int main(int count, char **words) {
         memset(trees, 0, sizeof trees);
         for (int place = 0; place < PLACES; place++)
             owner[place] = 2;
+        for (uint32_t which = 0; which < 2 && kind == RING; which++) {
+            if (ic_ring_init(doubly, PLACES, HEADS + which) != IC_OK)
+                stop(kind, "is tried without a head");
+            owner[HEADS + which] = 3;
+        }
         for (uint32_t edits = below(3 * PLACES); edits; edits--)
             edit(kind, (int)below(2));
         for (int which = 0; which < 2; which++) {

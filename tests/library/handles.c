@@ -131,6 +131,7 @@ static void reads(void) {
     EXPECT(ic_stack_in_front(stack) == 0 && ic_stack_in_is_last(stack, 4) && ic_xor_in_step(xor_in, 0, 1) == 2);
     EXPECT(ic_hash_in_find(hash, 2, 2, &found) == IC_OK && found == 1 && ic_hash_in_first(hash, 1) != IC_NONE);
     EXPECT(ic_hash_in_check(hash, hashes, &members) == IC_OK && members == 5 && ic_hash_in_check(hash, few, &members) == IC_OUT_OF_RANGE);
+    EXPECT(ic_ring_in_check(ring, HEAD, &members) == IC_OK && members == 5 && ic_ring_in_check(ring, 7, &members) == IC_NOT_LINKED);
     EXPECT(ic_tree_in_find(tree, 4, &found) == IC_OK && found == 2 && ic_tree_in_first(tree, &found) == IC_OK && found == 0);
     EXPECT(ic_tree_in_left(tree, ic_tree_in_root(tree)) == ic_tree_left(nodes, PLACES, ic_tree_root(&a_tree)));
 }
@@ -179,7 +180,10 @@ static void pairs_of_handles(void) {
     REFUSED(ic_list_in_split_after(list, 0, empty), pairs);
     REFUSED(ic_list_in_split_before(list, 2, empty), pairs);
     REFUSED(ic_list_in_merge(list, keys, other), pairs);
+    REFUSED(ic_list_in_transfer_after(list, 0, other, 6), pairs);
+    REFUSED(ic_list_in_transfer_before(list, 0, list, 2), pairs);
     REFUSED(ic_stack_in_splice_after(stack, 0, stack3), stacked);
+    REFUSED(ic_stack_in_merge(stack, keys, stack3), stacked);
     REFUSED(ic_stack_in_split_after(stack, 0, stack4), stacked);
     REFUSED(ic_xor_in_append(xor_in, xor3), xored);
     REFUSED(ic_xor_in_splice_between(xor_in, 0, xor_in, 1), xored);
@@ -188,7 +192,13 @@ static void pairs_of_handles(void) {
     EXPECT(ic_list_in_append(list, second) == IC_OK && ic_list_in_is_empty(second) && ic_list_in_last(list) == 7);
     EXPECT(ic_list_in_split_after(list, 4, second) == IC_OK && ic_list_in_first(second) == 5);
     EXPECT(ic_list_in_sort(list, keys) == IC_OK && ic_list_in_sort(second, keys) == IC_OK && ic_list_in_merge(list, keys, second) == IC_OK);
+    EXPECT(ic_list_in_split_after(list, ic_list_in_first(list), second) == IC_OK && ic_list_in_is_singular(list));
+    EXPECT(ic_list_in_transfer_after(list, IC_NONE, second, 4) == IC_OK && ic_list_in_transfer_before(list, IC_NONE, second, 2) == IC_OK);
+    EXPECT(ic_list_in_is_first(list, 4) && ic_list_in_is_last(list, 2) && ic_list_in_append(list, second) == IC_OK);
+    EXPECT(ic_ring_in_sort(ring, keys, HEAD) == IC_OK && ic_ring_in_front(ring, HEAD) == 0 && ic_ring_in_back(ring, HEAD) == 2);
     EXPECT(ic_stack_in_splice_after(stack, 4, stack2) == IC_OK && ic_stack_in_is_empty(stack2));
+    EXPECT(ic_stack_in_split_after(stack, 4, stack2) == IC_OK && ic_stack_in_sort(stack2, keys) == IC_OK && ic_stack_in_sort(stack, keys) == IC_OK);
+    EXPECT(ic_stack_in_merge(stack, keys, stack2) == IC_OK && ic_stack_in_is_empty(stack2));
     EXPECT(ic_xor_in_append(xor_in, xor2) == IC_OK && ic_xor_in_last(xor_in) == 7);
 }
 

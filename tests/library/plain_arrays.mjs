@@ -71,16 +71,30 @@ function putInFront(plain, index, rest, splice) {
 
 /** Moves some members of a list in order to another one, and merges that with it: of equal keys those that stayed are in front. */
 function mergeSome(list, plain, keys, key) {
-  const given = new List(list.links), moved = plain.filter(() => random(2));
+  const given = new list.constructor(list.links), moved = plain.filter(() => random(2));
   list.sort(keys);
   sort(plain, key);
-  for (const place of plain.filter((it) => moved.includes(it))) {
-    list.remove(place);
-    given.pushBack(place);
-  }
-  const behind = [...given];
+  const behind = plain.filter((it) => moved.includes(it));
+  list.removeIf((place) => moved.includes(place));
+  for (const place of [...behind].reverse()) given.pushFront(place);
   plain.splice(0, plain.length, ...list, ...behind);
-  compare("List.merge", () => list.merge(keys, given), sort(plain, key));
+  compare(`${list.constructor.name}.merge`, () => list.merge(keys, given), sort(plain, key));
+  assert(given.isEmpty);
+  assert.deepEqual([...list], plain);
+}
+
+/** Moves some members of a list to another one, and each of them back into any gap. */
+function transferSome(list, plain) {
+  const given = new List(list.links), moved = plain.filter(() => random(2));
+  for (const place of moved)
+    compare("List.transferBefore", () => given.transferBefore(null, list, place), remove(plain, plain.indexOf(place)));
+  assert.deepEqual([...given], moved);
+  for (const place of moved) {
+    const at = orNull(plain[random(plain.length + 1)]);
+    compare("List.transferAfter", () => list.transferAfter(at, given, place), insert(plain, [], at === null ? 0 : plain.indexOf(at) + 1, place));
+  }
+  compare("List.transferBefore", () => list.transferBefore(null, given, null), REFUSED);
+  compare("List.transferAfter", () => list.transferAfter(null, given, PLACES), REFUSED);
   assert(given.isEmpty);
   assert.deepEqual([...list], plain);
 }
@@ -90,6 +104,7 @@ function doubly(ic, turns) {
   for (let place = 0; place < PLACES; place++) keys.words[place] = BigInt(random(8));
   play(list, plain, turns, (turn) => {
     if (turn % 70 === 0) mergeSome(list, plain, keys, key);
+    if (turn % 80 === 0) transferSome(list, plain);
     const place = random(PLACES + 2), at = random(9) === 0 ? null : random(PLACES + 1), count = random(4);
     if (plain.includes(at) && turn % 50 === 0) {
       const rest = list.splitAfter(at);
@@ -128,6 +143,7 @@ function doubly(ic, turns) {
 /** Two rings of one table, with its last places for heads. The calls of the first one edit both. */
 function rings(ic, turns) {
   const links = ic.links2(PLACES + 2), both = [PLACES, PLACES + 1].map((head) => ({ head, ring: new Ring(links, head), plain: [] }));
+  const keys = ic.keys(PLACES + 2), few = ic.keys(PLACES), key = (place) => Number(keys.word(place));
   const [{ ring, plain }, other] = both;
   // Where a place stands: the array of its ring, and an index there, at which a head is in front of all.
   function stands(place) {
@@ -167,6 +183,8 @@ function rings(ic, turns) {
     const place = random(PLACES + 3), at = random(PLACES + 3), from = random(PLACES), own = [...plain, ring.head][random(plain.length + 1)];
     const index = plain.indexOf(at);
     if (turn % 50 === 0) exchangeTwice();
+    keys.words[from] = BigInt(random(8));
+    assert.deepEqual([ring.check(), other.ring.check()], [plain.length, other.plain.length]);
     assert.deepEqual([...other.ring], other.plain);
     assert.deepEqual([ring.first, ring.last, ring.isEmpty], [orNull(plain[0]), orNull(plain.at(-1)), !plain.length]);
     if (index >= 0) assert.deepEqual([ring.next(at), ring.prev(at)], [plain[index + 1] ?? ring.head, plain[index - 1] ?? ring.head]);
@@ -182,6 +200,8 @@ function rings(ic, turns) {
       ["moveAfter", [at, from], () => move(from, at, true)],
       ["moveBefore", [at, from], () => move(from, at, false)],
       ["exchange", [at, null], () => REFUSED],
+      ["sort", [keys], () => sort(plain, key)],
+      ["sort", [few], () => REFUSED],
       ...(turn % 30 === 0 ? [["spliceAfter", [own, other.ring], () => splice(own, true)]] : []),
       ...(turn % 30 === 1 ? [["spliceBefore", [own, other.ring], () => splice(own, false)]] : []),
     ];
@@ -189,8 +209,10 @@ function rings(ic, turns) {
 }
 
 function singly(ic, turns) {
-  const list = new Stack(ic.links1(PLACES)), plain = [];
+  const list = new Stack(ic.links1(PLACES)), plain = [], keys = ic.keys(PLACES), few = ic.keys(PLACES - 1), key = (place) => Number(keys.word(place));
+  for (let place = 0; place < PLACES; place++) keys.words[place] = BigInt(random(8));
   play(list, plain, turns, (turn) => {
+    if (turn % 70 === 0) mergeSome(list, plain, keys, key);
     const place = random(PLACES + 2), at = random(9) === 0 ? null : random(PLACES + 1), count = random(4);
     if (plain.includes(at) && turn % 50 === 0) {
       const rest = list.splitAfter(at);
@@ -206,6 +228,7 @@ function singly(ic, turns) {
       ["remove", [place], () => remove(plain, plain.indexOf(place))],
       ["check", [], () => plain.length],
       ...(turn % 60 === 0 ? [["clear", [], () => clear(plain)]] : []),
+      ...(turn % 40 === 0 ? [["sort", [keys], () => sort(plain, key)], ["sort", [few], () => REFUSED]] : []),
     ];
   });
 }
@@ -329,8 +352,12 @@ function refusals(ic) {
   links.words[2 * 4] = 8n * 9n + 1n;
   assert.deepEqual([ring.first, ring.isEmpty, [...ring]], [null, false, []]);
   refused(BROKEN, () => ring.popFront());
+  refused(BROKEN, () => ring.check());
+  refused(BROKEN, () => ring.sort(ic.keys(5)));
+  refused(OUT_OF_RANGE, () => ring.sort(ic.keys(4)));
   other.remove(3);
   refused(NOT_LINKED, () => other.popFront());
+  refused(NOT_LINKED, () => other.check());
   refused(NOT_LINKED, () => ring.spliceAfter(4, other));
   list.pushBack(2);
   links.words[2 * 2 + 1] = 8n;
@@ -351,6 +378,7 @@ for (const module of modules) {
   for (const given of [list, new List(ic.links2(PLACES))]) {
     assert.throws(() => list.spliceAfter(null, given), TypeError);
     assert.throws(() => list.merge(ic.keys(PLACES), given), TypeError);
+    assert.throws(() => list.transferAfter(null, given, 0), TypeError);
   }
   for (const given of [ring, new Ring(ic.links2(PLACES), 0)]) assert.throws(() => ring.spliceBefore(0, given), TypeError);
   assert.throws(() => list.sort(links), TypeError);

@@ -27,12 +27,18 @@ stack.remove(3);
 const unique: number = tree.insertUnique(3);
 const equal: Gap = tree.findBy((member) => member - unique);
 tree.insertBy(2, (one, other) => one - other);
+list.transferAfter(null, rest, 7);
+list.transferBefore(7, rest, 3);
 const black: boolean = tree.isBlack(3) && ic.links1(1).isLinked(null);
 const beside: Gap[] = [list.next(7), list.prev(7), stack.next(0), others.step(null, 3), tree.left(3), tree.right(3), tree.parent(3), tree.next(null)];
 const removed: Gap[] = [stack.removeAfter(null), stack.replaceAfter(null, 2), others.popFront(), others.popBack()];
 const members: number = list.check() + stack.check() + tree.check();
 const ring = new Ring(ic.links2(10), 8);
 ring.spliceAfter(ring.head, new Ring(ic.links2(10), 9));
+ring.sort(ic.keys(10));
+const circle: number = ring.check();
+stack.sort(keys);
+stack.merge(keys, new Stack(ic.links1(100)));
 for (const place of ring) ring.moveBefore(ring.head, place);
 const table = new HashTable(ic.links1(4), 16, keys);
 table.insert(50n, 3);
@@ -57,6 +63,10 @@ list.fill(3);
 list.moveBefore(3);
 // @ts-expect-error: there may be no member
 const place: number = list.popBack();
+// @ts-expect-error: no member to move
+list.transferAfter(null, rest);
+// @ts-expect-error: a list of another kind
+stack.merge(keys, list);
 // @ts-expect-error: a ring has a head
 new Ring(ic.links2(10));
 // @ts-expect-error: a list is no ring

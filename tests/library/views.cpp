@@ -212,12 +212,19 @@ void move(lists<ic::list_view> &it, int which, std::uint32_t index) {
     }
 }
 
-/// Sorts both lists by random keys, and merges one into the other, as the standard library does.
-void sort_and_merge(lists<ic::list_view> &it, int which) {
-    const ic::list_view view = it.view(which), other = it.view(1 - which);
-    std::vector<std::uint64_t> keys(places);
+/// A key for each place, many of them equal.
+std::vector<std::uint64_t> some_keys(std::size_t count) {
+    std::vector<std::uint64_t> keys(count);
     for (std::uint64_t &key : keys)
         key = below(5);
+    return keys;
+}
+
+/// Sorts both lists by random keys, and merges one into the other, as the standard library does.
+template <class View>
+void sort_and_merge(lists<View> &it, int which) {
+    const View view = it.view(which), other = it.view(1 - which);
+    const std::vector<std::uint64_t> keys = some_keys(places);
     const auto is_less = [&](std::uint32_t one, std::uint32_t two) { return keys[one] < keys[two]; };
     made(view.sort({keys.data(), keys.size() - 1}), ic::status::out_of_range);
     made(view.merge(keys, view), ic::status::broken);
@@ -229,6 +236,22 @@ void sort_and_merge(lists<ic::list_view> &it, int which) {
     }
 }
 
+/// Moves a member of the other list into a gap of this one.
+void transfer(lists<ic::list_view> &it, int which, std::uint32_t index) {
+    const ic::list_view view = it.view(which), other = it.view(1 - which);
+    auto &plain = it.plain[which], &others = it.plain[1 - which];
+    const auto at = std::next(view.begin(), index);
+    const auto member = std::next(others.begin(), below(static_cast<std::uint32_t>(others.size())));
+    const std::uint32_t before = index ? *std::next(view.begin(), index - 1) : ic::none;
+    const std::uint32_t call = below(3);
+    made(view.transfer_after(before, other, ic::none), ic::status::null);
+    made(view.transfer_before(*at, view, *member), ic::status::broken);
+    if (made(call == 0 ? view.transfer_after(before, other, *member)
+             : call == 1 ? view.transfer_before(*at, other, *member)
+                         : view.splice(at, other, other.iterator_to(*member)), ic::status::ok))
+        plain.splice(std::next(plain.begin(), index), others, member);
+}
+
 void edit_own(lists<ic::list_view> &it, int which, std::uint32_t index) {
     const ic::list_view view = it.view(which), other = it.view(1 - which);
     auto &plain = it.plain[which], &others = it.plain[1 - which];
@@ -238,6 +261,8 @@ void edit_own(lists<ic::list_view> &it, int which, std::uint32_t index) {
     const auto member = std::next(plain.begin(), index);
     if (below(16) == 0) {
         sort_and_merge(it, which);
+    } else if (!others.empty() && below(8) == 0) {
+        transfer(it, which, index);
     } else if (at != ic::none && below(3) == 0) {
         move(it, which, index);
     } else if (at != ic::none && below(2)) {
@@ -266,7 +291,9 @@ void edit_own(lists<ic::stack_view> &it, int which, std::uint32_t index) {
     const ic::status linking = to_link(view, place);
     const auto member = std::next(plain.begin(), index);
     const bool is_end = member == plain.end();
-    if (below(2)) {
+    if (below(16) == 0) {
+        sort_and_merge(it, which);
+    } else if (below(2)) {
         if (made(view.insert_after(before, place), linking))
             plain.insert(member, place);
     } else if (below(2)) {
@@ -483,6 +510,7 @@ struct rings {
             expect(std::equal(reads.begin(), reads.end(), plain[which].begin(), plain[which].end()), "a loop over a ring has other members");
             expect(std::equal(reads.rbegin(), reads.rend(), plain[which].rbegin(), plain[which].rend()), "a loop back over a ring has other members");
             expect(reads.iterator_to(head(which)) == reads.end(), "a head is a member of its ring");
+            expect(reads.check() == plain[which].size() && view().check(head(which)) == reads.check(), "a check counts other members of a ring");
             auto member = plain[which].begin();
             view().for_each(head(which), [&](std::uint32_t place) { expect(place == *member++, "a ring has another member"); });
             expect(member == plain[which].end() && view().empty(head(which)) == plain[which].empty(), "a ring has other members");
@@ -513,6 +541,17 @@ void swap_or_move(rings &it, int which, std::list<std::uint32_t>::iterator membe
     }
 }
 
+/// Sorts the members of a head, as the standard library does.
+void sort(rings &it, int which) {
+    const ic::ring_view view = it.view();
+    const std::vector<std::uint64_t> keys = some_keys(places + 2);
+    const std::uint32_t head = rings::head(which);
+    made(view.sort({keys.data(), keys.size() - 1}, head), ic::status::out_of_range);
+    made(view.members(ic::none).sort(keys), ic::status::null);
+    if (made(below(2) ? view.sort(keys, head) : view.members(head).sort(keys), ic::status::ok))
+        it.plain[which].sort([&](std::uint32_t one, std::uint32_t two) { return keys[one] < keys[two]; });
+}
+
 void step(rings &it) {
     const int which = static_cast<int>(below(2));
     const ic::ring_view view = it.view();
@@ -520,7 +559,7 @@ void step(rings &it) {
     const std::uint32_t place = below(places), head = rings::head(which);
     const ic::status linking = to_link(view, place);
     const auto member = std::next(plain.begin(), below(static_cast<std::uint32_t>(plain.size()) + 1));
-    switch (below(8)) {
+    switch (below(9)) {
     case 0: expect_taken(view.pop_front(head), take_front(plain)); break;
     case 1: expect_taken(view.pop_back(head), take_back(plain)); break;
     case 2:
@@ -555,6 +594,7 @@ void step(rings &it) {
             plain.erase(member);
         break;
     }
+    case 7: sort(it, which); break;
     default:
         if (made(below(2) ? view.insert_before(member == plain.end() ? head : *member, place)
                           : view.insert_after(member == plain.begin() ? head : *std::prev(member), place), linking))
@@ -680,7 +720,10 @@ void check_any_rings() {
     const std::uint32_t count = below(7);
     std::vector<ic_link2> table(count);
     spoil(table.data(), count, count);
-    check_rounds(ic::ring_view(table).members(below(count + 2)), count);
+    const ic::ring_members view = ic::ring_view(table).members(below(count + 2));
+    if (const auto members = view.check())
+        expect(*members == static_cast<std::uint64_t>(std::distance(view.begin(), view.end())), "a check counts other members of a ring than a loop");
+    check_rounds(view, count);
 }
 
 void check_any_hashes() {

@@ -76,7 +76,7 @@
 //! has places, and at a place that is not linked. No cursor leaves the table: it reads a word that names a place out of the table as none.
 //!
 //! Links and lists hold numbers and no addresses. You can write their [words](Link2::words) to a file, and read them again. Words may be any, and
-//! [`List::check`] says whether they are a list.
+//! [`List::check`] says whether they are a list, and [`ring::check`] whether they are a ring.
 //!
 //! The edits, the searches and the steps through a tree are calls of the crate `ic-sys`, which are proved. This crate is tested, and not
 //! proved. Its `unsafe` blocks are these calls alone.

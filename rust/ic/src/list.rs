@@ -37,6 +37,19 @@ use ic_sys::*;
 /// # Ok::<(), Error>(())
 /// ```
 ///
+/// One member goes from list to list by a transfer, as a task does that waits no longer:
+///
+/// ```
+/// # use ic::{Error, Link2, List};
+/// let (mut links, mut ready, mut waiting) = ([Link2::UNLINKED; 4], List::new(), List::new());
+/// ready.fill(&mut links, 0, 2)?;
+/// waiting.fill(&mut links, 2, 2)?;
+/// ready.transfer_before(&mut links, None, &mut waiting, 3)?; // to the back
+/// ready.transfer_after(&mut links, Some(0), &mut waiting, 2)?;
+/// assert!(ready.iter(&links).eq([0, 2, 1, 3]) && waiting.is_empty());
+/// # Ok::<(), Error>(())
+/// ```
+///
 /// A slice of yours may have a key for each place, by which you sort the members:
 ///
 /// ```
@@ -129,7 +142,7 @@ impl List {
         read(table, at, Link2::prev)
     }
 
-    // tools/c-calls --write writes from here: list list-keys
+    // tools/c-calls --write writes from here: list list-keys list-transfer
     /// Inserts `place` at the front, in O(1).
     ///
     /// # Errors
@@ -421,6 +434,48 @@ impl List {
         let (links, places) = Link2::parts(table);
         // SAFETY: each pointer comes from a reference, with the length of its slice, and no mutable reference overlaps another one.
         done(unsafe { ic_list_merge(links, places, keys.as_ptr(), keys.len(), &mut self.0, &mut given.0) })
+    }
+
+    /// Moves the member `place` of `given` after the member `at`, or to the front if `at` is `None`, in O(1). The place stays linked during
+    /// the call.
+    ///
+    /// # Errors
+    ///
+    /// [`Error::Null`] if `place` is `u32::MAX`. [`Error::OutOfRange`] if `at` or `place` is not below the table's length.
+    /// [`Error::NotLinked`] if `at` or `place` is not linked. [`Error::Broken`] if `at` is no member of the list, or `place` is none of
+    /// `given`, or both lists begin with the same member, as a list and its copy do.
+    #[inline]
+    pub fn transfer_after(
+        &mut self,
+        table: &mut [Link2],
+        at: Option<u32>,
+        given: &mut List,
+        place: u32,
+    ) -> Result<(), Error> {
+        let (links, places) = Link2::parts(table);
+        // SAFETY: each pointer comes from a reference, with the length of its slice, and no mutable reference overlaps another one.
+        done(unsafe { ic_list_transfer_after(links, places, &mut self.0, number(at), &mut given.0, place) })
+    }
+
+    /// Moves the member `place` of `given` before the member `at`, or to the back if `at` is `None`, in O(1). The place stays linked during
+    /// the call.
+    ///
+    /// # Errors
+    ///
+    /// [`Error::Null`] if `place` is `u32::MAX`. [`Error::OutOfRange`] if `at` or `place` is not below the table's length.
+    /// [`Error::NotLinked`] if `at` or `place` is not linked. [`Error::Broken`] if `at` is no member of the list, or `place` is none of
+    /// `given`, or both lists begin with the same member, as a list and its copy do.
+    #[inline]
+    pub fn transfer_before(
+        &mut self,
+        table: &mut [Link2],
+        at: Option<u32>,
+        given: &mut List,
+        place: u32,
+    ) -> Result<(), Error> {
+        let (links, places) = Link2::parts(table);
+        // SAFETY: each pointer comes from a reference, with the length of its slice, and no mutable reference overlaps another one.
+        done(unsafe { ic_list_transfer_before(links, places, &mut self.0, number(at), &mut given.0, place) })
     }
     // to here
 }

@@ -24,14 +24,32 @@
 //! # Ok::<(), Error>(())
 //! ```
 //!
+//! A slice of yours may have a key for each place, by which you sort the members of a head. A check counts them, and says whether words that come
+//! from a file form a ring:
+//!
+//! ```
+//! # use ic::{ring, Error, Link2};
+//! let (keys, mut links) = ([30, 10, 20, 0], [Link2::UNLINKED; 4]); // three objects, and a head
+//! ring::init(&mut links, 3)?;
+//! for place in 0..3 {
+//!     ring::push_back(&mut links, 3, place)?;
+//! }
+//! ring::sort(&mut links, &keys, 3)?;
+//! assert!(ring::iter(&links, 3).eq([1, 2, 0]));
+//! assert_eq!(ring::check(&links, 3), Ok(3));
+//! links[1] = Link2::UNLINKED;
+//! assert_eq!(ring::check(&links, 3), Err(Error::Broken));
+//! # Ok::<(), Error>(())
+//! ```
+//!
 //! No call can tell whether two places are in one ring or in two.
 
-use crate::error::{done, handed_out};
+use crate::error::{done, handed_out, try_counted};
 use crate::link::{member, read, Link};
 use crate::{Error, Link2};
 use ic_sys::*;
 
-// tools/c-calls --write writes from here: ring
+// tools/c-calls --write writes from here: ring ring-check ring-keys
 /// Makes `head` the head of a ring with no members, as INIT_LIST_HEAD of Linux does, in O(1).
 ///
 /// # Errors
@@ -200,6 +218,34 @@ pub fn splice_before(table: &mut [Link2], at: u32, head: u32) -> Result<(), Erro
     let (links, places) = Link2::parts(table);
     // SAFETY: each pointer comes from a reference, with the length of its slice, and no mutable reference overlaps another one.
     done(unsafe { ic_ring_splice_before(links, places, at, head) })
+}
+
+/// Counts the members of the head `head`, and returns how many there are, in O(n). Call it if the words come from a file, or from memory
+/// that others write. If it returns a number, each call does what it says of a ring that the table holds.
+///
+/// # Errors
+///
+/// [`Error::Null`] if `head` is `u32::MAX`. [`Error::OutOfRange`] if `head` is not below the table's length. [`Error::NotLinked`] if `head`
+/// is not linked. [`Error::Broken`] if the links do not lead from `head` around a ring and back to it, each to the next place and back.
+#[inline]
+pub fn check(table: &[Link2], head: u32) -> Result<u64, Error> {
+    let (links, places) = Link2::read_parts(table);
+    // SAFETY: each pointer comes from a reference, with the length of its slice, and no mutable reference overlaps another one.
+    try_counted(|members| unsafe { ic_ring_check(links, places, head, members) })
+}
+
+/// Sorts the members of the head `head` by their keys, as list_sort of Linux does, in O(n log n). Members with equal keys keep their order.
+///
+/// # Errors
+///
+/// [`Error::Null`] if `head` is `u32::MAX`. [`Error::OutOfRange`] if there are fewer keys than places, or `head` is not below the table's
+/// length. [`Error::NotLinked`] if `head` is not linked. [`Error::Broken`] if the links do not lead from `head` around a ring and back to
+/// it, each to the next place and back.
+#[inline]
+pub fn sort(table: &mut [Link2], keys: &[u64], head: u32) -> Result<(), Error> {
+    let (links, places) = Link2::parts(table);
+    // SAFETY: each pointer comes from a reference, with the length of its slice, and no mutable reference overlaps another one.
+    done(unsafe { ic_ring_sort(links, places, keys.as_ptr(), keys.len(), head) })
 }
 // to here
 

@@ -31,6 +31,20 @@ use ic_sys::*;
 /// # Ok::<(), Error>(())
 /// ```
 ///
+/// A slice of yours may have a key for each place, by which you sort the members, and merge other ones into them:
+///
+/// ```
+/// # use ic::{Error, Link1, Stack};
+/// let (keys, mut links) = ([30, 10, 20, 10], [Link1::UNLINKED; 4]);
+/// let (mut list, mut late) = (Stack::new(), Stack::new());
+/// list.fill(&mut links, 0, 3)?;
+/// late.push_front(&mut links, 3)?;
+/// list.sort(&mut links, &keys)?;
+/// list.merge(&mut links, &keys, &mut late)?;
+/// assert!(list.iter(&links).eq([1, 3, 2, 0]) && late.is_empty());
+/// # Ok::<(), Error>(())
+/// ```
+///
 /// If you drop the list, its members stay linked. A clone of it belongs to a clone of the table.
 #[repr(transparent)]
 #[derive(Clone, Default, PartialEq, Eq)]
@@ -81,7 +95,7 @@ impl Stack {
         read(table, at, Link1::next)
     }
 
-    // tools/c-calls --write writes from here: stack
+    // tools/c-calls --write writes from here: stack stack-keys
     /// Inserts `place` at the front, in O(1).
     ///
     /// # Errors
@@ -215,6 +229,33 @@ impl Stack {
         let (links, places) = Link1::read_parts(table);
         // SAFETY: each pointer comes from a reference, with the length of its slice, and no mutable reference overlaps another one.
         counted(|members| unsafe { ic_stack_check(links, places, &self.0, members) })
+    }
+
+    /// Sorts the members by their keys, in O(n log n). Members with equal keys keep their order.
+    ///
+    /// # Errors
+    ///
+    /// [`Error::OutOfRange`] if there are fewer keys than places. [`Error::Broken`] if the links lead from the first member to no end
+    /// within the table.
+    #[inline]
+    pub fn sort(&mut self, table: &mut [Link1], keys: &[u64]) -> Result<(), Error> {
+        let (links, places) = Link1::parts(table);
+        // SAFETY: each pointer comes from a reference, with the length of its slice, and no mutable reference overlaps another one.
+        done(unsafe { ic_stack_sort(links, places, keys.as_ptr(), keys.len(), &mut self.0) })
+    }
+
+    /// Moves all members of `given` to where their keys belong, if both lists are in the order of their keys, in O(n). Of members with
+    /// equal keys, those of this list come first. The call leaves `given` empty.
+    ///
+    /// # Errors
+    ///
+    /// [`Error::OutOfRange`] if there are fewer keys than places. [`Error::Broken`] if the links of one of the lists lead from its first
+    /// member to no end within the table, or both lists end with the same member, as lists do that share one.
+    #[inline]
+    pub fn merge(&mut self, table: &mut [Link1], keys: &[u64], given: &mut Stack) -> Result<(), Error> {
+        let (links, places) = Link1::parts(table);
+        // SAFETY: each pointer comes from a reference, with the length of its slice, and no mutable reference overlaps another one.
+        done(unsafe { ic_stack_merge(links, places, keys.as_ptr(), keys.len(), &mut self.0, &mut given.0) })
     }
     // to here
 

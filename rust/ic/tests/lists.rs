@@ -74,6 +74,27 @@ fn list_moves_members() {
 }
 
 #[test]
+fn list_transfers_members() {
+    let mut links = [Link2::UNLINKED; 8];
+    let (mut list, mut other) = (List::new(), List::new());
+    list.fill(&mut links, 0, 2).unwrap();
+    other.fill(&mut links, 2, 4).unwrap();
+    list.transfer_after(&mut links, Some(0), &mut other, 3).unwrap();
+    list.transfer_before(&mut links, Some(0), &mut other, 5).unwrap();
+    list.transfer_after(&mut links, None, &mut other, 2).unwrap();
+    assert!(list.iter(&links).eq([2, 5, 0, 3, 1]) && other.iter(&links).eq([4]));
+    let mut same = list.clone();
+    assert_eq!(list.transfer_after(&mut links, None, &mut other, u32::MAX), Err(Error::Null));
+    assert_eq!(list.transfer_after(&mut links, Some(8), &mut other, 4), Err(Error::OutOfRange));
+    assert_eq!(list.transfer_before(&mut links, Some(0), &mut other, 6), Err(Error::NotLinked));
+    assert_eq!(list.transfer_before(&mut links, Some(4), &mut other, 4), Err(Error::Broken));
+    assert_eq!(list.transfer_before(&mut links, Some(0), &mut other, 2), Err(Error::Broken));
+    assert_eq!(list.transfer_after(&mut links, None, &mut same, 3), Err(Error::Broken));
+    list.transfer_before(&mut links, None, &mut other, 4).unwrap();
+    assert!(list.iter(&links).rev().eq([4, 1, 3, 0, 5, 2]) && other.is_empty());
+}
+
+#[test]
 fn lists_are_filled() {
     let mut links = [Link2::UNLINKED; 8];
     let mut list = List::new();
@@ -146,6 +167,24 @@ fn lists_are_sorted_and_merged() {
 }
 
 #[test]
+fn stacks_are_sorted_and_merged() {
+    let keys = [5, 3, 5, 1, 3, 0, 4, 9];
+    let mut links = [Link1::UNLINKED; 8];
+    let (mut list, mut given) = (Stack::new(), Stack::new());
+    list.fill(&mut links, 0, 4).unwrap();
+    given.fill(&mut links, 4, 4).unwrap();
+    list.sort(&mut links, &keys).unwrap();
+    given.sort(&mut links, &keys).unwrap();
+    assert!(list.iter(&links).eq([3, 1, 0, 2]) && given.iter(&links).eq([5, 4, 6, 7]));
+    assert_eq!(list.sort(&mut links, &keys[..7]), Err(Error::OutOfRange));
+    let mut end = list.clone().split_after(&mut links.clone(), Some(0)).unwrap(); // which is the last member of both
+    assert_eq!(list.merge(&mut links, &keys, &mut end), Err(Error::Broken));
+    list.merge(&mut links, &keys, &mut given).unwrap();
+    assert!(list.iter(&links).eq([5, 3, 1, 4, 6, 0, 2, 7]) && given.is_empty());
+    assert_eq!((list.check(&links), given.check(&links)), (Some(8), Some(0)));
+}
+
+#[test]
 fn lists_are_checked() {
     let (mut links, mut words) = ([Link2::UNLINKED; 8], [Link1::UNLINKED; 8]);
     let (mut list, mut stack) = (List::new(), Stack::new());
@@ -155,6 +194,8 @@ fn lists_are_checked() {
     assert_eq!((list.check(&links[..5]), stack.check(&words[..5])), (None, None));
     links[3] = Link2::UNLINKED;
     assert_eq!((list.check(&links), list.sort(&mut links, &[0; 8])), (None, Err(Error::Broken)));
+    words[3] = Link1::UNLINKED;
+    assert_eq!((stack.check(&words), stack.sort(&mut words, &[0; 8])), (None, Err(Error::Broken)));
 }
 
 #[test]

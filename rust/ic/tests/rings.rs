@@ -155,10 +155,17 @@ impl Pair {
         }
     }
 
+    fn sort(&mut self, ring: usize, random: &mut Random) {
+        let keys: Vec<_> = (0..PLACES + 2).map(|_| u64::from(random.below(5))).collect();
+        ring::sort(&mut self.links, &keys, HEADS[ring]).unwrap();
+        self.plain[ring].sort_by_key(|&place| keys[place as usize]);
+    }
+
     fn check(&self) {
         for (head, members) in HEADS.into_iter().zip(&self.plain) {
             assert!(ring::iter(&self.links, head).eq(members.iter().copied()));
             assert_eq!(ring::is_empty(&self.links, head), members.is_empty());
+            assert_eq!(ring::check(&self.links, head), Ok(members.len() as u64));
             let circle: Vec<_> = [head].into_iter().chain(members.iter().copied()).chain([head]).collect();
             for beside in circle.windows(2) {
                 assert_eq!(ring::next(&self.links, beside[0]), Some(beside[1]));
@@ -176,7 +183,7 @@ fn rings_are_as_lists() {
         let (at, place, object, ring) =
             (any(&mut random), any(&mut random), random.below(PLACES), random.below(2) as usize);
         let side = if random.below(2) == 0 { Side::After } else { Side::Before };
-        match random.below(10) {
+        match random.below(11) {
             0 => pair.insert(at, object, side),
             1 => pair.insert(at, place.min(PLACES + 2), side),
             2 => pair.push(ring, object, side),
@@ -185,6 +192,7 @@ fn rings_are_as_lists() {
             6 if pair.is_member(object) => pair.replace(object, place.min(PLACES + 2)),
             7 => pair.move_to(at, object, side),
             8 => pair.splice(&mut random, side),
+            9 => pair.sort(ring, &mut random),
             _ => pair.exchange_twice(at, place),
         }
         pair.check();
@@ -202,6 +210,10 @@ fn broken_rings_are_refused() {
     assert_eq!(ring::move_after(&mut links, 3, 1), Err(Error::Broken));
     assert_eq!(ring::splice_before(&mut links, 2, 3), Err(Error::Broken));
     assert_eq!(ring::splice_after(&mut links, 3, 2), Err(Error::Broken));
+    let heads = [u32::MAX, 9, 0, 1].map(|head| ring::check(&links, head).unwrap_err());
+    assert_eq!(heads, [Error::Null, Error::OutOfRange, Error::Broken, Error::Broken]);
+    assert_eq!(ring::sort(&mut links, &[0; 4], 0), Err(Error::Broken));
+    assert_eq!(ring::sort(&mut links, &[0; 3], 0), Err(Error::OutOfRange));
     assert_eq!((ring::is_empty(&links, 0), ring::iter(&links, 0).count()), (false, 0));
     assert!(links == before);
 }
