@@ -20,10 +20,10 @@ use Rattle.ic_raw.specs.declared.words.RawOne.{RawOne}
 use Rattle.ic_raw.specs.declared.table.RawTable.{RawTable}
 use Rattle.ic_raw.specs.Hash.{has_key, NamesKey}
 use Rattle.ic_raw.specs.Keys.{key_of}
-use Rattle.ic_raw.specs.Singly.{Shows, lent_table, successor}
+use Rattle.ic_raw.specs.Singly.{LeadsFrom, Shows, lent_table, successor}
 use Rattle.ic_raw.specs.Tables.{raw_entries}
 use Rattle.ic_raw.specs.Words.{is_linked_one, no_word, HasNumber}
-use Rattle.ic_raw.proofs.Singly.{behind_any, ended_distinct, LeadsTo, leads_on, ends_there}
+use Rattle.ic_raw.proofs.Singly.{behind_any, ended_distinct, leads_on, ends_there}
 
 -- THE WALK HAS COME to `current`, past members of s that fail a test, of which `before` is the last. No more members are left than steps
 pub record Comes (is : Place → Bool) (t : Table RawOne) (s : List Place) (before current : Option Place) (left : ℕ) : Type 0 where
@@ -117,18 +117,34 @@ shown_from {t} p s linked shown =
 -- THE PLACES FROM `front` ON LEAD TO `current`, and where that is none they are a list
 abbrev pub WalksTo : Table RawOne → Option Place → Option Place → Type 0
 WalksTo t front None = (s : List Place) × Shows t (list_from front) s
-WalksTo t front (Some at) = (begin : Place) × (front ≡ Some begin) × LeadsTo t begin at
+WalksTo t front (Some at) = LeadsFrom t front at
 
 pub walks_first : (t : Table RawOne) (front : Option Place) → WalksTo t front front
 walks_first t None = ([], record { distinct = tt; chain = tt; head = refl; tail = refl })
-walks_first t (Some begin) = (begin, refl, record { walked = []; chain = tt; starts = refl })
+walks_first t (Some begin) = record { begin = begin; is = refl; leads = record { walked = []; chain = tt; starts = refl } }
 
 pub walks_on : {t : Table RawOne} {front : Option Place} {at : Place} (next : Option Place) → WalksTo t front (Some at) → is_linked_one (t.entry at) ≡ true
     → (successor_at successor t at).next ≡ next → WalksTo t front next
-walks_on None walks linked is = let whole = ends_there walks.2 linked is in rw walks.1 (whole.0, whole.1)
-walks_on (Some next) walks linked is = (walks.0, walks.1, leads_on walks.2 linked is)
+walks_on None walks linked is = let whole = ends_there walks.leads linked is in rw walks.is (whole.0, whole.1)
+walks_on (Some next) walks linked is = record { begin = walks.begin; is = walks.is; leads = leads_on walks.leads linked is }
 
 -- what is named in the view is named among the words
-pub names_back : {words : List RawOne} (t : RawTable RawOne) (keys : List ℕ) (key number : ℕ) → raw_entries t ≡ words
-    → (q : Place) × IsLinked is_linked_one (lent_table t) q × (has_key keys key q ≡ true) × HasNumber q number → NamesKey words keys key number
-names_back t keys key number e names = (names.0, ap (λ fs. is_linked_one (entry_at no_word fs names.0)) (sym e) ∙ names.1, names.2, names.3)
+pub names_back : {words : List RawOne} {front front' : Option Place} (t : RawTable RawOne) (keys : List ℕ) (key number : ℕ) → raw_entries t ≡ words → front ≡ front'
+    → (q : Place) × IsLinked is_linked_one (lent_table t) q × (has_key keys key q ≡ true) × HasNumber q number × LeadsFrom (lent_table t) front q
+    → NamesKey words front' keys key number
+names_back t keys key number e same names =
+    let walk = names.4.leads in (
+      names.0,
+      ap (λ fs. is_linked_one (entry_at no_word fs names.0)) (sym e) ∙ names.1,
+      names.2,
+      names.3,
+      record {
+        begin = names.4.begin;
+        is = sym same ∙ names.4.is;
+        leads = record {
+          walked = walk.walked;
+          chain = subst (λ fs. IsChain (IsFollowed successor) (λ p. entry_at no_word fs p) None walk.walked (Some names.0)) e walk.chain;
+          starts = walk.starts;
+        };
+      },
+    )

@@ -20,7 +20,7 @@ use Rattle.ic_raw.specs.Gaps.{Stands, gap_of}
 use Rattle.ic_raw.specs.Words.{no_word, is_linked_one}
 use Rattle.ic_raw.specs.Tables.{IsFree, raw_entries}
 use Rattle.ic_raw.specs.Touches.{IsNoneOf, Touches}
-use Rattle.ic_raw.specs.Singly.{Shows, table_of, lent_table, list_of, successor, next_from}
+use Rattle.ic_raw.specs.Singly.{LeadsTo, Shows, table_of, lent_table, list_of, successor, next_from}
 use Rattle.ic_raw.proofs.Views.{viewed}
 use Rattle.ic_raw.proofs.Lists.{kept}
 use Rattle.ic_raw.proofs.Touches.{touches_insert, touches_remove, touches_replace}
@@ -84,12 +84,6 @@ module _ (t : Place → RawOne) where
   pub ended_distinct : (b : Option Place) (w : List Place) → IsChain (IsFollowed successor) t b w None → IsDistinct w
   ended_distinct b [] c = tt
   ended_distinct b (x ∷ w) c = (not_ahead b (Some x) x w w c c.1 (omega arith), ended_distinct (Some x) w c.1)
-
--- THE PLACES FROM `front` ON LEAD TO `at`: those that were walked
-pub record LeadsTo (t : Table RawOne) (front at : Place) : Type 0 where
-  pub walked : List Place
-  pub chain : IsChain (IsFollowed successor) t.entry None walked (Some at)
-  pub starts : Some front ≡ first_or walked (Some at)
 
 module _ {t : Table RawOne} {front at : Place} (leads : LeadsTo t front at) (linked : is_linked_one (t.entry at) ≡ true) where
   -- what is walked, with `at` itself, in front of what stands behind

@@ -1,5 +1,5 @@
 -- Hash tables over a caller's words: an array of buckets, each the singly linked list of those members whose hash leads there.
-use Rattle.std.specs.Prelude.{◌≡◌, ◌≢◌, ◌<◌, ℕ, ◌%◌, Bool, true, nat_eq, cond, None, List, length, slice_index_or}
+use Rattle.std.specs.Prelude.{◌≡◌, ◌≢◌, ◌<◌, ℕ, ◌%◌, Bool, true, nat_eq, cond, Option, None, List, length, slice_index_or}
 use Rattle.ic_unsafe_ref.specs.declared.place.Place.{Place}
 use Rattle.ic_link_ops.specs.Sequences.{IsDisjoint}
 use Rattle.ic_link_ops.specs.Tables.{IsLinked}
@@ -7,7 +7,7 @@ use Rattle.ic_raw.specs.declared.status.TheConstants.{OK, OUT_OF_RANGE}
 use Rattle.ic_raw.specs.declared.words.RawOne.{RawOne}
 use Rattle.ic_raw.specs.declared.words.RawFront.{RawFront}
 use Rattle.ic_raw.specs.Keys.{key_of}
-use Rattle.ic_raw.specs.Singly.{ShowsList, table_of, word_of_front}
+use Rattle.ic_raw.specs.Singly.{LeadsFrom, ShowsList, table_of, word_of_front}
 use Rattle.ic_raw.specs.Words.{is_linked_one, HasNumber}
 
 -- the number of the bucket where a hash leads
@@ -35,9 +35,10 @@ pub record ChangesOnlyChain (old new : List RawFront) (hash : ℕ) : Type 0 wher
 abbrev pub has_key : List ℕ → ℕ → Place → Bool
 has_key keys key p = nat_eq (key_of keys p) key
 
--- the number is that of a linked place with this key
-abbrev pub NamesKey : List RawOne → List ℕ → ℕ → ℕ → Type 0
-NamesKey words keys key number = (q : Place) × IsLinked is_linked_one (table_of words) q × (has_key keys key q ≡ true) × HasNumber q number
+-- the number is that of a linked place with this key, to which the places from this front on lead
+abbrev pub NamesKey : List RawOne → (front : Option Place) → List ℕ → ℕ → ℕ → Type 0
+NamesKey words front keys key number =
+    (q : Place) × IsLinked is_linked_one (table_of words) q × (has_key keys key q ≡ true) × HasNumber q number × LeadsFrom (table_of words) front q
 
 -- THE BUCKETS HOLD these chains: each shows its own, and no two of them share a member
 pub record HoldsChains (words : List RawOne) (buckets : List RawFront) (chains : ℕ → List Place) : Type 0 where

@@ -5,13 +5,14 @@ use Rattle.ic_hash_table.specs.Searches.{Finds}
 use Rattle.ic_link_ops.specs.LinkSteps.{acquires}
 use Rattle.ic_link_ops.specs.NumberedCollections.{with_at}
 use Rattle.ic_link_ops.specs.Sequences.{at_front, IsMember}
+use Rattle.ic_link_ops.specs.SinglyLinkedList.{successor_at}
 use Rattle.ic_raw.specs.declared.status.TheConstants.{OK, NULL}
 use Rattle.ic_raw.specs.declared.words.RawFront.{RawFront}
 use Rattle.ic_raw.specs.declared.words.RawOne.{RawOne}
 use Rattle.ic_raw.specs.Answers.{IsStatus, HandsOut, refusal}
 use Rattle.ic_raw.specs.Hash.{slot_of, chain_of, buckets_fault, ChangesOnlyChain, HoldsChains, has_key, NamesKey}
 use Rattle.ic_raw.specs.Keys.{key_of, keys_fault}
-use Rattle.ic_raw.specs.Singly.{ShowsList, FreeIn, StandsIn, IsWritten, LosesFront, table_of, front_of, word_of_front, list_of, fault_at, fault_of}
+use Rattle.ic_raw.specs.Singly.{ShowsList, FreeIn, StandsIn, IsWritten, LosesFront, table_of, front_of, word_of_front, list_of, fault_at, fault_of, successor}
 use Rattle.ic_raw.specs.Singly.{Inserted, Removed, LeavesChain, Touched}
 
 -- `old`, `new`: the words of the table before the call and after it. `buckets`, `buckets'`: those of the buckets
@@ -59,7 +60,7 @@ module _ (keys : List ℕ) (old new : List RawOne) (status was number : ℕ) whe
   pub record FindCall (buckets : List RawFront) (hash key : ℕ) : Type 0 where
     pub found : (s : List Place) → length old ≤ length keys → 1 ≤ length buckets → ShowsList old (chain_of buckets hash) s
         → HandsOut (Finds (has_key keys key) s) status number
-    pub linked : status ≡ OK → NamesKey old keys key number
+    pub linked : status ≡ OK → NamesKey old (front_of (chain_of buckets hash)) keys key number
     pub ended : status ≡ NULL → (s : List Place) × ShowsList old (chain_of buckets hash) s
     pub refused : status ≢ OK → number ≡ was
     pub same : new ≡ old
@@ -71,7 +72,7 @@ module _ (keys : List ℕ) (old new : List RawOne) (status was number : ℕ) whe
   pub record NextEqualCall (at : Option Place) : Type 0 where
     pub found : (list : RawFront) (front back : List Place) (p : Place) → at ≡ Some p → length old ≤ length keys → ShowsList old list (front ++ p ∷ back)
         → HandsOut (Finds (has_key keys (key_of keys p)) back) status number
-    pub linked : (p : Place) → at ≡ Some p → status ≡ OK → NamesKey old keys (key_of keys p) number
+    pub linked : (p : Place) → at ≡ Some p → status ≡ OK → NamesKey old (successor_at successor (table_of old) p).next keys (key_of keys p) number
     pub ended : (p : Place) → at ≡ Some p → status ≡ NULL → (back : List Place) × ShowsList old (word_of_front (Some p)) (p ∷ back)
     pub none : at ≡ None → status ≡ NULL
     pub refused : status ≢ OK → number ≡ was

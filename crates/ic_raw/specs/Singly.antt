@@ -2,11 +2,12 @@
 use Rattle.std.specs.Prelude.{◌≡◌, ◌≢◌, ◌∷◌, ℕ, List, [], Option, Some, None}
 use Rattle.ic_unsafe_ref.specs.declared.place.Place.{Place}
 use Rattle.ic_unsafe_ref.specs.Places.{word_of}
-use Rattle.ic_link_ops.specs.Sequences.{Cut}
+use Rattle.ic_link_ops.specs.Sequences.{Cut, first_or}
 use Rattle.ic_link_ops.specs.LinkSteps.{LinkStep, releases}
 use Rattle.ic_link_ops.specs.Tables.{Table}
 use Rattle.ic_link_ops.specs.SinglyLinkedList as singly
-use Rattle.ic_link_ops.specs.SinglyLinkedList.{Front, list_from, Successor, successor_at}
+use Rattle.ic_link_ops.specs.Chains.{IsChain}
+use Rattle.ic_link_ops.specs.SinglyLinkedList.{Front, IsFollowed, list_from, Successor, successor_at}
 use Rattle.ic_link_ops.specs.PlainTables as plain
 use Rattle.ic_raw.specs.declared.words.RawOne.{RawOne}
 use Rattle.ic_raw.specs.declared.words.RawFront.{RawFront}
@@ -52,6 +53,18 @@ list_of l = list_from (front_of l)
 abbrev pub next_from : Table RawOne → Front → Option Place → Option Place
 next_from t list None = list.head
 next_from t list (Some p) = (successor_at successor t p).next
+
+-- THE PLACES FROM `front` ON LEAD TO `at`: each of `walked` is linked, with the next one behind it, and `at` stands behind the last
+pub record LeadsTo (t : Table RawOne) (front at : Place) : Type 0 where
+  pub walked : List Place
+  pub chain : IsChain (IsFollowed successor) t.entry None walked (Some at)
+  pub starts : Some front ≡ first_or walked (Some at)
+
+-- and so do those from this front on, which is a place
+pub record LeadsFrom (t : Table RawOne) (front : Option Place) (at : Place) : Type 0 where
+  pub begin : Place
+  pub is : front ≡ Some begin
+  pub leads : LeadsTo t begin at
 
 -- a list's own front after the member `at` left: what stood behind that one where it was the first, and else the first that there was
 pub record LosesFront (t : Table RawOne) (at : Option Place) (old new : Front) : Type 0 where

@@ -14,7 +14,7 @@ ghost use Rattle.ic_raw.specs.declared.status.TheConstants.{OK, NULL, BROKEN};
 ghost use Rattle.ic_raw.specs.Answers.{HandsOut};
 ghost use Rattle.ic_raw.specs.Gaps.{Stands};
 ghost use Rattle.ic_raw.specs.Hash.{has_key};
-ghost use Rattle.ic_raw.specs.Singly.{Shows, lent_table, next_from};
+ghost use Rattle.ic_raw.specs.Singly.{LeadsFrom, Shows, lent_table, next_from};
 ghost use Rattle.ic_raw.specs.Words.{is_linked_one, HasNumber};
 
 use crate::number::number_of;
@@ -71,7 +71,7 @@ pub(crate) fn look_from(
     ensures found { (s : List Place) → Shows (lent_table links.now) (list_from from) s
         → HandsOut (Finds (has_key keys.now key) s) result found.new }
     ensures linked { result ≡ OK → (q : Place) × IsLinked is_linked_one (lent_table links.now) q × (has_key keys.now key q ≡ true)
-        × HasNumber q found.new }
+        × HasNumber q found.new × LeadsFrom (lent_table links.now) from q }
     ensures ended { result ≡ NULL → (s : List Place) × Shows (lent_table links.now) (list_from from) s }
     ensures refused { result ≢ OK → found.new ≡ found.old }
     ensures why { result ≢ OK → result ≢ NULL → result ≡ BROKEN }

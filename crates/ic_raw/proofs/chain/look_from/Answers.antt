@@ -27,7 +27,7 @@ returns-then-keys-index-clause-found c s shown =
 pub returns-then-keys-index-clause-linked : goal.returns-then-keys-index-clause-linked
 returns-then-keys-index-clause-linked c made =
     let passes : has_key c.args.keys.now c.args.key c.in-Some.place ≡ true = eq-eqb _ _ (rw c.index.ensures.value at c.if-keys-index.true) in
-    (c.in-Some.place, sym c.is_linked.ensures ∙ c.if-not-is_linked.false, passes, c.number_of.ensures)
+    (c.in-Some.place, sym c.is_linked.ensures ∙ c.if-not-is_linked.false, passes, c.number_of.ensures, rw c.in-Some.is at c.loop-left.invariant.leads)
 
 pub loop-left-preserved : goal.loop-left-preserved
 loop-left-preserved c =

@@ -1,5 +1,5 @@
-use Rattle.std.proofs.Common.{subst, sym, rules}
-use Rattle.ic_raw.specs.Singly.{ShowsList}
+use Rattle.std.proofs.Common.{subst, sym, ap, ◌∙◌, rules}
+use Rattle.ic_raw.specs.Singly.{ShowsList, front_of}
 use Rattle.ic_raw.specs.Words.{no_word}
 use Rattle.ic_raw.proofs.HashTables.{chain_read}
 use Rattle.ic_raw.proofs.HashWalks.{names_back}
@@ -10,7 +10,10 @@ use Rattle.ic_raw.proofs.hash_calls.find.Goals as goal
 pub returns : goal.returns
 returns c = record {
   found = search rules;
-  linked = λ made. names_back c.new-links.result _ _ _ c.new-links.ensures.1 (c.look_from.ensures.linked made);
+  linked = λ made.
+      let slot = c.slot.ensures.slot c.in-Some.at c.in-Some.is in
+      let read = chain_read c.args.buckets.now c.args.hash c.in-Some.at slot.0 _ slot.1 in
+      names_back c.new-links.result _ _ _ c.new-links.ensures.1 (c.place_in.ensures ∙ ap front_of (sym read)) (c.look_from.ensures.linked made);
   ended = λ null.
       let chain = c.look_from.ensures.ended null in
       let slot = c.slot.ensures.slot c.in-Some.at c.in-Some.is in

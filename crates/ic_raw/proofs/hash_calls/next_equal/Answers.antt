@@ -1,9 +1,10 @@
-use Rattle.std.proofs.Common.{◌≡◌, ◌++◌, ◌∷◌, Option, Some, sym, subst, ◌∙◌, rules}
+use Rattle.std.proofs.Common.{◌≡◌, ◌++◌, ◌∷◌, Option, Some, sym, ap, subst, ◌∙◌, rules}
 use Rattle.ic_unsafe_ref.specs.declared.place.Place.{Place}
 use Rattle.ic_link_ops.proofs.SequenceLemmas.{some_same}
 use Rattle.ic_link_ops.proofs.ShownLists.{shows_middle}
+use Rattle.ic_link_ops.specs.PlainTables.{entry_at}
 use Rattle.ic_link_ops.specs.SinglyLinkedList.{list_from}
-use Rattle.ic_raw.specs.Singly.{Shows, lent_table, list_of, word_of_front}
+use Rattle.ic_raw.specs.Singly.{Shows, lent_table, list_of, successor, word_of_front}
 use Rattle.ic_raw.specs.Words.{no_word}
 use Rattle.ic_raw.proofs.Entries.{place_kept}
 use Rattle.ic_raw.proofs.Gaps.{never}
@@ -37,7 +38,8 @@ returns c = record {
       rw (← one) (rw c.index.ensures.value at (c.look_from.ensures.found back (rw (c.next.ensures, one) (shown_behind front p back seen))));
   linked = λ p is made.
       let one : c.in-Some.member ≡ p = some_same (sym c.in-Some.is ∙ c.place_of.ensures ∙ is) in
-      rw (← one) (names_back c.new-links.result _ _ _ c.new-links.ensures.1 (rw c.index.ensures.value at (c.look_from.ensures.linked made)));
+      let behind = c.next.ensures ∙ ap (λ fs. (successor (entry_at no_word fs c.in-Some.member)).next) c.new-links.ensures.1 in
+      rw (← one) (names_back c.new-links.result _ _ _ c.new-links.ensures.1 behind (rw c.index.ensures.value at (c.look_from.ensures.linked made)));
   ended = λ p is null.
       let one : c.in-Some.member ≡ p = some_same (sym c.in-Some.is ∙ c.place_of.ensures ∙ is) in
       let behind = c.look_from.ensures.ended null in

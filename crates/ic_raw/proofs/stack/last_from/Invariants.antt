@@ -2,8 +2,7 @@ use Rattle.std.proofs.Common.{◌≡◌, ◌≤◌, Some, List, length}
 use Rattle.ic_unsafe_ref.specs.declared.place.Place.{Place}
 use Rattle.ic_link_ops.specs.Sequences.{last}
 use Rattle.ic_link_ops.specs.SinglyLinkedList.{IsWalk, list_from}
-use Rattle.ic_raw.specs.Singly.{Shows, lent_table, successor}
-use Rattle.ic_raw.proofs.Singly.{LeadsTo}
+use Rattle.ic_raw.specs.Singly.{LeadsTo, Shows, lent_table, successor}
 use Rattle.ic_raw.proofs.stack.last_from.Given as goal
 
 -- the places from the front on lead here. What is left of the list, whichever sequence is shown, has the same last member, and fits into
