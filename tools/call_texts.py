@@ -122,7 +122,7 @@ def is_none_refused(call):
 def rust_arguments(call):
     """The parameters of the method, and what it hands to the call."""
     reads = next(c_arguments(call))[0]
-    handed = {"table": ["links", "places"], "given": ["&mut given.0"], "rest": ["&mut rest.0"], "ends": ["&mut ends.0"]}
+    handed = {"table": ["links", "places"], "given": ["&mut given.0"], "rest": ["&mut rest.0"], "ends": ["&mut ends.0"], "chain": ["&mut chain.0"]}
     handed.update({name: [f"{name}.as_ptr()", f"{name}.len()"] for name in ("keys", "hashes")})
     params, words = [], []
     for arg in call.args:
@@ -136,7 +136,7 @@ def rust_arguments(call):
         else:
             words += handed.get(arg.name, [f"number({arg.name})" if call.roles.get(arg.name) == "gap" else arg.name])
         kinds = {"table": f"&{'mut ' * (not reads)}[Link{LINKS[call.family]}]", "keys": "&[u64]", "hashes": "&[u64]", "given": f"&mut {CLASSES[call.family]}",
-                 "buckets": f"&{'mut ' * arg.is_mut}[Stack]", "ends": "&mut TreeEnds"}
+                 "buckets": f"&{'mut ' * arg.is_mut}[Stack]", "ends": "&mut TreeEnds", "chain": "&mut Stack"}
         if arg.name not in ("rest", *OUT):
             params.append(f"{arg.name}: " + kinds.get(arg.name, "Option<u32>" if call.roles.get(arg.name) == "gap" else arg.type))
     owner = [f"&{'mut ' * arg.is_mut}self" for arg in call.args if arg.name in SELF]
@@ -216,7 +216,7 @@ def camel(name):
 def script_words(call):
     """What the method hands to the call. Each number is checked by its name."""
     fixed = {"table": "this.table, this.places", "list": "this.self", "tree": "this.self", "keys": "this.keysAt, this.keyCount",
-             "buckets": "this.bucketsAt, this.bucketCount", "given": "this.given(given)", "rest": "rest", "ends": "this.endsAt",
+             "buckets": "this.bucketsAt, this.bucketCount", "given": "this.given(given)", "rest": "rest", "ends": "this.endsAt", "chain": "this.given(chain)",
              "hashes": "...keyParts(hashes, this.links)"}
     if call.family not in KEEP_KEYS:
         fixed["keys"] = "...keyParts(keys, this.links)"
@@ -259,7 +259,7 @@ def types(call):
     if call.name == "ic_ring_init":
         return ""
     out, own = outcome(call), CLASSES[call.family]
-    kinds = {"given": own, "head": own, "hash": "bigint | number", "key": "bigint | number", "keys": "Words", "hashes": "Words", "count": "number"}
+    kinds = {"given": own, "chain": CLASSES["stack"], "head": own, "hash": "bigint | number", "key": "bigint | number", "keys": "Words", "hashes": "Words", "count": "number"}
     kind = lambda arg: kinds.get(arg.name) or ("Gap" if call.roles.get(arg.name) == "gap" else "Place")
     parameters = [f"{arg.name}: {kind(arg)}" for arg in script_parameters(call)]
     result = {"rest": own, "members": "number", None: "void"}.get(out, "Gap")

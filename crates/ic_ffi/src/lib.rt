@@ -20,6 +20,7 @@
 mod check_calls;
 mod ends_calls;
 mod fill_calls;
+mod growth_calls;
 mod hash_calls;
 mod list_calls;
 mod move_calls;

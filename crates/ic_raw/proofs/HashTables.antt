@@ -33,7 +33,7 @@ module _ (buckets : List RawFront) (hash i : ℕ) (at : i ≡ slot_of buckets ha
 module _ {old new : List RawOne} {buckets buckets' : List RawFront} {chains : ℕ → List Place} (holds : HoldsChains old buckets chains) (hash : ℕ)
     (within : slot_of buckets hash < length buckets) (changes : ChangesOnlyChain buckets buckets' hash) where
   -- ONE CHAIN IS ANOTHER, and nothing but entries of `touched` has changed: no other chain has a member of either
-  holds_again : (after touched : List Place) → ShowsList new (chain_of buckets' hash) after → KeepsBeside (table_of old) (table_of new) touched
+  pub holds_again : (after touched : List Place) → ShowsList new (chain_of buckets' hash) after → KeepsBeside (table_of old) (table_of new) touched
       → ((i : ℕ) → i < length buckets → i ≢ slot_of buckets hash → IsDisjoint (chains i) touched × IsDisjoint (chains i) after)
       → HoldsChains new buckets' (with_at chains (slot_of buckets hash) after)
   holds_again after touched shows frame away = record {

@@ -1,1 +1,2 @@
 pub mod TreeEnds
+pub mod MovedChains

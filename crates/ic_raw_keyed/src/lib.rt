@@ -1,8 +1,9 @@
-//! Calls for C that are made of several calls of `ic_raw`: red-black trees that keep their first member and their last one.
+//! Calls for C that stand on `ic_raw`: of red-black trees that keep their first member and their last one, and the one by which a hash table grows.
 //!
 //! ```text
 //! ends_calls::insert(table, keys, tree, ends, 7)       // OK, and `ends` says the first member and the last one
 //! ends_calls::pop_first(table, tree, ends, &mut first) // OK, and first is the number of the member with the least key
+//! growth_calls::move_chain(table, hashes, &mut old[3], new) // OK: the members of old[3] are in the buckets of `new`
 //! ```
 //!
 //! Nothing requires anything of its arguments. Each call returns a status as those of `ic_raw` do, and leaves all as it was if that is not
@@ -11,5 +12,7 @@
 
 mod ends;
 pub mod ends_calls;
+mod growth;
+pub mod growth_calls;
 
 pub use ends::RawTreeEnds;

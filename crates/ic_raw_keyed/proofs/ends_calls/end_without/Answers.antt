@@ -1,18 +1,14 @@
-use Rattle.std.proofs.Common.{◌≡◌, ◌≢◌, Option, Some, None, true, refl, sym, ◌∙◌, subst}
-use Rattle.ic_unsafe_ref.specs.declared.place.Place.{Place}
+use Rattle.std.proofs.Common.{Some, sym, ◌∙◌, subst}
 use Rattle.ic_link_ops.specs.Frames.{across}
 use Rattle.ic_link_ops.specs.Sequences.{Cut, join}
 use Rattle.ic_link_ops.specs.declared.side.Side.{Side}
-use Rattle.ic_link_ops.proofs.SequenceLemmas.{none_not, some_same}
+use Rattle.ic_link_ops.proofs.SequenceLemmas.{some_same}
 use Rattle.ic_link_ops.proofs.Walks.{is_end_no, is_end_yes}
 use Rattle.ic_rbtree.specs.Sides.{IsBeside}
-use Rattle.ic_rbtree.proofs.Climbed.{is_end_there}
 use Rattle.ic_rbtree.proofs.EndsKept.{end_stays, end_steps}
-use Rattle.ic_raw.specs.Seen.{StepEndsIn}
-use Rattle.ic_raw.specs.Tree.{ShowsTree, StandsIn, node, root_in, table_of}
+use Rattle.ic_raw.specs.Tree.{ShowsTree, node, root_in, table_of}
 use Rattle.ic_raw.proofs.Gaps.{never}
 use Rattle.ic_raw.proofs.Trees.{beside_stands}
-use Rattle.ic_raw_keyed.specs.Ends.{IsNextEnd}
 use Rattle.ic_raw_keyed.proofs.TreeEnds.{gap_inwards, inwards_beside, inwards_joins, inwards_other, is_next}
 use Rattle.ic_raw_keyed.proofs.ends_calls.end_without.Goals as goal
 

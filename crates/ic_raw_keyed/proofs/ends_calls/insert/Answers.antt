@@ -1,5 +1,4 @@
 use Rattle.std.proofs.Common.{◌≡◌, Some, [], ◌∷◌, sym, ◌∙◌, refl}
-use Rattle.ic_unsafe_ref.specs.declared.place.Place.{Place}
 use Rattle.ic_link_ops.specs.Sequences.{Cut, insert, join}
 use Rattle.ic_link_ops.specs.declared.side.Side.{Side}
 use Rattle.ic_link_ops.specs.declared.side.Side.TheVariants.{Left, Right}

@@ -1,0 +1,26 @@
+-- The members of a list, as they are moved to buckets, one after the other.
+use Rattle.std.specs.Prelude.{◌<◌, ℕ, List, [], ◌∷◌, length}
+use Rattle.ic_unsafe_ref.specs.declared.place.Place.{Place}
+use Rattle.ic_link_ops.specs.NumberedCollections.{with_at}
+use Rattle.ic_link_ops.specs.Sequences.{IsDisjoint}
+use Rattle.ic_link_ops.specs.Tables.{KeepsBeside}
+use Rattle.ic_raw.specs.declared.table.RawTable.{RawTable}
+use Rattle.ic_raw.specs.declared.words.RawFront.{RawFront}
+use Rattle.ic_raw.specs.declared.words.RawOne.{RawOne}
+use Rattle.ic_raw.specs.Hash.{HoldsChains}
+use Rattle.ic_raw.specs.Singly.{lent_table}
+use Rattle.ic_raw.specs.Tables.{raw_entries}
+use Rattle.ic_raw_keyed.specs.Growth.{StaysOrGets, slot_for}
+
+-- the chains once each member of r, one after the other, has come to the front of its own
+abbrev pub spread_over : (hashes : List ℕ) → (count : ℕ) → (ℕ → List Place) → List Place → ℕ → List Place
+spread_over hashes count chains [] = chains
+spread_over hashes count chains (p ∷ r) =
+    spread_over hashes count (with_at chains (slot_for hashes count p) (p ∷ chains (slot_for hashes count p))) r
+
+-- THE MEMBERS OF r ARE SPREAD over the buckets: the chains that these held begin with them now, the last first
+pub record Spreads (hashes : List ℕ) (t u : RawTable RawOne) (buckets buckets' : List RawFront) (r : List Place) : Type 0 where
+  pub holds : (chains : ℕ → List Place) → HoldsChains (raw_entries t) buckets chains → ((i : ℕ) → i < length buckets → IsDisjoint (chains i) r)
+      → HoldsChains (raw_entries u) buckets' (spread_over hashes (length buckets) chains r)
+  pub frame : KeepsBeside (lent_table t) (lent_table u) r
+  pub own : (i : ℕ) → StaysOrGets hashes buckets buckets' r i
