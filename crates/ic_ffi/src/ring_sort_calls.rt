@@ -1,12 +1,13 @@
-//! A sort of a ring, by keys that stand in an array of their own, one for each place.
+//! A sort and a merge of rings, by keys that stand in an array of their own, one for each place.
 //!
 //! ```text
 //! uint64_t keys[64] = {0};
-//! ic_ring_sort(links, 64, keys, 64, 63); // IC_OK: the members of the head 63 are in order, and those with equal keys keep theirs
+//! ic_ring_sort(links, 64, keys, 64, 63);      // IC_OK: the members of the head 63 are in order, and those with equal keys keep theirs
+//! ic_ring_merge(links, 64, keys, 64, 63, 62); // IC_OK: it has those of the head 62, too, and of members with equal keys its own go first
 //! ```
 
 ghost use Rattle.ic_raw.specs.Words.{place_of};
-ghost use Rattle.ic_raw_lists.specs.RingSortCalls.{RingSortCall};
+ghost use Rattle.ic_raw_lists.specs.RingSortCalls.{RingMergeCall, RingSortCall};
 
 use ic_raw::RawTwo;
 use ic_raw_lists::ring_sort_calls;
@@ -20,4 +21,16 @@ pub extern "C" fn ic_ring_sort(table: &mut [RawTwo], keys: &[u64], head: u32) ->
     ensures { RingSortCall keys.now table.old table.new result (place_of head) }
 {
     ring_sort_calls::sort(table, keys, head)
+}
+
+/// Merges the members of the given head into those of a head, by the keys, and leaves the given one without members. O(n).
+///
+/// What was in order in both is in order then, and of members with equal keys those of the head go first. There has to be a key for each place
+/// of the table. It returns [`NULL`](crate::NULL) where one of the two is [`NONE`](crate::NONE), and [`BROKEN`](crate::BROKEN) where the words
+/// show no two rings with these heads.
+#[unsafe(no_mangle)]
+pub extern "C" fn ic_ring_merge(table: &mut [RawTwo], keys: &[u64], head: u32, given: u32) -> u32
+    ensures { RingMergeCall keys.now table.old table.new result (place_of head) (place_of given) }
+{
+    ring_sort_calls::merge(table, keys, head, given)
 }

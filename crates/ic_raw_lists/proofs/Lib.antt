@@ -3,3 +3,4 @@ pub mod Transfers
 pub mod RingWalks
 pub mod RingViews
 pub mod OpenedRings
+pub mod MergedRings

@@ -1,13 +1,14 @@
 -- A walk around a ring of whose words nobody vouches: each place that it passes leads to the next one, which leads back.
-use Rattle.std.proofs.Common.{◌≡◌, ◌≢◌, ℕ, ◌+◌, ◌<◌, Some, None, List, [], ◌∷◌, ◌++◌, length, length-append, append_assoc, append-nil, true, refl, sym, ap, subst, ◌∙◌, arith}
+use Rattle.std.proofs.Common.{◌≡◌, ◌≢◌, ℕ, ◌+◌, ◌<◌, Option, Some, None, List, [], ◌∷◌, ◌++◌, length, length-append, append_assoc, append-nil, true, refl, sym, ap, subst, ◌∙◌, arith}
 use Rattle.ic_unsafe_ref.specs.declared.place.Place.{Place}
 use Rattle.ic_link_ops.specs.Sequences.{IsAbsent, IsDistinct, first_or, last_or, last}
 use Rattle.ic_link_ops.specs.Tables.{Table, IsCovered}
 use Rattle.ic_link_ops.specs.LinkedList.{Neighbors, neighbors_at, IsBetween, IsChain}
-use Rattle.ic_link_ops.proofs.SequenceLemmas.{distinct_insert, first_or-append, last_not, last_or-append, some_same}
+use Rattle.ic_link_ops.proofs.SequenceLemmas.{absent_both, absent_right, distinct_insert, first_or-append, last_not, last_or-append, some_same}
 use Rattle.ic_link_ops.proofs.Chains.{chain_cut, chain_glue}
 use Rattle.ic_link_ops.proofs.Walks.{stretch_length}
 use Rattle.ic_ring.specs.Rings.{IsCircle}
+use Rattle.ic_raw_lists.specs.RingOrders.{IsNotAmong}
 
 module _ {E : Type 0} (n : E → Neighbors) where
   -- a place that leads back to the last of a chain is none of those after its first
@@ -29,8 +30,9 @@ module _ {E : Type 0} (n : E → Neighbors) where
     pub leads : (s : List Place) → IsCircle n t.entry (head ∷ s) → (rest : List Place) × (head ∷ s ≡ passed ++ at ∷ rest)
 
   -- at first it has passed none
-  pub passes_none : (t : Table E) (head : Place) → Passes t head head 0
-  passes_none t head = record { passed = []; chain = tt; starts = refl; comes = refl; distinct = (tt, tt); counted = refl; leads = λ s c. (s, refl) }
+  pub passes_none : (t : Table E) (head : Place) → (k : Passes t head head 0) × (k.passed ≡ [])
+  passes_none t head =
+      (record { passed = []; chain = tt; starts = refl; comes = refl; distinct = (tt, tt); counted = refl; leads = λ s c. (s, refl) }, refl)
 
   module _ {t : Table E} {head at : Place} {count : ℕ} (k : Passes t head at count) where
     -- HOW THE PLACE STANDS in any circle: before the rest, and after the last of that the head stands again
@@ -66,18 +68,21 @@ module _ {E : Type 0} (n : E → Neighbors) where
       new_place (y ∷ w) d c e starts other = ((λ h. other (h ∙ sym (some_same starts))), next_absent t.entry y next w c.1 e d)
 
       -- THE WALK GOES ON to another place than the head
-      pub passes_more : next ≢ head → {more : ℕ} → more ≡ count + 1 → Passes t head next more
-      passes_more other {more} is = record {
-        passed = k.passed ++ at ∷ [];
-        chain = chain_on;
-        starts = starts_on;
-        comes = comes_on;
-        distinct =
-            distinct_insert (k.passed ++ at ∷ []) [] next (rw append-nil k.distinct)
-            (rw append-nil (new_place (k.passed ++ at ∷ []) k.distinct chain_on comes_on starts_on other));
-        counted = omega (arith, is, k.counted, length-append k.passed (at ∷ []));
-        leads = λ s c. goes_on s c (k.leads s c).0 (k.leads s c).1 (stands_there s c);
-      } where
+      pub passes_more : next ≢ head → {more : ℕ} → more ≡ count + 1 → (l : Passes t head next more) × (l.passed ≡ k.passed ++ at ∷ [])
+      passes_more other {more} is = (
+        record {
+          passed = k.passed ++ at ∷ [];
+          chain = chain_on;
+          starts = starts_on;
+          comes = comes_on;
+          distinct =
+              distinct_insert (k.passed ++ at ∷ []) [] next (rw append-nil k.distinct)
+              (rw append-nil (new_place (k.passed ++ at ∷ []) k.distinct chain_on comes_on starts_on other));
+          counted = omega (arith, is, k.counted, length-append k.passed (at ∷ []));
+          leads = λ s c. goes_on s c (k.leads s c).0 (k.leads s c).1 (stands_there s c);
+        },
+        refl,
+      ) where
         goes_on : (s : List Place) (c : IsCircle n t.entry (head ∷ s)) (rest : List Place) → head ∷ s ≡ k.passed ++ at ∷ rest
             → (neighbors_at n t at).next ≡ first_or rest (Some head) → (r : List Place) × (head ∷ s ≡ (k.passed ++ at ∷ []) ++ next ∷ r)
         goes_on s c [] parts stands = absurd (other (some_same (sym leads ∙ stands)))
@@ -100,3 +105,21 @@ module _ {E : Type 0} (n : E → Neighbors) where
                 let chain : IsChain n t.entry (last (y ∷ w)) (y ∷ w) (Some y) = subst (λ q. IsChain n t.entry (last (y ∷ w)) (y ∷ w) (Some q)) (sym first_is) round in
                 let circle : IsCircle n t.entry (y ∷ w) = record { distinct = d; chain = chain } in
                 (w, subst (λ q. IsCircle n t.entry (q ∷ w)) first_is circle, omega (arith, long))
+
+-- A PLACE THAT IS NOT AMONG those that are passed
+pub none_of_nothing : (apart : Option Place) → IsNotAmong apart []
+none_of_nothing None = tt
+none_of_nothing (Some p) = tt
+
+pub none_of_more : (apart : Option Place) (s : List Place) (at : Place) → IsNotAmong apart s → apart ≢ Some at → IsNotAmong apart (s ++ at ∷ [])
+none_of_more None s at out other = tt
+none_of_more (Some p) s at out other = absent_both p s (at ∷ []) out ((λ e. other (ap Some e)), tt)
+
+pub is_among : (apart : Option Place) (s : List Place) (at : Place) (rest : List Place) → apart ≡ Some at → IsNotAmong apart (s ++ at ∷ rest) → ⊥
+is_among None s at rest same out = let no : None ≡ Some at = same in cc
+is_among (Some p) s at rest same out = (absent_right p s (at ∷ rest) out).0 (some_same same)
+
+-- where the rest has no member, all are passed
+pub none_of_all : (apart : Option Place) (w s : List Place) (at : Place) (rest : List Place) → w ≡ s ++ at ∷ rest → length w ≡ length s + 1 → IsNotAmong apart (s ++ at ∷ []) → IsNotAmong apart w
+none_of_all apart w s at [] parts long out = rw parts out
+none_of_all apart w s at (x ∷ rest) parts long out = absurd (omega (arith, long, ap length parts, length-append s (at ∷ x ∷ rest)))

@@ -23,7 +23,7 @@ pub fn check(table: &mut [RawTwo], head: u32, members: &mut u64) -> u32
         return NULL;
     };
     let links = RawTable::new(table);
-    let Some(count) = count_members(&links, place) else {
+    let Some(count) = count_members(&links, place, None) else {
         return links.refusal_of(place);
     };
     *members = count as u64;

@@ -20,7 +20,7 @@ returns-in_default-count_members c = record {
   shown = search rules;
   not_shown = λ refused s shown.
       let one : shown.0 ≡ c.in-Some.place = some_same (sym shown.1 ∙ sym c.place_of.ensures ∙ c.in-Some.is) in
-      (rw c.in_default-count_members.is at c.count_members.ensures) s (circle_viewed c.new-links.result c.new-links.ensures.1 (rw one at shown.2));
+      (rw c.in_default-count_members.is at c.count_members.ensures) s (record { circle = circle_viewed c.new-links.result c.new-links.ensures.1 (rw one at shown.2); out = tt });
   null = search rules;
   refused = search rules;
   same = search rules;
@@ -32,7 +32,7 @@ pub returns : goal.returns
 returns c = record {
   shown = λ accepted.
       let found = rw c.in-Some-count_members.is at c.count_members.ensures in
-      (found.0, (c.in-Some.place, sym c.place_of.ensures ∙ c.in-Some.is, circle_back c.new-links.result c.new-links.ensures.1 found.1), found.2);
+      (found.0, (c.in-Some.place, sym c.place_of.ensures ∙ c.in-Some.is, circle_back c.new-links.result c.new-links.ensures.1 found.1.circle), found.2);
   not_shown = search rules;
   null = search rules;
   refused = search rules;
