@@ -49,7 +49,7 @@ module _ {u v : Table RawOne} {p : Place} (only : ChangesOnly u v p) where
     tail = refl;
   }
 
-  -- and what stood behind it is a list as before
+  -- and what was after it is a list as before
   pub turned_rest : (r : List Place) → Shows u (list_from (Some p)) (p ∷ r) → Shows v (list_from (successor_at successor u p).next) r
   turned_rest r shown =
       let rest = shown_behind [] p r shown in record { distinct = rest.distinct; chain = same_chain r shown.distinct.0 rest.chain; head = rest.head; tail = refl }

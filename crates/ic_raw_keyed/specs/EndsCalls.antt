@@ -60,7 +60,7 @@ module _ (old new : List RawThree) (tree tree' : RawRoot) (ends ends' : RawTreeE
 
 -- `keys`: those of the places
 module _ (keys : List ℕ) (old new : List RawThree) (tree tree' : RawRoot) (ends ends' : RawTreeEnds) (status : ℕ) where
-  -- A PLACE GOES IN BEHIND ALL MEMBERS with no greater key than its own
+  -- A PLACE GOES IN AFTER ALL MEMBERS with no greater key than its own
   pub record PutCall (place : Option Place) : Type 0 where
     pub call : keyed.PutCall keys old new status tree tree' place
     pub ends_kept : (cut : Cut) (p : Place) → place ≡ Some p → status ≡ OK → SaysEnds ends (join cut) → ShowsTree new tree' (insert cut p)

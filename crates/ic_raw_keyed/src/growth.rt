@@ -52,17 +52,17 @@ fn set_front(buckets: &mut [RawFront], slot: usize, first: Place)
     };
 }
 
-// Turns a linked place to what stands behind it now, and gives what stood there.
+// Turns a linked place to what is after it now, and gives what was.
 #[inline]
-fn turn(links: &mut RawTable<'_, RawOne>, place: Place, behind: Option<Place>) -> Option<Place>
+fn turn(links: &mut RawTable<'_, RawOne>, place: Place, after: Option<Place>) -> Option<Place>
     requires { IsLinked is_linked_one (lent_table links.old) place }
     ensures next { result ≡ (successor_at successor (lent_table links.old) place).next }
-    ensures set { successor_at successor (lent_table links.new) place ≡ record { linked = true; next = behind } }
+    ensures set { successor_at successor (lent_table links.new) place ≡ record { linked = true; next = after } }
     ensures frame { ChangesOnly (lent_table links.old) (lent_table links.new) place }
     ensures links { KeepsLinked is_linked_one (lent_table links.old) (lent_table links.new) }
 {
     let next = links.next(place);
-    links.set_next(place, behind);
+    links.set_next(place, after);
     next
 }
 
