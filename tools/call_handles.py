@@ -56,6 +56,11 @@ def function(family, item, is_refused):
     return text + f"    return {name}({', '.join(words)});\n}}\n"
 
 
+def has_handle(item):
+    """Whether a macro is there over a handle, too: a loop, a search or an insertion by a comparison."""
+    return "_FOREACH" in item.name or item.name.endswith("_BY")
+
+
 def macro(item):
     """The macro of a loop, or of a search by a comparison."""
     name, arguments = re.match(r"(\w+)\((.*)\)", item.signature).groups()
@@ -76,7 +81,7 @@ def handles(family):
     functions, loops = [], []
     for item in c_family(family, c_items()):
         if item.name.startswith("IC_"):
-            loops += [macro(item)] * ("_FOREACH" in item.name or item.name.endswith("_BY"))
+            loops += [macro(item)] * has_handle(item)
         elif not item.name.endswith("_go_on"):
             functions.append(function(family, item, item.name in marked))
     return "\n".join([*functions, "".join(loops)])

@@ -5,7 +5,7 @@ import re
 
 import call_table
 import call_texts
-from call_handles import function, macro, renamed
+from call_handles import function, has_handle, macro, renamed
 from checks import ROOT
 from language_table import canonical
 from languages import FAMILIES, HEADER, c_items, cpp_items, rust_calls, rust_items, rust_text, RUST_MACRO
@@ -37,9 +37,9 @@ def rust_prose(text):
 
 
 def over_handle(family, item):
-    """The function or the macro of ic_in.h that a call, a read, a loop or a search by a comparison has."""
+    """The function or the macro of ic_in.h that a call, a read or a macro has."""
     if item.name.startswith("IC_"):
-        return re.match(r"#define (.*?\))", macro(item))[1] if "_FOREACH" in item.name or item.name.endswith("_BY") else ""
+        return re.match(r"#define (.*?\))", macro(item))[1] if has_handle(item) else ""
     made = function(family, item, False).partition(" {\n")[0]
     return "" if item.name.endswith("_go_on") else " ".join(made.replace("static inline ", "").split()) + ";"
 
