@@ -996,7 +996,8 @@ uint32_t ic_stack_merge(struct ic_link1 *table, ic_length places, const uint64_t
  *             break;
  *
  * IC_HASH_FOREACH_ALL goes over all members. Each call for singly linked lists takes a bucket, too. So ic_stack_clear empties one, and by
- * ic_stack_pop_front and ic_hash_insert all members move to a larger array of buckets. A place is in one chain or list of a table, so the free places may be in a list of the same table.
+ * ic_stack_pop_front and ic_hash_insert all members move to a larger array of buckets. A place is in one chain or list of a table, so the
+ * free places may be in a list of the same table.
  */
 
 /* Returns the first member of the chain of a hash, or IC_NONE. */
