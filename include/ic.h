@@ -154,6 +154,11 @@ struct ic_tree {
     uint64_t root;
 };
 
+/* These are the first and the last member of a tree, for the calls that keep them. */
+struct ic_tree_ends {
+    uint64_t first, last;
+};
+
 /* ---- Words -------------------------------------------------------------------------------------------------------------------- */
 
 /* Returns the word for a place, which is 8 * (place + 1), or 0 for IC_NONE. The first word of a link is 1 more if the place is linked, and
@@ -1623,6 +1628,77 @@ static inline uint32_t ic_tree_before(const struct ic_link3 *table, ic_length pl
 #define IC_TREE_FOREACH_ENTRY_SAFE_FROM(object, objects, at, table, places, tree)     \
     IC_LOOP_ENTRY_SAFE(object, objects, ic_at_##object, ic_next_##object, at, places, \
                        ic_tree_is_linked(table, places, ic_at_##object), ic_tree_after(table, places, tree, ic_at_##object))
+
+/* ---- Trees that keep their first and last member ----
+ *
+ * These calls keep both in two more words, so that the first one, such as the next timer, is found at once. {0} is right for an empty tree. Edit
+ * such a tree by these calls alone, since the others leave the ends as they are. A loop that removes calls ic_tree_ends_remove. After
+ * ic_tree_clear set the ends to zero.
+ *
+ *     struct ic_tree_ends ends = {0};
+ *     status = ic_tree_ends_insert(links, 100, keys, 100, &tree, &ends, 7);
+ *     next = ic_tree_ends_first(links, 100, &ends);                             // in O(1)
+ *     status = ic_tree_ends_pop_first(links, 100, &tree, &ends, &next);
+ */
+
+/* Returns the first member of a tree, in O(1), or IC_NONE if there is none or if it is no linked place of the table. */
+static inline uint32_t ic_tree_ends_first(const struct ic_link3 *table, ic_length places, const struct ic_tree_ends *ends) {
+    uint32_t place = ic_place(ends->first);
+    return ic_tree_is_linked(table, places, place) ? place : IC_NONE;
+}
+
+/* Returns the last member of a tree, in O(1), or IC_NONE if there is none or if it is no linked place of the table. */
+static inline uint32_t ic_tree_ends_last(const struct ic_link3 *table, ic_length places, const struct ic_tree_ends *ends) {
+    uint32_t place = ic_place(ends->last);
+    return ic_tree_is_linked(table, places, place) ? place : IC_NONE;
+}
+
+/* tools/c-calls --write writes from here: tree-ends */
+
+/* Inserts `place` by its key, after all members whose keys are not greater than `keys[place]`, and keeps the ends of the tree, in O(log n).
+ * IC_OUT_OF_RANGE: there are fewer keys than places, or `place` is not below `places`. IC_LINKED: `place` is linked already. IC_BROKEN: the
+ * root does not belong to this table. */
+IC_NODISCARD
+uint32_t ic_tree_ends_insert(struct ic_link3 *table, ic_length places, const uint64_t *keys, ic_length key_count, struct ic_tree *tree,
+                             struct ic_tree_ends *ends, uint32_t place);
+
+/* Inserts `place` as ic_tree_insert_left does, and keeps the ends of the tree, in O(log n).
+ * IC_OUT_OF_RANGE: `at` or `place` is not below `places`. IC_LINKED: `place` is linked already. IC_NOT_LINKED: the place `at` is not
+ * linked. IC_BROKEN: `at` has a left child, or `at` is IC_NONE and the tree has members, or the root does not belong to this table. */
+IC_NODISCARD
+uint32_t ic_tree_ends_insert_left(struct ic_link3 *table, ic_length places, struct ic_tree *tree, struct ic_tree_ends *ends, uint32_t at,
+                                  uint32_t place);
+
+/* Inserts `place` as ic_tree_insert_right does, and keeps the ends of the tree, in O(log n).
+ * IC_OUT_OF_RANGE: `at` or `place` is not below `places`. IC_LINKED: `place` is linked already. IC_NOT_LINKED: the place `at` is not
+ * linked. IC_BROKEN: `at` has a right child, or `at` is IC_NONE and the tree has members, or the root does not belong to this table. */
+IC_NODISCARD
+uint32_t ic_tree_ends_insert_right(struct ic_link3 *table, ic_length places, struct ic_tree *tree, struct ic_tree_ends *ends, uint32_t at,
+                                   uint32_t place);
+
+/* Removes the member `at`, in O(log n). If it is an end, the member next to it becomes that end.
+ * IC_NULL: the place `at` is IC_NONE. IC_OUT_OF_RANGE: the place `at` is not below `places`. IC_NOT_LINKED: the place `at` is not linked.
+ * IC_BROKEN: the root does not belong to this table, or `at` is an end, and the links lead from it to a place that is not linked, or to
+ * `at` itself. */
+IC_NODISCARD
+uint32_t ic_tree_ends_remove(struct ic_link3 *table, ic_length places, struct ic_tree *tree, struct ic_tree_ends *ends, uint32_t at);
+
+/* Removes the member `at`, and inserts `place` where it was, also as an end, in O(1). The call compares nothing, so hand in a place that
+ * belongs there.
+ * IC_NULL: the place `at` is IC_NONE. IC_OUT_OF_RANGE: `at` or `place` is not below `places`. IC_LINKED: `place` is linked already, also
+ * where `at` and `place` are the same. IC_NOT_LINKED: the place `at` is not linked. IC_BROKEN: the root does not belong to this table. */
+IC_NODISCARD
+uint32_t ic_tree_ends_replace(struct ic_link3 *table, ic_length places, struct ic_tree *tree, struct ic_tree_ends *ends, uint32_t at,
+                              uint32_t place);
+
+/* Removes the first member, and sets *popped to it, in O(log n). The call finds it in `ends`, and the next one in constant time on average,
+ * so it serves timers and schedulers.
+ * IC_NULL: `ends` says that the tree is empty. IC_BROKEN: the root or the first member does not belong to this table, or the links lead
+ * from it to a place that is not linked, or to it itself. */
+IC_NODISCARD
+uint32_t ic_tree_ends_pop_first(struct ic_link3 *table, ic_length places, struct ic_tree *tree, struct ic_tree_ends *ends, uint32_t *popped);
+
+/* to here */
 
 #ifdef __cplusplus
 }

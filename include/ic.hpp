@@ -1181,6 +1181,53 @@ private:
     }
 };
 
+namespace detail {
+
+/// Has what edits a tree and its ends.
+class ends_writes : public writes<const_tree_view> {
+public:
+    ends_writes(array_view<ic_link3> table, ic_tree &tree, ic_tree_ends &ends) noexcept : writes(table, tree), ends_(&ends) {}
+
+protected:
+    status take(const iterator &at) const noexcept { return edit(ic_tree_ends_remove, ends_, *at); }
+
+    ic_tree_ends *ends_;
+};
+
+} // namespace detail
+
+/// Edits a tree that keeps its first and its last member, in an ic_tree_ends of yours. Edit such a tree by this view alone.
+class tree_ends_view : public detail::erases<detail::ends_writes> {
+public:
+    using erases::erases;
+
+    /// Returns the first member, in O(1), or std::nullopt if there is none or if it is no linked place of this table.
+    [[nodiscard]] std::optional<std::uint32_t> front() const noexcept { return found(ic_tree_ends_first(table_, in_.places, ends_)); }
+
+    /// Returns the last member, in O(1), or std::nullopt if there is none or if it is no linked place of this table.
+    [[nodiscard]] std::optional<std::uint32_t> back() const noexcept { return found(ic_tree_ends_last(table_, in_.places, ends_)); }
+
+    /// Inserts a place by its key, after all members whose keys are not greater.
+    status insert(keys_view keys, std::uint32_t place) const noexcept {
+        return static_cast<status>(ic_tree_ends_insert(table_, in_.places, keys.data(), keys.size(), head_, ends_, place));
+    }
+    status insert_left(std::uint32_t at, std::uint32_t place) const noexcept { return edit(ic_tree_ends_insert_left, ends_, at, place); }
+    status insert_right(std::uint32_t at, std::uint32_t place) const noexcept { return edit(ic_tree_ends_insert_right, ends_, at, place); }
+    status remove(std::uint32_t at) const noexcept { return edit(ic_tree_ends_remove, ends_, at); }
+    status replace(std::uint32_t at, std::uint32_t place) const noexcept { return edit(ic_tree_ends_replace, ends_, at, place); }
+
+    /// Removes the first member, and returns it. It returns std::nullopt if the ends say that there is none, or if the call is refused.
+    [[nodiscard]] std::optional<std::uint32_t> pop_front() const noexcept { return taken(ic_tree_ends_pop_first, ends_); }
+
+    /// Removes all members. It returns ic::status::broken, and changes nothing, if they are no tree of this table.
+    status clear() const noexcept {
+        const status done = edit(ic_tree_clear);
+        if (done == status::ok)
+            *ends_ = {};
+        return done;
+    }
+};
+
 } // namespace ic
 
 #ifdef __cpp_lib_ranges

@@ -848,6 +848,44 @@ static inline uint32_t ic_tree_in_before(struct ic_tree_in in, uint32_t at) {
     return ic_tree_before(in.table, in.places, in.tree, at);
 }
 
+static inline uint32_t ic_tree_in_ends_first(struct ic_tree_in in, const struct ic_tree_ends *ends) {
+    return ic_tree_ends_first(in.table, in.places, ends);
+}
+
+static inline uint32_t ic_tree_in_ends_last(struct ic_tree_in in, const struct ic_tree_ends *ends) {
+    return ic_tree_ends_last(in.table, in.places, ends);
+}
+
+IC_NODISCARD
+static inline uint32_t ic_tree_in_ends_insert(struct ic_tree_in in, struct ic_tree_ends *ends, uint32_t place) {
+    return ic_tree_ends_insert(in.table, in.places, in.keys.keys, in.keys.count, in.tree, ends, place);
+}
+
+IC_NODISCARD
+static inline uint32_t ic_tree_in_ends_insert_left(struct ic_tree_in in, struct ic_tree_ends *ends, uint32_t at, uint32_t place) {
+    return ic_tree_ends_insert_left(in.table, in.places, in.tree, ends, at, place);
+}
+
+IC_NODISCARD
+static inline uint32_t ic_tree_in_ends_insert_right(struct ic_tree_in in, struct ic_tree_ends *ends, uint32_t at, uint32_t place) {
+    return ic_tree_ends_insert_right(in.table, in.places, in.tree, ends, at, place);
+}
+
+IC_NODISCARD
+static inline uint32_t ic_tree_in_ends_remove(struct ic_tree_in in, struct ic_tree_ends *ends, uint32_t at) {
+    return ic_tree_ends_remove(in.table, in.places, in.tree, ends, at);
+}
+
+IC_NODISCARD
+static inline uint32_t ic_tree_in_ends_replace(struct ic_tree_in in, struct ic_tree_ends *ends, uint32_t at, uint32_t place) {
+    return ic_tree_ends_replace(in.table, in.places, in.tree, ends, at, place);
+}
+
+IC_NODISCARD
+static inline uint32_t ic_tree_in_ends_pop_first(struct ic_tree_in in, struct ic_tree_ends *ends, uint32_t *popped) {
+    return ic_tree_ends_pop_first(in.table, in.places, in.tree, ends, popped);
+}
+
 #define IC_TREE_IN_FIND_BY(at, in, comparison) IC_TREE_FIND_BY(at, (in).table, (in).places, (in).tree, comparison)
 #define IC_TREE_IN_LOWER_BOUND_BY(at, in, comparison) IC_TREE_LOWER_BOUND_BY(at, (in).table, (in).places, (in).tree, comparison)
 #define IC_TREE_IN_UPPER_BOUND_BY(at, in, comparison) IC_TREE_UPPER_BOUND_BY(at, (in).table, (in).places, (in).tree, comparison)

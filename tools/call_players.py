@@ -9,13 +9,15 @@ import re
 import call_table
 from call_table import OUT, has
 from call_handles import renamed
-from call_texts import KEEP_KEYS, SELF, STRUCTS, c_arguments, camel, is_none_refused, is_of_head, outcome, short
+from call_texts import KEEP_KEYS, SELF, STRUCTS, c_arguments, camel, is_none_refused, is_of_head, outcome, script_name, short
 
 # How many places each table of links has. Rings share that of the lists, and hash tables that of the singly linked lists.
 PLACES = {"list": 12, "stack": 10, "xor": 7, "tree": 24}
 TABLES = {"list": "list", "ring": "list", "stack": "stack", "hash": "stack", "xor": "xor", "tree": "tree"}
 HEADS = {"list": "lists", "stack": "stacks", "xor": "xor_lists", "tree": "trees"}
 LINKS = {"list": "Link2", "ring": "Link2", "stack": "Link1", "xor": "Link1", "tree": "Link3"}
+# What the views of C++ call otherwise.
+CPP_NAMES = {"ic_tree_upper_bound": "at_most", "ic_tree_ends_pop_first": "pop_front"}
 # Calls for which the views of C++ have iterators alone.
 NO_METHOD = ("ic_tree_next", "ic_tree_prev")
 # The functions of Rust that print what a call returns, by what it hands out.
@@ -30,7 +32,7 @@ def has_number(call):
 
 def arguments(call):
     """The arguments of a line besides that number, and where each stands."""
-    names = [arg for arg in call.args if arg.name not in ("table", "keys", "hashes", "buckets", *SELF, *OUT)]
+    names = [arg for arg in call.args if arg.name not in ("table", "keys", "hashes", "buckets", "ends", *SELF, *OUT)]
     return {arg.name: at for at, arg in enumerate(names, has_number(call))}
 
 
@@ -56,7 +58,7 @@ def c_call(call):
     own = f"&{HEADS[call.family]}[n[0]]" if call.family in HEADS else ""
     fixed = {"table": table, "places": places, "keys": "keys", "key_count": "key_count(n[0])", "list": own, "tree": own,
              "hashes": "keys", "hash_count": "key_count(n[0])", "buckets": "&buckets[bucket_from[n[0]]]", "bucket_count": "bucket_count[n[0]]",
-             "rest": "&rest", "members": "&out.members"}
+             "rest": "&rest", "members": "&out.members", "ends": "&tree_ends[n[0]]"}
     fixed.update({name: "&out.place" for name in OUT if name != "members"})
     at, types = arguments(call), {arg.name: arg.type for arg in call.args}
     of = lambda name: f"&{HEADS[call.family]}[n[{at[name]}]]" if name == "given" else "(uint32_t)" * (types[name] == "u32") + f"n[{at[name]}]"
@@ -103,7 +105,7 @@ def handle_call(call):
     kind = next((STRUCTS[arg.type] for arg in call.args if arg.name == "rest"), "")
     rest = f"((struct ic_{call.family}_in){{{', '.join(c_links(call.family))}, &rest}})"
     keys = "((struct ic_keys){keys, key_count(n[0])})"
-    fixed = {"members": "&out.members", "rest": rest * bool(kind), "keys": keys * (call.family not in KEEP_KEYS), "hashes": keys}
+    fixed = {"members": "&out.members", "ends": "&tree_ends[n[0]]", "rest": rest * bool(kind), "keys": keys * (call.family not in KEEP_KEYS), "hashes": keys}
     fixed.update({name: "&out.place" for name in OUT if name != "members"})
     of = lambda name: handle(call.family, at[name]) if name == "given" else "(uint32_t)" * (types[name] == "u32") + f"n[{at[name]}]"
     left = {"table", "buckets", *SELF, *({"keys"} if call.family in KEEP_KEYS else ())}
@@ -151,9 +153,10 @@ def cpp_call(call):
     if "given" in at:
         fixed["given"] = view(call.family, own(at["given"]))
     of = lambda name: "(uint32_t)" * (types[name] == "u32") + f"n[{at[name]}]"
-    words = [fixed.get(arg.name) or of(arg.name) for arg in call.args if arg.name not in ("table", "buckets", *SELF, *OUT)]
-    name = "at_most" if call.name == "ic_tree_upper_bound" else short(call)
-    return f"{view(call.family, own(0))}.{name}({', '.join(words)})"
+    words = [fixed.get(arg.name) or of(arg.name) for arg in call.args if arg.name not in ("table", "buckets", "ends", *SELF, *OUT)]
+    of_view = f"ic::tree_ends_view{{tree_links, {own(0)}, tree_ends[n[0]]}}" if has(call, "ends") else view(call.family, own(0))
+    name = CPP_NAMES.get(call.name) or short(call).removeprefix("ends_")
+    return f"{of_view}.{name}({', '.join(words)})"
 
 
 def cpp_body(call):
@@ -196,7 +199,8 @@ def rust_call(call):
     reads, at = next(c_arguments(call))[0], arguments(call)
     own = f"world.{HEADS.get(call.family)}[slot(w[0])]"
     kinds = {"u64": "number", "u32": "place"}
-    fixed = {"table": f"&{'mut ' * (not reads)}world.{TABLES[call.family]}_links", "given": "given"}
+    fixed = {"table": f"&{'mut ' * (not reads)}world.{TABLES[call.family]}_links", "given": "given",
+             "ends": "&mut world.tree_ends[slot(w[0])]"}
     fixed.update({name: "keys(&world.keys, slot(w[0]))" for name in ("keys", "hashes")})
     words = []
     for arg in call.args:
@@ -258,13 +262,13 @@ def script_body(call):
     of = lambda name: f"BigInt(n[{at[name]}])" if types[name] == "u64" else f"place(n[{at[name]}])"
     if call.name == "ic_ring_init":
         return "void new w.Ring(w.links.list, place(n[0]))"
-    left = ("table", "buckets", "rest", *SELF, *OUT, *(("keys",) if call.family in KEEP_KEYS else ()))
+    left = ("table", "buckets", "rest", "ends", *SELF, *OUT, *(("keys",) if call.family in KEEP_KEYS else ()))
     fixed = {"keys": "w.keys[n[0]]", "hashes": "w.keys[n[0]]", "given": f"w.{heads}[n[{at.get('given')}]]", "head": f"w.ringOf(place(n[{at.get('head')}]))"}
     names = [arg.name for arg in call.args if arg.name not in left]
-    owner = f"w.{heads}[n[0]]" if call.family != "ring" else "w.ringOf(0)"
+    owner = "w.ended[n[0]]" if has(call, "ends") else f"w.{heads}[n[0]]" if call.family != "ring" else "w.ringOf(0)"
     if is_of_head(call):
         owner, names = fixed["head"], [name for name in names if name != "head"]
-    made = f"{owner}.{camel(short(call))}({', '.join(fixed.get(name) or of(name) for name in names)})"
+    made = f"{owner}.{script_name(call)}({', '.join(fixed.get(name) or of(name) for name in names)})"
     other = f"w.{heads}[n[{at.get('rest')}]]"
     return f'({other}.isEmpty ? w.fill({other}, () => {made}) : "skipped")' if "rest" in at else made
 

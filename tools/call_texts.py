@@ -238,13 +238,18 @@ def script_parameters(call):
     return [arg for arg in free(call) if arg.name not in kept]
 
 
+def script_name(call):
+    """The name of the method. A tree that keeps its ends is a class of its own, whose methods are named as those of a tree."""
+    return camel(short(call).removeprefix("ends_"))
+
+
 def script(call):
     """The method of ic.mjs. A constructor of Ring calls ic_ring_init."""
     if call.name == "ic_ring_init":
         return ""
     begin = {"rest": "return this.split((rest) => ", "members": "return this.counted(", None: "this.done("}.get(outcome(call), "return this.member(")
     begin += f"this.calls.{call.name}("
-    head, words = f"  {camel(short(call))}({', '.join(arg.name for arg in script_parameters(call))}) {{", list(script_words(call))
+    head, words = f"  {script_name(call)}({', '.join(arg.name for arg in script_parameters(call))}) {{", list(script_words(call))
     line = f"{begin}{', '.join(words)}));"
     if len(head) + len(line) + 3 <= COMMENT:
         return f"{head} {line} }}\n"
@@ -270,4 +275,4 @@ def types(call):
     text += "".join(f" It throws {status} if {when}." for status, when in said.items())
     lines = textwrap.wrap(text, COMMENT - 5)
     comment = f"  /** {lines[0]} */\n" if len(lines) == 1 else commented(["", *lines], "  /**", "   * ", "\n   */")
-    return f"{comment}  {camel(short(call))}({', '.join(parameters)}): {result};\n"
+    return f"{comment}  {script_name(call)}({', '.join(parameters)}): {result};\n"

@@ -29,18 +29,22 @@ RATTLE_ALONE = {
 # The crates that have the families, or something below or above them.
 BELOW = {"ic_unsafe_ref", "ic_chain", "ic_linked_list", "ic_singly_linked_list", "ic_xor_linked_list", "ic_ring", "ic_hash_table", "ic_cursors", "ic_plain",
          "ic_check", "ic_list_algorithms", "ic_workers", "ic_world_laws"}
+# What the other languages have of these: in C, C++, Rust and JavaScript.
+ALSO = {"Trees that keep their first and last member": ("`ic_tree_ends_*`", "`ic::tree_ends_view`", "`TreeEnds`", "`TreeWithEnds`")}
+# The rows of the calls that keep the ends of a tree, by what is after `ends_` in their names.
+ENDED = {**{name: name for name in ("insert", "insert_left", "insert_right", "remove", "replace", "first", "last")}, "pop_first": "pop_front"}
 # What a row is called, and what a language calls otherwise, or has for another row. A star is any family.
 ALIASES = {
     "C": {"foreach": "loop", "foreach_reverse": "loop backwards", "foreach_safe": "loop that removes", "foreach_reverse_safe": "loop that removes",
           **{f"foreach_entry{form}": "loop over objects" for form in ("", "_reverse", "_safe", "_reverse_safe")}, "front": "first", "back": "last",
           **{f"foreach_{form}from": "loop from a member on" for form in ("", "reverse_", "safe_", "entry_", "entry_safe_")},
           "foreach_all": "loop", "foreach_all_safe": "loop that removes", "foreach_all_entry": "loop over objects", "foreach_all_entry_safe": "loop over objects",
-          "tree after": "next", "tree before": "prev"},
+          "tree after": "next", "tree before": "prev", **{f"tree ends_{name}": row for name, row in ENDED.items()}},
     "C++": {"begin": "loop", "rbegin": "loop backwards", "erase": "loop that removes", "front": "first", "back": "last", "empty": "is_empty",
             "tree upper_bound": "find the first with a greater key", "at_most": "upper_bound", "iterator_to": "cursor_from_place",
             "list insert": "cursor: insert_before", "ring insert": "cursor: insert_before", "xor insert": "cursor: insert_before",
             "list splice": "cursor: splice_before", "xor splice": "cursor: splice_before"},
-    "Rust": {"iter": "loop"},
+    "Rust": {"iter": "loop", **{f"tree ends_{name}": row for name, row in ENDED.items()}},
     "JavaScript": {"[symbol.iterator]": "loop", "ring constructor": "init"},
     "Rattle": {"iter": "loop", "sort_by": "sort", "merge_by": "merge", "check_tree": "check", "check_hash_table": "check", "append_walking": "append", "ring open": "init",
                "cursor_from_ptr": "cursor_from_place", "cursor_from_ptr_and_prev": "cursor_from_place_and_prev", "ring cursor_at": "cursor_from_place",
@@ -123,7 +127,7 @@ def type_rows():
         rust = f"`{own.rust}`" + " (a module)" * own.rust.islower()
         yield f"| **{own.letter}**: {own.title} | `ic_{family}_*` | `ic::{family}_view` | {rust} | `{own.script}` | `{own.rattle}` |"
     for title, (_, *types) in RATTLE_ALONE.items():
-        yield f"| {title} | - | - | - | - | {', '.join(f'`{it}`' for it in types)} |"
+        yield f"| {title} | {' | '.join(ALSO.get(title, '----'))} | {', '.join(f'`{it}`' for it in types)} |"
 
 
 def table():

@@ -15,7 +15,7 @@ FAMILIES = {
     "stack": Family("S", "Singly linked list", ("const_stack_view", "stack_view"), "Stack", "Stack", "SinglyLinkedList"),
     "hash": Family("H", "Hash table", ("const_hash_view", "hash_view"), "hash", "HashTable", "HashTable"),
     "xor": Family("X", "XOR list", ("const_xor_view", "xor_view"), "XorList", "XorList", "XorLinkedList"),
-    "tree": Family("T", "Red-black tree", ("const_tree_view", "tree_view"), "Tree", "Tree", "RBTree"),
+    "tree": Family("T", "Red-black tree", ("const_tree_view", "tree_view", "tree_ends_view"), "Tree", "Tree", "RBTree"),
 }
 # One call of a language: its name, its signature, and its comment.
 Item = collections.namedtuple("Item", "name signature comment")

@@ -83,6 +83,14 @@ pub struct ic_tree {
     pub root: u64,
 }
 
+/// The first and the last member of a red-black tree.
+#[repr(C)]
+#[derive(Clone, Copy, Debug, Default, PartialEq, Eq, Hash)]
+pub struct ic_tree_ends {
+    pub first: u64,
+    pub last: u64,
+}
+
 /// The number of a place in a word, or 0 for `IC_NONE`.
 #[inline]
 #[must_use]
@@ -105,7 +113,7 @@ pub const fn ic_place(word: u64) -> u32 {
 }
 
 extern "C" {
-    // tools/c-calls --write writes from here: list list-keys list-transfer ring ring-check ring-keys stack stack-keys hash xor tree tree-keys tree-steps
+    // tools/c-calls --write writes from here: list list-keys list-transfer ring ring-check ring-keys stack stack-keys hash xor tree tree-keys tree-steps tree-ends
     pub fn ic_list_push_front(table: *mut ic_link2, places: usize, list: *mut ic_list, place: u32) -> u32;
     pub fn ic_list_push_back(table: *mut ic_link2, places: usize, list: *mut ic_list, place: u32) -> u32;
     pub fn ic_list_pop_front(table: *mut ic_link2, places: usize, list: *mut ic_list, popped: *mut u32) -> u32;
@@ -373,5 +381,52 @@ extern "C" {
     ) -> u32;
     pub fn ic_tree_next(table: *const ic_link3, places: usize, tree: *const ic_tree, at: u32, found: *mut u32) -> u32;
     pub fn ic_tree_prev(table: *const ic_link3, places: usize, tree: *const ic_tree, at: u32, found: *mut u32) -> u32;
+    pub fn ic_tree_ends_insert(
+        table: *mut ic_link3,
+        places: usize,
+        keys: *const u64,
+        key_count: usize,
+        tree: *mut ic_tree,
+        ends: *mut ic_tree_ends,
+        place: u32,
+    ) -> u32;
+    pub fn ic_tree_ends_insert_left(
+        table: *mut ic_link3,
+        places: usize,
+        tree: *mut ic_tree,
+        ends: *mut ic_tree_ends,
+        at: u32,
+        place: u32,
+    ) -> u32;
+    pub fn ic_tree_ends_insert_right(
+        table: *mut ic_link3,
+        places: usize,
+        tree: *mut ic_tree,
+        ends: *mut ic_tree_ends,
+        at: u32,
+        place: u32,
+    ) -> u32;
+    pub fn ic_tree_ends_remove(
+        table: *mut ic_link3,
+        places: usize,
+        tree: *mut ic_tree,
+        ends: *mut ic_tree_ends,
+        at: u32,
+    ) -> u32;
+    pub fn ic_tree_ends_replace(
+        table: *mut ic_link3,
+        places: usize,
+        tree: *mut ic_tree,
+        ends: *mut ic_tree_ends,
+        at: u32,
+        place: u32,
+    ) -> u32;
+    pub fn ic_tree_ends_pop_first(
+        table: *mut ic_link3,
+        places: usize,
+        tree: *mut ic_tree,
+        ends: *mut ic_tree_ends,
+        popped: *mut u32,
+    ) -> u32;
     // to here
 }

@@ -674,3 +674,51 @@ export class Tree extends Collection {
     return removeIf(this.links, isUnwanted, (_, at) => this.next(at), (_, at) => this.remove(at));
   }
 }
+
+/** A red-black tree that keeps its first and its last member, which its edits renew. */
+export class TreeWithEnds extends Tree {
+  constructor(links, keys = null) {
+    super(links, keys);
+    this.both = new Words(links.library, 2, 1);
+    this.endsAt = this.library.at(this.both.address);
+  }
+  /** Gives the memory of the tree and of its ends back, but not that of the table. Its members stay linked. */
+  free() {
+    super.free();
+    this.both.free();
+  }
+  get first() { return this.end(0); }
+  get last() { return this.end(1); }
+  end(which) {
+    const place = this.both.place(which, 0);
+    return this.links.isLinked(place) ? place : null;
+  }
+  clear() {
+    super.clear();
+    this.both.words.fill(0n);
+  }
+  // tools/c-calls --write writes from here: tree-ends
+  insert(place) {
+    this.done(this.calls.ic_tree_ends_insert(
+      this.table, this.places, this.keysAt, this.keyCount, this.self, this.endsAt, placeNumber(place, "place"),
+    ));
+  }
+  insertLeft(at, place) {
+    this.done(this.calls.ic_tree_ends_insert_left(
+      this.table, this.places, this.self, this.endsAt, placeNumber(at, "at"), placeNumber(place, "place"),
+    ));
+  }
+  insertRight(at, place) {
+    this.done(this.calls.ic_tree_ends_insert_right(
+      this.table, this.places, this.self, this.endsAt, placeNumber(at, "at"), placeNumber(place, "place"),
+    ));
+  }
+  remove(at) { this.done(this.calls.ic_tree_ends_remove(this.table, this.places, this.self, this.endsAt, placeNumber(at, "at"))); }
+  replace(at, place) {
+    this.done(this.calls.ic_tree_ends_replace(
+      this.table, this.places, this.self, this.endsAt, placeNumber(at, "at"), placeNumber(place, "place"),
+    ));
+  }
+  popFirst() { return this.member(this.calls.ic_tree_ends_pop_first(this.table, this.places, this.self, this.endsAt, this.out)); }
+  // to here
+}

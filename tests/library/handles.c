@@ -142,6 +142,7 @@ static int order(uint64_t key, uint32_t at) {
 
 /* The edits of several calls, and the searches and insertions by a comparison. */
 static void edits(void) {
+    struct ic_tree_ends ends = {ic_word(0), ic_word(2)};
     uint32_t at, status, found = IC_NONE;
     numbers[5] = 2;
     numbers[6] = 9;
@@ -155,6 +156,10 @@ static void edits(void) {
     EXPECT(status == IC_OK && at == 1 && ic_tree_in_insert_unique(tree, 5, &found) == IC_OK && found == 1);
     IC_TREE_IN_INSERT_BY(status, at, tree, 6, order(numbers[6], at));
     EXPECT(status == IC_OK && at == 6 && ic_tree_in_last(tree, &found) == IC_OK && found == 6 && ic_tree_in_remove(tree, 6) == IC_OK);
+    EXPECT(ic_tree_in_ends_replace(tree, &ends, 2, 6) == IC_OK && ic_tree_in_ends_last(tree, &ends) == 6 && ic_tree_in_ends_first(tree, &ends) == 0);
+    EXPECT(ic_tree_in_ends_insert(tree, &ends, 2) == IC_OK && ic_tree_in_ends_remove(tree, &ends, 6) == IC_OK && ic_tree_in_ends_last(tree, &ends) == 2);
+    EXPECT(ic_tree_in_ends_pop_first(tree, &ends, &found) == IC_OK && found == 0 && ic_tree_in_ends_insert(tree, &ends, 0) == IC_OK && ends.first == ic_word(0));
+    EXPECT(ic_tree_in_ends_insert_left(tree, &ends, IC_NONE, 7) == IC_BROKEN && ic_tree_in_ends_insert_right(tree, &ends, 7, 6) == IC_NOT_LINKED);
     EXPECT(ic_ring_in_swap(ring, 0, 4) == IC_OK && ic_ring_in_front(ring, HEAD) == 4 && ic_ring_in_is_gap(ring, HEAD, 4) && !ic_ring_in_is_gap(ring, 4, HEAD));
     EXPECT(ic_ring_in_move_range_after(ring, 3, 4, 1) == IC_OK && ic_ring_in_front(ring, HEAD) == 2);
     EXPECT(ic_ring_in_move_range_before(ring, 2, 4, 1) == IC_OK && ic_ring_in_front(ring, HEAD) == 4 && ic_ring_in_back(ring, HEAD) == 0);

@@ -1,7 +1,7 @@
 // Random calls of ic.mjs beside plain arrays, by each of the modules.
 //     node --experimental-wasm-memory64 tests/library/plain_arrays.mjs CALLS MODULE ..
 import assert from "node:assert";
-import { BROKEN, HashTable, LINKED, List, NOT_LINKED, NULL, OUT_OF_RANGE, Refused, Ring, Stack, Tree, XorList, open } from "../../dist/wasm/ic.mjs";
+import { BROKEN, HashTable, LINKED, List, NOT_LINKED, NULL, OUT_OF_RANGE, Refused, Ring, Stack, Tree, TreeWithEnds, XorList, open } from "../../dist/wasm/ic.mjs";
 
 const [calls, ...modules] = process.argv.slice(2), PLACES = 20, REFUSED = "refused";
 let state = 7;
@@ -298,8 +298,25 @@ function xor(ic, turns) {
   });
 }
 
-function tree(ic, turns) {
-  const keys = ic.keys(PLACES), made = new Tree(ic.links3(PLACES), keys), plain = [];
+const tree = (ic, turns) => sorted(ic, turns, Tree, () => []);
+
+/** The same of a tree that keeps its ends, and of its ends. A place belongs where its neighbors leave room, and where a member with its key was. */
+function treeWithEnds(ic, turns) {
+  sorted(ic, turns, TreeWithEnds, (made, plain, place, key, index) => {
+    assert.deepEqual([made.first, made.last], [orNull(plain[0]), orNull(plain.at(-1))]);
+    const before = orNull(plain[index - 1]), at = orNull(plain[index]), isFree = !plain.includes(place), of = plain.find((it) => key(it) === key(place));
+    const hasRoom = isFree && (at === null ? !plain.length : made.left(at) === null), hasRoomAfter = isFree && (before === null ? !plain.length : made.right(before) === null);
+    return [
+      ["popFirst", [], () => orNull(plain.shift())],
+      ["insertLeft", [at, place], () => (hasRoom ? insert(plain, [], index, place) : REFUSED)],
+      ["insertRight", [before, place], () => (hasRoomAfter ? insert(plain, [], index, place) : REFUSED)],
+      ["replace", [of ?? null, place], () => (of === undefined || !isFree ? REFUSED : replace(plain, plain.indexOf(of), place))],
+    ];
+  });
+}
+
+function sorted(ic, turns, Kind, more) {
+  const keys = ic.keys(PLACES), made = new Kind(ic.links3(PLACES), keys), plain = [];
   const key = (place) => Number(keys.word(place));
   play(made, plain, turns, (turn) => {
     const place = random(PLACES), sought = random(12);
@@ -307,6 +324,7 @@ function tree(ic, turns) {
     const behind = plain.findIndex((it) => key(it) > key(place));
     assert.equal(made.prev(null), orNull(plain.at(-1)));
     return [
+      ...more(made, plain, place, key, behind < 0 ? plain.length : behind),
       ["insert", [place], () => insert(plain, [], behind < 0 ? plain.length : behind, place)],
       ["insertBy", [place, (one, other) => key(one) - key(other)], () => insert(plain, [], behind < 0 ? plain.length : behind, place)],
       ["insertUnique", [place], () => insertUnique(plain, key, place)],
@@ -371,7 +389,7 @@ function refusals(ic) {
 
 for (const module of modules) {
   const ic = await open(new URL(`../../dist/wasm/${module}`, import.meta.url));
-  const parts = [doubly, rings, singly, hashed, xor, tree];
+  const parts = [doubly, rings, singly, hashed, xor, tree, treeWithEnds];
   for (const part of parts) part(ic, Number(calls) / parts.length / modules.length);
   refusals(ic);
   const links = ic.links2(PLACES), list = new List(links), ring = new Ring(links, 0);

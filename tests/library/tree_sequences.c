@@ -7,6 +7,8 @@
  * Prints for each call how often it returned each status.
  */
 #define CALLS(X)                                                                           \
+    X(tree_ends_insert_left) X(tree_ends_insert_right) X(tree_ends_insert)                 \
+    X(tree_ends_remove) X(tree_ends_replace) X(tree_ends_pop_first)                        \
     X(tree_insert_left) X(tree_insert_right) X(tree_remove) X(tree_replace) X(tree_clear)  \
     X(tree_insert) X(tree_insert_unique) X(tree_insert_by) X(tree_insert_unique_by)        \
     X(tree_find) X(tree_lower_bound) X(tree_upper_bound)                                   \
@@ -20,6 +22,7 @@ enum { PLACES = 64, TREES = 2, NOBODY = TREES, MORE_KEYS = 3, TALLEST = 12, UNSE
 
 static struct ic_link3 table[PLACES], table_was[PLACES];
 static struct ic_tree trees[TREES], trees_were[TREES];
+static struct ic_tree_ends ends; /* of the tree of a call that keeps them */
 static uint64_t keys[PLACES + MORE_KEYS];
 static struct sequence sequences[TREES];
 static int owner[PLACES], is_growing;
@@ -132,15 +135,25 @@ static void link_at(int t, uint32_t i, uint32_t place) {
     check_others(t, place, place);
 }
 
+static int keeps_ends(void) {
+    return now <= CALL_tree_ends_pop_first;
+}
+
+static uint32_t insert_at(int t, int is_left, uint32_t at, uint32_t place) {
+    if (keeps_ends())
+        return (is_left ? ic_tree_ends_insert_left : ic_tree_ends_insert_right)(table, PLACES, &trees[t], &ends, at, place);
+    return (is_left ? ic_tree_insert_left : ic_tree_insert_right)(table, PLACES, &trees[t], at, place);
+}
+
 /* Under the member on the one side of the gap, if there is room: in front of the one behind, or behind the one in front. */
 static void step_insert_at(int t, uint32_t i) {
     struct sequence *plain = &sequences[t];
-    int is_left = now == CALL_tree_insert_left;
+    int is_left = now == CALL_tree_insert_left || now == CALL_tree_ends_insert_left;
     uint32_t place = to_link(), at = is_left ? member(plain, i) : before(plain, i), named = or_none(at);
     give_key(place, before(plain, i), member(plain, i));
     fault(named == at && at == IC_NONE && plain->count, IC_BROKEN);
     fault(named == at && at != IC_NONE && (is_left ? ic_tree_left : ic_tree_right)(table, PLACES, at) != IC_NONE, IC_BROKEN);
-    if (made((is_left ? ic_tree_insert_left : ic_tree_insert_right)(table, PLACES, &trees[t], named, place)))
+    if (made(insert_at(t, is_left, named, place)))
         link_at(t, i, place);
 }
 
@@ -149,7 +162,8 @@ static void step_insert(int t) {
     size_t count = key_count();
     if (place < PLACES && owner[place] == NOBODY)
         keys[place] = any_key();
-    if (made(ic_tree_insert(table, PLACES, keys, count, &trees[t], place)))
+    if (made(keeps_ends() ? ic_tree_ends_insert(table, PLACES, keys, count, &trees[t], &ends, place)
+                          : ic_tree_insert(table, PLACES, keys, count, &trees[t], place)))
         link_at(t, count_below(&sequences[t], keys[place], 1), place);
 }
 
@@ -196,10 +210,26 @@ static uint32_t or_root(int t, uint32_t named) {
 static void step_remove(int t, uint32_t i) {
     uint32_t at = member(&sequences[t], i), named = at == IC_NONE ? at : or_root(t, or_none(at));
     fault(at == IC_NONE, IC_NULL);
-    if (made(ic_tree_remove(table, PLACES, &trees[t], named))) {
+    if (made(keeps_ends() ? ic_tree_ends_remove(table, PLACES, &trees[t], &ends, named) : ic_tree_remove(table, PLACES, &trees[t], named))) {
         take(&sequences[t], i, 1);
         owner[at] = NOBODY;
         check_others(t, at, at);
+    }
+}
+
+/* The first member, unless it is none of the table. */
+static void step_pop_first(int t) {
+    const uint32_t first = member(&sequences[t], 0);
+    uint32_t out = UNSET;
+    const int is_short = first != IC_NONE && below(8) == 0;
+    fault(first == IC_NONE, IC_NULL);
+    fault(is_short, IC_BROKEN);
+    const int is_made = made(ic_tree_ends_pop_first(table, is_short ? first : PLACES, &trees[t], &ends, &out));
+    expect(out == (is_made ? first : UNSET), "gave another member");
+    if (is_made) {
+        take(&sequences[t], 0, 1);
+        owner[first] = NOBODY;
+        check_others(t, first, first);
     }
 }
 
@@ -208,7 +238,8 @@ static void step_replace(int t, uint32_t i) {
     uint32_t place = to_link(), at = member(plain, i), named = at == IC_NONE ? at : or_root(t, or_none(at));
     fault(at == IC_NONE, IC_NULL);
     give_key(place, before(plain, i), i < plain->count ? member(plain, i + 1) : IC_NONE);
-    if (made(ic_tree_replace(table, PLACES, &trees[t], named, place))) {
+    if (made(keeps_ends() ? ic_tree_ends_replace(table, PLACES, &trees[t], &ends, named, place)
+                          : ic_tree_replace(table, PLACES, &trees[t], named, place))) {
         plain->members[i] = place;
         owner[at] = NOBODY;
         owner[place] = t;
@@ -292,17 +323,38 @@ static void step_check(int t) {
     expect(members == (made(status) ? plain->count : UNSET), "counted other members");
 }
 
+/* The ends of a tree, as its sequence has them. */
+static struct ic_tree_ends ends_of(int t) {
+    const struct sequence *plain = &sequences[t];
+    return (struct ic_tree_ends){ic_word(member(plain, 0)), ic_word(before(plain, plain->count))};
+}
+
+static void check_ends(int t) {
+    const struct sequence *plain = &sequences[t];
+    const struct ic_tree_ends wanted = ends_of(t);
+    expect(ends.first == wanted.first && ends.last == wanted.last, "left other ends");
+    expect(ic_tree_ends_first(table, PLACES, &ends) == member(plain, 0), "has a first member that reads wrong");
+    expect(ic_tree_ends_last(table, PLACES, &ends) == before(plain, plain->count), "has a last member that reads wrong");
+}
+
 static void step(void) {
     int t = (int)below(TREES);
     uint32_t i = below(sequences[t].count + 1);
     memcpy(table_was, table, sizeof table);
     memcpy(trees_were, trees, sizeof trees);
+    ends = ends_of(t);
     switch (now) {
+    case CALL_tree_ends_insert_left:
+    case CALL_tree_ends_insert_right:
     case CALL_tree_insert_left:
     case CALL_tree_insert_right: step_insert_at(t, i); break;
+    case CALL_tree_ends_remove:
     case CALL_tree_remove: step_remove(t, i); break;
+    case CALL_tree_ends_pop_first: step_pop_first(t); break;
+    case CALL_tree_ends_replace:
     case CALL_tree_replace: step_replace(t, i); break;
     case CALL_tree_clear: step_clear(t); break;
+    case CALL_tree_ends_insert:
     case CALL_tree_insert: step_insert(t); break;
     case CALL_tree_insert_unique:
     case CALL_tree_insert_by:
@@ -316,6 +368,8 @@ static void step(void) {
     case CALL_tree_upper_bound_by: step_search_by(t); break;
     default: step_on(t, i);
     }
+    if (keeps_ends())
+        check_ends(t);
     if (faults || now > CALL_tree_insert_unique_by)
         check_same();
     else
@@ -325,11 +379,13 @@ static void step(void) {
 /* Any call, by turns with more inserts and more removals, so that trees of all sizes come up. */
 static enum call choose(void) {
     enum call call = (enum call)below(COUNT);
-    int inserts = call == CALL_tree_insert_left || call == CALL_tree_insert_right || (call >= CALL_tree_insert && call <= CALL_tree_insert_unique_by);
+    int inserts = call <= CALL_tree_ends_insert || call == CALL_tree_insert_left || call == CALL_tree_insert_right
+                  || (call >= CALL_tree_insert && call <= CALL_tree_insert_unique_by);
+    int removes = call == CALL_tree_remove || call == CALL_tree_ends_remove || call == CALL_tree_ends_pop_first;
     if (!below(512))
         is_growing = !is_growing;
     int is_rare = call == CALL_tree_clear && below(64);
-    return is_rare || ((is_growing ? call == CALL_tree_remove : inserts) && below(8)) ? choose() : call;
+    return is_rare || ((is_growing ? removes : inserts) && below(8)) ? choose() : call;
 }
 
 int main(int count, char **words) {

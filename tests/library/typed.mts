@@ -1,6 +1,6 @@
 // What ic.d.mts lets a program write, and what it refuses. It is checked, and not run:
 //     tsc --noEmit --strict --target es2022 --module nodenext --moduleResolution nodenext --lib es2022,dom tests/library/typed.mts
-import { HashTable, List, Refused, Ring, Stack, Tree, XorList, open, type Gap } from "../../dist/wasm/ic.mjs";
+import { HashTable, List, Refused, Ring, Stack, Tree, TreeWithEnds, XorList, open, type Gap } from "../../dist/wasm/ic.mjs";
 
 const ic = await open(new URL("ic.wasm", import.meta.url));
 const list = new List(ic.links2(100));
@@ -21,6 +21,8 @@ keys.words[3] = 50n;
 tree.insert(3);
 tree.clear();
 for (const place of tree) console.log(place + 1, tree.find(50n), tree.lowerBound(20));
+const timers: Tree = new TreeWithEnds(ic.links3(4), keys);
+const soonest: Gap[] = timers instanceof TreeWithEnds ? [timers.first, timers.last, timers.popFirst()] : [];
 list.sort(keys);
 list.merge(keys, rest);
 stack.remove(3);
@@ -79,6 +81,8 @@ others.check();
 list.next(null);
 // @ts-expect-error: a tree has no such end
 tree.popFront();
+// @ts-expect-error: a tree that keeps no ends has no first member at hand
+tree.first;
 // @ts-expect-error: a ring has no memory of its own
 ring.free();
 // @ts-expect-error: a member leaves by yes or no

@@ -491,6 +491,53 @@ void step(trees &it) {
     it.check_both();
 }
 
+/// A tree that keeps its ends.
+struct ended {
+    std::vector<ic_link3> table = std::vector<ic_link3>(places);
+    std::vector<std::uint64_t> keys = std::vector<std::uint64_t>(places);
+    ic_tree head = {};
+    ic_tree_ends ends = {};
+    std::multimap<std::uint64_t, std::uint32_t> plain;
+};
+
+void step(ended &it) {
+    const ic::tree_ends_view view{it.table, it.head, it.ends};
+    const auto member = std::next(it.plain.begin(), below(static_cast<std::uint32_t>(it.plain.size()) + 1));
+    const bool is_end = member == it.plain.end();
+    const std::uint32_t place = below(places + 1), at = is_end ? ic::none : member->second, mask = static_cast<std::uint32_t>(any() & any());
+    const ic::status linking = to_link(view, place);
+    if (linking == ic::status::ok)
+        it.keys[place] = is_end ? below(12) : member->first;
+    switch (below(7)) {
+    case 0:
+        expect_taken(view.pop_front(), is_end && it.plain.empty() ? std::nullopt : std::optional(it.plain.begin()->second));
+        it.plain.erase(it.plain.begin(), it.plain.empty() ? it.plain.end() : std::next(it.plain.begin()));
+        break;
+    case 1:
+        if (made(below(2) ? view.remove(at) : view.erase(view.iterator_to(at)), is_end ? ic::status::null : ic::status::ok))
+            it.plain.erase(member);
+        break;
+    case 2:
+        if (!is_end && made(view.replace(at, place), linking))
+            member->second = place;
+        break;
+    case 3:
+        if (below(8) == 0 && made(view.clear(), ic::status::ok))
+            it.plain.clear();
+        else if (made(view.remove_if([&](std::uint32_t one) { return (mask >> one & 1) != 0; }), ic::status::ok))
+            for (auto one = it.plain.begin(); one != it.plain.end();)
+                one = mask >> one->second & 1 ? it.plain.erase(one) : std::next(one);
+        break;
+    default:
+        if (made(view.insert(it.keys, place), linking))
+            it.plain.emplace(it.keys[place], place);
+    }
+    std::list<std::uint32_t> members;
+    for (const auto &[key, one] : it.plain)
+        members.push_back(one);
+    check(view, members);
+}
+
 // ---- Rings ---------------------------------------------------------------------------------------------------------------------------
 
 /// Two rings, whose heads are the last places of the table, beside lists of the standard library.
@@ -767,6 +814,7 @@ int main(int count, char **words) {
     lists<ic::stack_view> singly;
     lists<ic::xor_view> both;
     trees sorted;
+    ended kept;
     rings circles;
     chains hashed;
     while (edits < wanted) {
@@ -776,6 +824,7 @@ int main(int count, char **words) {
         step(singly);
         step(both);
         step(sorted);
+        step(kept);
         check_any<ic::list_view>();
         check_any<ic::stack_view>();
         check_any<ic::xor_view>();

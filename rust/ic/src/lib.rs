@@ -110,6 +110,6 @@ pub use keyed::{Entry, VacantEntry};
 pub use link::{Link1, Link2, Link3};
 pub use list::List;
 pub use stack::Stack;
-pub use tree::Tree;
+pub use tree::{Tree, TreeEnds};
 pub use view::{Iter, View};
 pub use xor_list::XorList;

@@ -2,7 +2,7 @@
 
 use crate::collection::{bidirectional, collection, from_place, Bidirectional, Collection, Position};
 use crate::error::{counted, done, handed_out};
-use crate::link::{is_none, linked, number, place, read, Link};
+use crate::link::{is_none, linked, member, number, place, read, Link};
 use crate::{Cursor, CursorMut, Error, Iter, Link3, View};
 use core::fmt;
 use ic_sys::*;
@@ -304,7 +304,7 @@ impl Tree {
         Tree::prev(self, table, None)
     }
 
-    // tools/c-calls --write writes from here: tree-steps
+    // tools/c-calls --write writes from here: tree-steps tree-ends
     /// Finds the member after the member `at`, or the first member if `at` is `None`, and returns it, in O(log n). It returns `None` if
     /// `at` is the last member, or the tree is empty.
     ///
@@ -332,7 +332,177 @@ impl Tree {
         // SAFETY: each pointer comes from a reference, with the length of its slice, and no mutable reference overlaps another one.
         handed_out(|it| unsafe { ic_tree_prev(links, places, &self.0, number(at), it) })
     }
+
+    /// Inserts `place` by its key, after all members whose keys are not greater than `keys[place]`, and keeps the ends of the tree, in
+    /// O(log n).
+    ///
+    /// # Errors
+    ///
+    /// [`Error::OutOfRange`] if there are fewer keys than places, or `place` is not below the table's length. [`Error::Linked`] if `place`
+    /// is linked already. [`Error::Broken`] if the root does not belong to this table.
+    #[inline]
+    pub fn ends_insert(
+        &mut self,
+        table: &mut [Link3],
+        keys: &[u64],
+        ends: &mut TreeEnds,
+        place: u32,
+    ) -> Result<(), Error> {
+        let (links, places) = Link3::parts(table);
+        // SAFETY: each pointer comes from a reference, with the length of its slice, and no mutable reference overlaps another one.
+        done(unsafe { ic_tree_ends_insert(links, places, keys.as_ptr(), keys.len(), &mut self.0, &mut ends.0, place) })
+    }
+
+    /// Inserts `place` as ic_tree_insert_left does, and keeps the ends of the tree, in O(log n).
+    ///
+    /// # Errors
+    ///
+    /// [`Error::OutOfRange`] if `at` or `place` is not below the table's length. [`Error::Linked`] if `place` is linked already.
+    /// [`Error::NotLinked`] if the place `at` is not linked. [`Error::Broken`] if `at` has a left child, or `at` is `None` and the tree has
+    /// members, or the root does not belong to this table.
+    #[inline]
+    pub fn ends_insert_left(
+        &mut self,
+        table: &mut [Link3],
+        ends: &mut TreeEnds,
+        at: Option<u32>,
+        place: u32,
+    ) -> Result<(), Error> {
+        let (links, places) = Link3::parts(table);
+        // SAFETY: each pointer comes from a reference, with the length of its slice, and no mutable reference overlaps another one.
+        done(unsafe { ic_tree_ends_insert_left(links, places, &mut self.0, &mut ends.0, number(at), place) })
+    }
+
+    /// Inserts `place` as ic_tree_insert_right does, and keeps the ends of the tree, in O(log n).
+    ///
+    /// # Errors
+    ///
+    /// [`Error::OutOfRange`] if `at` or `place` is not below the table's length. [`Error::Linked`] if `place` is linked already.
+    /// [`Error::NotLinked`] if the place `at` is not linked. [`Error::Broken`] if `at` has a right child, or `at` is `None` and the tree
+    /// has members, or the root does not belong to this table.
+    #[inline]
+    pub fn ends_insert_right(
+        &mut self,
+        table: &mut [Link3],
+        ends: &mut TreeEnds,
+        at: Option<u32>,
+        place: u32,
+    ) -> Result<(), Error> {
+        let (links, places) = Link3::parts(table);
+        // SAFETY: each pointer comes from a reference, with the length of its slice, and no mutable reference overlaps another one.
+        done(unsafe { ic_tree_ends_insert_right(links, places, &mut self.0, &mut ends.0, number(at), place) })
+    }
+
+    /// Removes the member `at`, in O(log n). If it is an end, the member next to it becomes that end.
+    ///
+    /// # Errors
+    ///
+    /// [`Error::Null`] if the place `at` is `u32::MAX`. [`Error::OutOfRange`] if the place `at` is not below the table's length.
+    /// [`Error::NotLinked`] if the place `at` is not linked. [`Error::Broken`] if the root does not belong to this table, or `at` is an
+    /// end, and the links lead from it to a place that is not linked, or to `at` itself.
+    #[inline]
+    pub fn ends_remove(&mut self, table: &mut [Link3], ends: &mut TreeEnds, at: u32) -> Result<(), Error> {
+        let (links, places) = Link3::parts(table);
+        // SAFETY: each pointer comes from a reference, with the length of its slice, and no mutable reference overlaps another one.
+        done(unsafe { ic_tree_ends_remove(links, places, &mut self.0, &mut ends.0, at) })
+    }
+
+    /// Removes the member `at`, and inserts `place` where it was, also as an end, in O(1). The call compares nothing, so hand in a place
+    /// that belongs there.
+    ///
+    /// # Errors
+    ///
+    /// [`Error::Null`] if the place `at` is `u32::MAX`. [`Error::OutOfRange`] if `at` or `place` is not below the table's length.
+    /// [`Error::Linked`] if `place` is linked already, also where `at` and `place` are the same. [`Error::NotLinked`] if the place `at` is
+    /// not linked. [`Error::Broken`] if the root does not belong to this table.
+    #[inline]
+    pub fn ends_replace(&mut self, table: &mut [Link3], ends: &mut TreeEnds, at: u32, place: u32) -> Result<(), Error> {
+        let (links, places) = Link3::parts(table);
+        // SAFETY: each pointer comes from a reference, with the length of its slice, and no mutable reference overlaps another one.
+        done(unsafe { ic_tree_ends_replace(links, places, &mut self.0, &mut ends.0, at, place) })
+    }
+
+    /// Removes the first member, and returns it, in O(log n). The call finds it in `ends`, and the next one in constant time on average, so
+    /// it serves timers and schedulers. It returns `None` if `ends` says that the tree is empty.
+    ///
+    /// # Errors
+    ///
+    /// [`Error::Broken`] if the root or the first member does not belong to this table, or the links lead from it to a place that is not
+    /// linked, or to it itself.
+    #[inline]
+    pub fn ends_pop_first(&mut self, table: &mut [Link3], ends: &mut TreeEnds) -> Result<Option<u32>, Error> {
+        let (links, places) = Link3::parts(table);
+        // SAFETY: each pointer comes from a reference, with the length of its slice, and no mutable reference overlaps another one.
+        handed_out(|it| unsafe { ic_tree_ends_pop_first(links, places, &mut self.0, &mut ends.0, it) })
+    }
     // to here
+}
+
+/// The first and the last member of a tree, for the calls of a [`Tree`] that keep them.
+///
+/// With them the first one, such as the next timer, is found in O(1). Edit such a tree by these calls alone, since the others leave the ends as they are:
+///
+/// ```
+/// use ic::{Error, Link3, Tree, TreeEnds};
+///
+/// let deadlines = [30, 10, 20];
+/// let (mut links, mut timers, mut ends) = ([Link3::UNLINKED; 3], Tree::new(), TreeEnds::new());
+/// for timer in 0..3 {
+///     timers.ends_insert(&mut links, &deadlines, &mut ends, timer)?;
+/// }
+/// assert_eq!((ends.first(&links), ends.last(&links)), (Some(1), Some(0)));
+/// assert_eq!(timers.ends_pop_first(&mut links, &mut ends)?, Some(1));
+/// timers.ends_remove(&mut links, &mut ends, 0)?;
+/// assert_eq!((ends.first(&links), ends.last(&links)), (Some(2), Some(2)));
+/// # Ok::<(), Error>(())
+/// ```
+///
+/// After [`Tree::clear`] begin with new ones.
+#[repr(transparent)]
+#[derive(Clone, Default, PartialEq, Eq)]
+pub struct TreeEnds(ic_tree_ends);
+
+impl TreeEnds {
+    /// Returns the ends of a tree with no members, in O(1).
+    #[inline]
+    #[must_use]
+    pub const fn new() -> TreeEnds {
+        TreeEnds(ic_tree_ends { first: 0, last: 0 })
+    }
+
+    /// Returns the ends that have these words, which may be any.
+    #[inline]
+    #[must_use]
+    pub const fn from_words([first, last]: [u64; 2]) -> TreeEnds {
+        TreeEnds(ic_tree_ends { first, last })
+    }
+
+    /// Returns the words of the ends, to be written to a file. They hold no addresses.
+    #[inline]
+    #[must_use]
+    pub const fn words(&self) -> [u64; 2] {
+        [self.0.first, self.0.last]
+    }
+
+    /// Returns the first member of the tree, in O(1). It returns `None` if there is none, or if it is no linked place of the table.
+    #[inline]
+    #[must_use]
+    pub fn first(&self, table: &[Link3]) -> Option<u32> {
+        member(table, place(self.0.first))
+    }
+
+    /// Returns the last member of the tree, in O(1). It returns `None` if [`first`](Self::first) does.
+    #[inline]
+    #[must_use]
+    pub fn last(&self, table: &[Link3]) -> Option<u32> {
+        member(table, place(self.0.last))
+    }
+}
+
+impl fmt::Debug for TreeEnds {
+    fn fmt(&self, f: &mut fmt::Formatter<'_>) -> fmt::Result {
+        f.debug_struct("TreeEnds").field("first", &place(self.0.first)).field("last", &place(self.0.last)).finish()
+    }
 }
 
 collection!(Tree, Link3);

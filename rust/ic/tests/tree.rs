@@ -1,6 +1,6 @@
 //! The calls of the tree, on a table of eight places.
 
-use ic::{Error, Link3, Tree};
+use ic::{Error, Link3, Tree, TreeEnds};
 
 const KEYS: [u64; 8] = [50, 20, 70, 20, 90, 10, 60, 20];
 
@@ -33,6 +33,35 @@ fn tree_edits() {
     assert!(links[7].is_linked() && !links[3].is_linked() && !links[1].is_linked());
     let taken = tree.take();
     assert!(tree.is_empty() && taken.iter(&links).eq([2, 7, 4, 5]));
+}
+
+#[test]
+fn trees_keep_their_ends() {
+    let (mut links, mut tree, mut ends) = ([Link3::UNLINKED; 8], Tree::new(), TreeEnds::new());
+    assert_eq!(
+        (ends.first(&links), ends.last(&links), tree.ends_pop_first(&mut links, &mut ends)),
+        (None, None, Ok(None))
+    );
+    for place in 0..6 {
+        tree.ends_insert(&mut links, &KEYS, &mut ends, place).unwrap();
+    }
+    assert!(tree.iter(&links).eq([5, 1, 3, 0, 2, 4]));
+    assert_eq!((ends.first(&links), ends.last(&links)), (Some(5), Some(4)));
+    tree.ends_insert_left(&mut links, &mut ends, Some(5), 7).unwrap();
+    tree.ends_insert_right(&mut links, &mut ends, Some(4), 6).unwrap();
+    assert_eq!((ends.first(&links), ends.last(&links)), (Some(7), Some(6)));
+    tree.ends_remove(&mut links, &mut ends, 6).unwrap();
+    tree.ends_replace(&mut links, &mut ends, 4, 6).unwrap();
+    assert_eq!((tree.ends_pop_first(&mut links, &mut ends), ends.last(&links)), (Ok(Some(7)), Some(6)));
+    let (words, before) = (ends.words(), ends.clone());
+    assert_eq!(tree.ends_insert_left(&mut links, &mut ends, None, 7), Err(Error::Broken));
+    assert_eq!(tree.ends_insert(&mut links, &KEYS[..7], &mut ends, 7), Err(Error::OutOfRange));
+    assert_eq!(tree.ends_replace(&mut links, &mut ends, 5, 5), Err(Error::Linked));
+    assert_eq!(tree.ends_remove(&mut links, &mut ends, 7), Err(Error::NotLinked));
+    assert_eq!(tree.ends_remove(&mut links, &mut ends, u32::MAX), Err(Error::Null));
+    assert_eq!(tree.ends_pop_first(&mut links[..1], &mut ends), Err(Error::Broken));
+    assert!(ends == before && TreeEnds::from_words(words) == before && tree.check(&links) == Some(6));
+    assert!((0..6).all(|_| tree.ends_pop_first(&mut links, &mut ends).is_ok()) && ends == TreeEnds::new());
 }
 
 #[test]

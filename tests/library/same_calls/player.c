@@ -20,6 +20,7 @@ static struct ic_list lists[SLOTS];
 static struct ic_stack stacks[SLOTS], buckets[BUCKETS];
 static struct ic_xor_list xor_lists[SLOTS];
 static struct ic_tree trees[SLOTS];
+static struct ic_tree_ends tree_ends[SLOTS];
 static uint64_t keys[TREE_PLACES];
 
 /* Of three hash tables the second has too few keys, as the second list and the second tree do, and the third has no buckets. */
@@ -36,6 +37,7 @@ static const struct {
     {(uint64_t *)list_links, 2 * LIST_PLACES}, {(uint64_t *)lists, 2 * SLOTS},  {(uint64_t *)stack_links, STACK_PLACES},
     {(uint64_t *)stacks, SLOTS},               {(uint64_t *)buckets, BUCKETS},  {(uint64_t *)xor_links, XOR_PLACES},
     {(uint64_t *)xor_lists, 2 * SLOTS},        {(uint64_t *)tree_links, 3 * TREE_PLACES}, {(uint64_t *)trees, SLOTS},
+    {(uint64_t *)tree_ends, 2 * SLOTS},
 };
 enum { PARTS = sizeof parts / sizeof *parts };
 

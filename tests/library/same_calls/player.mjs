@@ -5,7 +5,7 @@ import fs from "node:fs";
 import { pathToFileURL } from "node:url";
 
 const [made, folder, module, path] = process.argv.slice(2);
-const { HashTable, List, NONE, Refused, Ring, Stack, Tree, XorList, open } = await import(pathToFileURL(`${folder}/ic.mjs`));
+const { HashTable, List, NONE, Refused, Ring, Stack, Tree, TreeWithEnds, XorList, open } = await import(pathToFileURL(`${folder}/ic.mjs`));
 const { callsOf, PLACES } = await import(pathToFileURL(made));
 const ic = await open(pathToFileURL(`${folder}/${module}`)), FEW_KEYS = 5;
 
@@ -16,8 +16,10 @@ const all = ic.keys(PLACES.tree), few = ic.keys(FEW_KEYS), keys = [all, few, all
 const threeOf = (make) => [0, 1, 2].map(make);
 const lists = threeOf(() => new List(links.list)), stacks = threeOf(() => new Stack(links.stack)), xors = threeOf(() => new XorList(links.xor));
 const trees = threeOf((slot) => new Tree(links.tree, keys[slot])), tables = [4, 3, 0].map((buckets, slot) => new HashTable(links.stack, buckets, keys[slot]));
+// The same trees, with their ends.
+const ended = trees.map(({ ends, self, keys }) => Object.assign(new TreeWithEnds(links.tree, keys), { ends, self }));
 const ends = (all) => all.map((it) => it.ends);
-const parts = [[links.list], ends(lists), [links.stack], ends(stacks), tables.map((it) => it.buckets), [links.xor], ends(xors), [links.tree], ends(trees)];
+const parts = [[links.list], ends(lists), [links.stack], ends(stacks), tables.map((it) => it.buckets), [links.xor], ends(xors), [links.tree], ends(trees), ended.map((it) => it.both)];
 
 // Any place may be named as a head, also one that is none of a ring. A ring that is made so tests nothing.
 const ringOf = (head) => Object.assign(Object.create(Ring.prototype), ring, { head: head ?? NONE });
@@ -28,7 +30,7 @@ function fill(rest, split) {
   rest.ends.words.set(made.ends.words);
   made.free();
 }
-const calls = callsOf({ links, lists, stacks, xors, trees, tables, keys, Ring, ringOf, fill });
+const calls = callsOf({ links, lists, stacks, xors, trees, ended, tables, keys, Ring, ringOf, fill });
 
 function set(part, at, word) {
   for (const { words } of parts[part]) {

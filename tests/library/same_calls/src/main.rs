@@ -3,7 +3,7 @@
 //!
 //!     same_calls CALLS
 
-use ic::{Error, Link1, Link2, Link3, List, Stack, Tree, XorList};
+use ic::{Error, Link1, Link2, Link3, List, Stack, Tree, TreeEnds, XorList};
 use std::fmt::Write;
 
 mod made;
@@ -25,6 +25,7 @@ struct World {
     buckets: [Stack; 7],
     xor_lists: [XorList; SLOTS],
     trees: [Tree; SLOTS],
+    tree_ends: [TreeEnds; SLOTS],
     keys: Vec<u64>,
 }
 
@@ -160,7 +161,8 @@ impl World {
             5 => set(&mut self.xor_links, at, word, Link1::words, Link1::from_words),
             6 => set(&mut self.xor_lists, at, word, XorList::words, XorList::from_words),
             7 => set(&mut self.tree_links, at, word, Link3::words, Link3::from_words),
-            _ => set(&mut self.trees, at, word, Tree::words, Tree::from_words),
+            8 => set(&mut self.trees, at, word, Tree::words, Tree::from_words),
+            _ => set(&mut self.tree_ends, at, word, TreeEnds::words, TreeEnds::from_words),
         }
     }
 
@@ -175,6 +177,7 @@ impl World {
         line(&mut text, &self.xor_lists, XorList::words);
         line(&mut text, &self.tree_links, Link3::words);
         line(&mut text, &self.trees, Tree::words);
+        line(&mut text, &self.tree_ends, TreeEnds::words);
         text
     }
 }
