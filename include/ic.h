@@ -795,8 +795,8 @@ static inline uint32_t ic_ring_move_range_before(struct ic_link2 *table, ic_leng
 
 /* ---- Rings by keys ----
  *
- * The keys are as for lists: numbers, of which the least comes first, and one for each place. The call checks the ring first, so it is never
- * half done. It calls itself, at most 33 times within one another.
+ * The keys are as for lists: numbers, of which the least comes first, and one for each place. Both calls check their rings first, so they are
+ * never half done. A sort calls itself, at most 33 times within one another.
  */
 
 /* tools/c-calls --write writes from here: ring-keys */
@@ -806,6 +806,14 @@ static inline uint32_t ic_ring_move_range_before(struct ic_link2 *table, ic_leng
  * not linked. IC_BROKEN: the links do not lead from `head` around a ring and back to it, each to the next place and back. */
 IC_NODISCARD
 uint32_t ic_ring_sort(struct ic_link2 *table, ic_length places, const uint64_t *keys, ic_length key_count, uint32_t head);
+
+/* Moves all members of the head `given` to where their keys belong among those of the head `head`, if both rings are in the order of their
+ * keys, in O(n). Of members with equal keys, those of `head` come first. Afterwards `given` is the head of a ring with no members.
+ * IC_NULL: `head` or `given` is IC_NONE. IC_OUT_OF_RANGE: there are fewer keys than places, or `head` or `given` is not below `places`.
+ * IC_NOT_LINKED: `head` or `given` is not linked. IC_BROKEN: the links do not lead from `head` or from `given` around a ring and back to
+ * it, each to the next place and back, or both are in one ring. */
+IC_NODISCARD
+uint32_t ic_ring_merge(struct ic_link2 *table, ic_length places, const uint64_t *keys, ic_length key_count, uint32_t head, uint32_t given);
 
 /* to here */
 

@@ -221,6 +221,7 @@ struct circular {
     static constexpr bool is_bidirectional = true, needs_from = false;
     static constexpr auto check = ic_ring_check;
     static constexpr auto sort = ic_ring_sort;
+    static constexpr auto merge = ic_ring_merge;
     static constexpr auto push_front = ic_ring_push_front, push_back = ic_ring_push_back;
     static constexpr auto pop_front = ic_ring_pop_front, pop_back = ic_ring_pop_back;
 
@@ -616,7 +617,7 @@ public:
     }
 };
 
-/// Merges another list into one, too.
+/// Merges another list, or the members of another head, too.
 template <class Base>
 class merges : public sorts<Base> {
 public:
@@ -697,9 +698,9 @@ public:
 };
 
 /// Edits the members of one ring.
-class ring_members : public detail::sorts<detail::end_edits<const_ring_members>> {
+class ring_members : public detail::merges<detail::end_edits<const_ring_members>> {
 public:
-    using sorts::sorts;
+    using merges::merges;
 
     /// Inserts a place before an iterator's member, and at the back if that is end().
     status insert(iterator at, std::uint32_t place) const noexcept {
@@ -770,6 +771,11 @@ public:
 
     /// Sorts the members of a head by their keys, of which there is one for each place. Members with equal keys keep their order.
     status sort(array_view<const std::uint64_t> keys, std::uint32_t head) const noexcept { return members(head).sort(keys); }
+
+    /// Moves all members of the head `given` to where their keys belong among those of a head, after members with equal keys.
+    status merge(array_view<const std::uint64_t> keys, std::uint32_t head, std::uint32_t given) const noexcept {
+        return static_cast<status>(ic_ring_merge(table_, places_, keys.data(), keys.size(), head, given));
+    }
 
     /// Removes the first member of a head, or the last one, and returns it. It returns std::nullopt if there is none, or if the call is
     /// refused.

@@ -391,6 +391,11 @@ static inline uint32_t ic_ring_in_sort(struct ic_ring_in in, struct ic_keys keys
     return ic_ring_sort(in.table, in.places, keys.keys, keys.count, head);
 }
 
+IC_NODISCARD
+static inline uint32_t ic_ring_in_merge(struct ic_ring_in in, struct ic_keys keys, uint32_t head, uint32_t given) {
+    return ic_ring_merge(in.table, in.places, keys.keys, keys.count, head, given);
+}
+
 #define IC_RING_IN_FOREACH(place, in, head) IC_RING_FOREACH(place, (in).table, (in).places, head)
 #define IC_RING_IN_FOREACH_REVERSE(place, in, head) IC_RING_FOREACH_REVERSE(place, (in).table, (in).places, head)
 #define IC_RING_IN_FOREACH_SAFE(place, next, in, head) IC_RING_FOREACH_SAFE(place, next, (in).table, (in).places, head)

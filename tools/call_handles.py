@@ -27,7 +27,7 @@ def handed(family, arguments):
     own = {name: count for name, count in COUNTED.items() if name == "hashes" or family not in KEEP_KEYS}
     for argument in arguments:
         kind, name = re.match(r"(.*?[ *])(\w+)$", argument).groups()
-        if name in OTHERS:
+        if name in OTHERS and "*" in kind:
             params.append(f"struct ic_{family}_in {name}")
             words.append(f"{name}.list")
         elif name in own:

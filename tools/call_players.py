@@ -9,7 +9,7 @@ import re
 import call_table
 from call_table import OUT, has
 from call_handles import renamed
-from call_texts import KEEP_KEYS, SELF, STRUCTS, c_arguments, camel, is_none_refused, is_of_head, outcome, script_name, short
+from call_texts import KEEP_KEYS, SELF, STRUCTS, c_arguments, camel, given_of, is_none_refused, is_of_head, outcome, script_name, short
 
 # How many places each table of links has. Rings share that of the lists, and hash tables that of the singly linked lists.
 PLACES = {"list": 12, "stack": 10, "xor": 7, "tree": 24}
@@ -61,7 +61,7 @@ def c_call(call):
              "rest": "&rest", "members": "&out.members", "ends": "&tree_ends[n[0]]"}
     fixed.update({name: "&out.place" for name in OUT if name != "members"})
     at, types = arguments(call), {arg.name: arg.type for arg in call.args}
-    of = lambda name: f"&{HEADS[call.family]}[n[{at[name]}]]" if name == "given" else "(uint32_t)" * (types[name] == "u32") + f"n[{at[name]}]"
+    of = lambda name: f"&{HEADS[call.family]}[n[{at[name]}]]" if name in given_of(call, "") else "(uint32_t)" * (types[name] == "u32") + f"n[{at[name]}]"
     return f"{call.name}({', '.join(fixed.get(name) or of(name) for _, _, _, name in c_arguments(call))})"
 
 
@@ -107,7 +107,7 @@ def handle_call(call):
     keys = "((struct ic_keys){keys, key_count(n[0])})"
     fixed = {"members": "&out.members", "ends": "&tree_ends[n[0]]", "rest": rest * bool(kind), "keys": keys * (call.family not in KEEP_KEYS), "hashes": keys}
     fixed.update({name: "&out.place" for name in OUT if name != "members"})
-    of = lambda name: handle(call.family, at[name]) if name == "given" else "(uint32_t)" * (types[name] == "u32") + f"n[{at[name]}]"
+    of = lambda name: handle(call.family, at[name]) if name in given_of(call, "") else "(uint32_t)" * (types[name] == "u32") + f"n[{at[name]}]"
     left = {"table", "buckets", *SELF, *({"keys"} if call.family in KEEP_KEYS else ())}
     words = [fixed.get(arg.name) or of(arg.name) for arg in call.args if arg.name not in left]
     return f"{renamed(call.name)}({', '.join([handle(call.family, 0), *words])})"
@@ -150,7 +150,7 @@ def cpp_call(call):
     own = lambda index: f"{HEADS[call.family]}[n[{index}]]" if call.family in HEADS else ""
     keys = "ic::tree_view::keys_view{keys, key_count(n[0])}"
     fixed = {"keys": keys, "hashes": keys, "rest": view(call.family, "rest")}
-    if "given" in at:
+    if at.keys() & given_of(call, ""):
         fixed["given"] = view(call.family, own(at["given"]))
     of = lambda name: "(uint32_t)" * (types[name] == "u32") + f"n[{at[name]}]"
     words = [fixed.get(arg.name) or of(arg.name) for arg in call.args if arg.name not in ("table", "buckets", "ends", *SELF, *OUT)]
@@ -199,7 +199,7 @@ def rust_call(call):
     reads, at = next(c_arguments(call))[0], arguments(call)
     own = f"world.{HEADS.get(call.family)}[slot(w[0])]"
     kinds = {"u64": "number", "u32": "place"}
-    fixed = {"table": f"&{'mut ' * (not reads)}world.{TABLES[call.family]}_links", "given": "given",
+    fixed = {"table": f"&{'mut ' * (not reads)}world.{TABLES[call.family]}_links", **given_of(call, "given"),
              "ends": "&mut world.tree_ends[slot(w[0])]"}
     fixed.update({name: "keys(&world.keys, slot(w[0]))" for name in ("keys", "hashes")})
     words = []
@@ -209,7 +209,7 @@ def rust_call(call):
         elif arg.name not in ("rest", *SELF, *OUT):
             kind = "gap" if call.roles.get(arg.name) == "gap" else kinds.get(arg.type)
             words.append(fixed.get(arg.name) or f"{kind}(w[{at[arg.name]}])")
-    owner = f"ic::{call.family}::" if call.family in ("ring", "hash") else "it." if "given" in at else f"{own}."
+    owner = f"ic::{call.family}::" if call.family in ("ring", "hash") else "it." if at.keys() & given_of(call, "") else f"{own}."
     return f"{owner}{short(call)}({', '.join(words)})"
 
 
@@ -220,7 +220,7 @@ def rust_body(call):
         return f'if {other}.is_empty() {{ let made = {made}; split(&mut {other}, made) }} else {{ "skipped".into() }}'
     prints = "counted" if is_none_refused(call) else PRINTS[outcome(call)]
     text = f"{made}; done(Ok(()))" if call.name == "ic_xor_reverse" else f"{prints}({made})"
-    return f"let (it, given) = two(&mut world.{heads}, slot(w[0]), slot(w[{at['given']}])); {text}" if "given" in at else text
+    return f"let (it, given) = two(&mut world.{heads}, slot(w[0]), slot(w[{at['given']}])); {text}" if at.keys() & given_of(call, "") else text
 
 
 def rust_read(name, places):
@@ -256,6 +256,10 @@ def rust_file(calls):
 # ---- JavaScript ----
 
 
+def script_given(call, heads, at):
+    return f"w.{heads}[n[{at}]]" if given_of(call, "") else f"w.ringOf(place(n[{at}]))"
+
+
 def script_body(call):
     at, types = arguments(call), {arg.name: arg.type for arg in call.args}
     heads = {**HEADS, "xor": "xors", "hash": "tables"}.get(call.family)
@@ -263,7 +267,7 @@ def script_body(call):
     if call.name == "ic_ring_init":
         return "void new w.Ring(w.links.list, place(n[0]))"
     left = ("table", "buckets", "rest", "ends", *SELF, *OUT, *(("keys",) if call.family in KEEP_KEYS else ()))
-    fixed = {"keys": "w.keys[n[0]]", "hashes": "w.keys[n[0]]", "given": f"w.{heads}[n[{at.get('given')}]]", "head": f"w.ringOf(place(n[{at.get('head')}]))"}
+    fixed = {"keys": "w.keys[n[0]]", "hashes": "w.keys[n[0]]", "given": script_given(call, heads, at.get("given")), "head": f"w.ringOf(place(n[{at.get('head')}]))"}
     names = [arg.name for arg in call.args if arg.name not in left]
     owner = "w.ended[n[0]]" if has(call, "ends") else f"w.{heads}[n[0]]" if call.family != "ring" else "w.ringOf(0)"
     if is_of_head(call):

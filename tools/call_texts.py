@@ -119,10 +119,15 @@ def is_none_refused(call):
     return outcome(call) == "members" and refusals(call, "", "").keys() == {"BROKEN"}
 
 
+def given_of(call, text):
+    """The text for a second list. What is given to a call of rings is a place."""
+    return {} if "given" in call.roles else {"given": text}
+
+
 def rust_arguments(call):
     """The parameters of the method, and what it hands to the call."""
     reads = next(c_arguments(call))[0]
-    handed = {"table": ["links", "places"], "given": ["&mut given.0"], "rest": ["&mut rest.0"], "ends": ["&mut ends.0"], "chain": ["&mut chain.0"]}
+    handed = {"table": ["links", "places"], "rest": ["&mut rest.0"], "ends": ["&mut ends.0"], "chain": ["&mut chain.0"], **given_of(call, ["&mut given.0"])}
     handed.update({name: [f"{name}.as_ptr()", f"{name}.len()"] for name in ("keys", "hashes")})
     params, words = [], []
     for arg in call.args:
@@ -135,7 +140,7 @@ def rust_arguments(call):
             words.append("members" if arg.name == "members" else "it")
         else:
             words += handed.get(arg.name, [f"number({arg.name})" if call.roles.get(arg.name) == "gap" else arg.name])
-        kinds = {"table": f"&{'mut ' * (not reads)}[Link{LINKS[call.family]}]", "keys": "&[u64]", "hashes": "&[u64]", "given": f"&mut {CLASSES[call.family]}",
+        kinds = {"table": f"&{'mut ' * (not reads)}[Link{LINKS[call.family]}]", "keys": "&[u64]", "hashes": "&[u64]", **given_of(call, f"&mut {CLASSES[call.family]}"),
                  "buckets": f"&{'mut ' * arg.is_mut}[Stack]", "ends": "&mut TreeEnds", "chain": "&mut Stack"}
         if arg.name not in ("rest", *OUT):
             params.append(f"{arg.name}: " + kinds.get(arg.name, "Option<u32>" if call.roles.get(arg.name) == "gap" else arg.type))
@@ -228,8 +233,8 @@ def script_words(call):
 
 
 def is_of_head(call):
-    """Whether a call of rings names its head and no other place, so that the ring of that head makes it."""
-    return call.roles == {"head": "ring"}
+    """Whether a call of rings names its head first, so that the ring of that head makes it."""
+    return next(iter(call.roles.items()), None) == ("head", "ring")
 
 
 def script_parameters(call):

@@ -203,6 +203,14 @@ extern "C" {
     pub fn ic_ring_splice_before(table: *mut ic_link2, places: usize, at: u32, head: u32) -> u32;
     pub fn ic_ring_check(table: *const ic_link2, places: usize, head: u32, members: *mut u64) -> u32;
     pub fn ic_ring_sort(table: *mut ic_link2, places: usize, keys: *const u64, key_count: usize, head: u32) -> u32;
+    pub fn ic_ring_merge(
+        table: *mut ic_link2,
+        places: usize,
+        keys: *const u64,
+        key_count: usize,
+        head: u32,
+        given: u32,
+    ) -> u32;
     pub fn ic_stack_push_front(table: *mut ic_link1, places: usize, list: *mut ic_stack, place: u32) -> u32;
     pub fn ic_stack_pop_front(table: *mut ic_link1, places: usize, list: *mut ic_stack, popped: *mut u32) -> u32;
     pub fn ic_stack_insert_after(table: *mut ic_link1, places: usize, list: *mut ic_stack, at: u32, place: u32) -> u32;

@@ -426,6 +426,9 @@ export class Ring extends Calls {
   spliceBefore(at, head) { this.done(this.calls.ic_ring_splice_before(this.table, this.places, placeNumber(at, "at"), this.given(head))); }
   check() { return this.counted(this.calls.ic_ring_check(this.table, this.places, this.head, this.out)); }
   sort(keys) { this.done(this.calls.ic_ring_sort(this.table, this.places, ...keyParts(keys, this.links), this.head)); }
+  merge(keys, given) {
+    this.done(this.calls.ic_ring_merge(this.table, this.places, ...keyParts(keys, this.links), this.head, this.given(given)));
+  }
   // to here
   pushFront(place) { this.insertAfter(this.head, place); }
   pushBack(place) { this.insertBefore(this.head, place); }

@@ -201,6 +201,8 @@ static void pairs_of_handles(void) {
     EXPECT(ic_list_in_transfer_after(list, IC_NONE, second, 4) == IC_OK && ic_list_in_transfer_before(list, IC_NONE, second, 2) == IC_OK);
     EXPECT(ic_list_in_is_first(list, 4) && ic_list_in_is_last(list, 2) && ic_list_in_append(list, second) == IC_OK);
     EXPECT(ic_ring_in_sort(ring, keys, HEAD) == IC_OK && ic_ring_in_front(ring, HEAD) == 0 && ic_ring_in_back(ring, HEAD) == 2);
+    EXPECT(ic_ring_in_init(ring, 7) == IC_OK && ic_ring_in_merge(ring, keys, 7, HEAD) == IC_OK && ic_ring_in_is_empty(ring, HEAD));
+    EXPECT(ic_ring_in_front(ring, 7) == 0 && ic_ring_in_merge(ring, keys, 7, 7) == IC_BROKEN);
     EXPECT(ic_stack_in_splice_after(stack, 4, stack2) == IC_OK && ic_stack_in_is_empty(stack2));
     EXPECT(ic_stack_in_split_after(stack, 4, stack2) == IC_OK && ic_stack_in_sort(stack2, keys) == IC_OK && ic_stack_in_sort(stack, keys) == IC_OK);
     EXPECT(ic_stack_in_merge(stack, keys, stack2) == IC_OK && ic_stack_in_is_empty(stack2));

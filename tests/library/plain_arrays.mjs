@@ -171,6 +171,12 @@ function rings(ic, turns) {
     }
     return null;
   }
+  // Of the two first members that of the other ring goes next if its key is less.
+  function mergeOther() {
+    const mine = plain.splice(0), given = other.plain.splice(0);
+    while (mine.length || given.length) plain.push((!mine.length || key(given[0] ?? mine[0]) < key(mine[0]) ? given : mine).shift());
+    return null;
+  }
   // Both rings become one, with both heads in it, and two again.
   function exchangeTwice() {
     const one = random(plain.length + 1) - 1, two = random(other.plain.length + 1) - 1;
@@ -202,6 +208,8 @@ function rings(ic, turns) {
       ["exchange", [at, null], () => REFUSED],
       ["sort", [keys], () => sort(plain, key)],
       ["sort", [few], () => REFUSED],
+      ...(turn % 30 === 2 ? [["merge", [keys, other.ring], () => mergeOther()]] : []),
+      ...(turn % 30 === 3 ? [["merge", [few, other.ring], () => REFUSED]] : []),
       ...(turn % 30 === 0 ? [["spliceAfter", [own, other.ring], () => splice(own, true)]] : []),
       ...(turn % 30 === 1 ? [["spliceBefore", [own, other.ring], () => splice(own, false)]] : []),
     ];

@@ -38,6 +38,7 @@ const members: number = list.check() + stack.check() + tree.check();
 const ring = new Ring(ic.links2(10), 8);
 ring.spliceAfter(ring.head, new Ring(ic.links2(10), 9));
 ring.sort(ic.keys(10));
+ring.merge(ic.keys(10), new Ring(ic.links2(10), 7));
 const circle: number = ring.check();
 stack.sort(keys);
 stack.merge(keys, new Stack(ic.links1(100)));

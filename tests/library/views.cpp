@@ -588,15 +588,22 @@ void swap_or_move(rings &it, int which, std::list<std::uint32_t>::iterator membe
     }
 }
 
-/// Sorts the members of a head, as the standard library does.
+/// Sorts the members of a head, and merges those of the other one into them, as the standard library does.
 void sort(rings &it, int which) {
     const ic::ring_view view = it.view();
     const std::vector<std::uint64_t> keys = some_keys(places + 2);
-    const std::uint32_t head = rings::head(which);
+    const std::uint32_t head = rings::head(which), other = rings::head(1 - which);
+    const auto is_less = [&](std::uint32_t one, std::uint32_t two) { return keys[one] < keys[two]; };
     made(view.sort({keys.data(), keys.size() - 1}, head), ic::status::out_of_range);
     made(view.members(ic::none).sort(keys), ic::status::null);
     if (made(below(2) ? view.sort(keys, head) : view.members(head).sort(keys), ic::status::ok))
-        it.plain[which].sort([&](std::uint32_t one, std::uint32_t two) { return keys[one] < keys[two]; });
+        it.plain[which].sort(is_less);
+    if (below(4) || !made(view.sort(keys, other), ic::status::ok))
+        return;
+    it.plain[1 - which].sort(is_less);
+    made(view.members(head).merge(keys, view.members(head)), ic::status::broken);
+    if (made(below(2) ? view.merge(keys, head, other) : view.members(head).merge(keys, view.members(other)), ic::status::ok))
+        it.plain[which].merge(it.plain[1 - which], is_less);
 }
 
 void step(rings &it) {

@@ -247,6 +247,21 @@ pub fn sort(table: &mut [Link2], keys: &[u64], head: u32) -> Result<(), Error> {
     // SAFETY: each pointer comes from a reference, with the length of its slice, and no mutable reference overlaps another one.
     done(unsafe { ic_ring_sort(links, places, keys.as_ptr(), keys.len(), head) })
 }
+
+/// Moves all members of the head `given` to where their keys belong among those of the head `head`, if both rings are in the order of their
+/// keys, in O(n). Of members with equal keys, those of `head` come first. Afterwards `given` is the head of a ring with no members.
+///
+/// # Errors
+///
+/// [`Error::Null`] if `head` or `given` is `u32::MAX`. [`Error::OutOfRange`] if there are fewer keys than places, or `head` or `given` is
+/// not below the table's length. [`Error::NotLinked`] if `head` or `given` is not linked. [`Error::Broken`] if the links do not lead from
+/// `head` or from `given` around a ring and back to it, each to the next place and back, or both are in one ring.
+#[inline]
+pub fn merge(table: &mut [Link2], keys: &[u64], head: u32, given: u32) -> Result<(), Error> {
+    let (links, places) = Link2::parts(table);
+    // SAFETY: each pointer comes from a reference, with the length of its slice, and no mutable reference overlaps another one.
+    done(unsafe { ic_ring_merge(links, places, keys.as_ptr(), keys.len(), head, given) })
+}
 // to here
 
 /// Inserts `place` as the first member of a head, in O(1).

@@ -159,6 +159,16 @@ impl Pair {
         let keys: Vec<_> = (0..PLACES + 2).map(|_| u64::from(random.below(5))).collect();
         ring::sort(&mut self.links, &keys, HEADS[ring]).unwrap();
         self.plain[ring].sort_by_key(|&place| keys[place as usize]);
+        if random.below(8) == 0 {
+            // Of members with equal keys those of the first ring come first, and a stable sort of both, one after the other, leaves them so.
+            ring::sort(&mut self.links, &keys, HEADS[1 - ring]).unwrap();
+            assert_eq!(ring::merge(&mut self.links, &keys, HEADS[ring], HEADS[ring]), Err(Error::Broken));
+            ring::merge(&mut self.links, &keys, HEADS[ring], HEADS[1 - ring]).unwrap();
+            let mut given = std::mem::take(&mut self.plain[1 - ring]);
+            given.sort_by_key(|&place| keys[place as usize]);
+            self.plain[ring].append(&mut given);
+            self.plain[ring].sort_by_key(|&place| keys[place as usize]);
+        }
     }
 
     fn check(&self) {
@@ -214,6 +224,8 @@ fn broken_rings_are_refused() {
     assert_eq!(heads, [Error::Null, Error::OutOfRange, Error::Broken, Error::Broken]);
     assert_eq!(ring::sort(&mut links, &[0; 4], 0), Err(Error::Broken));
     assert_eq!(ring::sort(&mut links, &[0; 3], 0), Err(Error::OutOfRange));
+    assert_eq!(ring::merge(&mut links, &[0; 4], 0, 1), Err(Error::Broken));
+    assert_eq!(ring::merge(&mut links, &[0; 4], 0, u32::MAX), Err(Error::Null));
     assert_eq!((ring::is_empty(&links, 0), ring::iter(&links, 0).count()), (false, 0));
     assert!(links == before);
 }
