@@ -2,7 +2,7 @@
 
 A check of the changed function alone names the goals that it leaves open, and the answers that do not fit. An answer is the term that a file under
 proofs/ gives for a goal. If only answers do not fit, the function is checked once more without them, and so is the right body: what the wrong body
-leaves open, and the right one does not, is what refuses it."""
+leaves open, and the right one does not, is what refuses it. That a search does not find a goal is no proof that the goal is false."""
 
 import collections
 import re
@@ -305,6 +305,13 @@ def shown(goals, function):
     return f"refused by `{what}` of {function}"
 
 
+def verdict_on(body, goals, function):
+    """The verdict that these goals refuse a wrong body, which also says if they are of other clauses than the page names."""
+    named = set(QUOTED.findall(body.refused_by))
+    beside = "" if named & {clause_of(it) for it in goals} or not any(map(clause_of, goals)) else f", where the page names {body.refused_by}"
+    return Verdict(shown(goals, function) + beside, True)
+
+
 def open_at_once(prover, body, found, function):
     """The goals that a check with all answers tells to be open by what the wrong body does: those which the right body has no answer for but a
     search, and all of those for which the page itself gives the wrong body answers. It is None if each is proved by itself."""
@@ -337,12 +344,12 @@ def why(prover, body):
     function, functions = found.unproved[0], found.unproved
     told = open_at_once(prover, body, found, function)
     if told:
-        return Verdict(shown(told, function), True)
+        return verdict_on(body, told, function)
     left = prover.left(body, functions) if told is not None else None
     if left is None:
         return Verdict(f"NOT REFUSED: {function} is proved with other answers", False)
     more = [it for it in left if not is_of_a_loop(it) and what_of(it) not in prover.left_by_right(functions)]
     if more:
-        return Verdict(shown(more, function), True)
+        return verdict_on(body, more, function)
     unfit = list(dict.fromkeys(found.misfits())) or left
     return Verdict(f"undecided: only an answer names the old body, of {function}: {', '.join(f'`{it}`' for it in unfit[:6])}", None)
