@@ -9,7 +9,7 @@ static struct ic_link1 links[SESSIONS];
 static struct ic_stack vacant, buckets[2][MOST_BUCKETS]; /* of the two arrays of buckets one is in use */
 static size_t bucket_count = 2, open_count;
 static int in_use;
-static uint64_t ids[SESSIONS];
+static uint64_t ids[SESSIONS], hashes[SESSIONS];
 static unsigned requests[SESSIONS];
 
 /* Ids that are numbered on, or end alike, get hashes that do not (the last steps of MurmurHash3). */
@@ -26,12 +26,11 @@ static uint32_t find(uint64_t id) {
     return status == IC_OK ? found : IC_NONE;
 }
 
-/* Moves all sessions to twice as many buckets. */
+/* Moves all sessions to twice as many buckets, one call for each bucket that there was. */
 static uint32_t grow(void) {
-    uint32_t session, status = IC_OK;
-    for (size_t i = 0; i < bucket_count; i++)
-        while (status == IC_OK && ic_stack_pop_front(links, SESSIONS, &buckets[in_use][i], &session) == IC_OK)
-            status = ic_hash_insert(links, SESSIONS, buckets[!in_use], 2 * bucket_count, hash_of(ids[session]), session);
+    uint32_t status = IC_OK;
+    for (size_t i = 0; status == IC_OK && i < bucket_count; i++)
+        status = ic_hash_move_chain(links, SESSIONS, hashes, SESSIONS, &buckets[in_use][i], buckets[!in_use], 2 * bucket_count);
     in_use = !in_use;
     bucket_count *= 2;
     return status;
@@ -46,8 +45,9 @@ static uint32_t open_session(uint64_t id) {
         return status;
     open_count++;
     ids[session] = id;
+    hashes[session] = hash_of(id);
     requests[session] = 0;
-    return ic_hash_insert(links, SESSIONS, buckets[in_use], bucket_count, hash_of(id), session);
+    return ic_hash_insert(links, SESSIONS, buckets[in_use], bucket_count, hashes[session], session);
 }
 
 static void request(uint64_t id) {

@@ -25,8 +25,8 @@
  *
  * This is what every call does, whatever you hand to it:
  *   - It returns one of the statuses below.
- *   - It writes to nothing but the first `places` links of the table, the lists, the tree, the bucket of the hash and the out parameter that
- *     you hand to it.
+ *   - It writes to nothing but the first `places` links of the table, the lists, the tree, its ends, the buckets where the hashes lead, and
+ *     the out parameter that you hand to it.
  *   - If the status is not IC_OK, it has changed nothing, out parameters included. The status says what is wrong with the first member
  *     that is named, else with the next one, else with the place to insert, else that the words do not fit together (IC_BROKEN). If the
  *     comment says what a call does if a place is IC_NONE, nothing is wrong with IC_NONE there.
@@ -1008,9 +1008,14 @@ uint32_t ic_stack_merge(struct ic_link1 *table, ic_length places, const uint64_t
  *         if (strcmp(names[place], name) == 0)
  *             break;
  *
- * IC_HASH_FOREACH_ALL goes over all members. Each call for singly linked lists takes a bucket, too. So ic_stack_clear empties one, and by
- * ic_stack_pop_front and ic_hash_insert all members move to a larger array of buckets. A place is in one chain or list of a table, so the
- * free places may be in a list of the same table.
+ * IC_HASH_FOREACH_ALL goes over all members. Each call for singly linked lists takes a bucket, too, so ic_stack_clear empties one. A place
+ * is in one chain or list of a table, so the free places may be in a list of the same table.
+ *
+ * A hash table grows or shrinks when you make another array of buckets, and call ic_hash_move_chain for each bucket of the old one, at once
+ * or over time. With `more` for the 128 new buckets, and a hash for each place in `hashes`:
+ *
+ *     for (uint32_t i = 0; i < 64; i++)
+ *         status = ic_hash_move_chain(links, 100, hashes, 100, &buckets[i], more, 128);
  */
 
 /* Returns the first member of the chain of a hash, or IC_NONE. */
@@ -1077,7 +1082,7 @@ static inline uint32_t ic_hash_safe_go_on(const struct ic_link1 *table, ic_lengt
              IC_ENTRY_IF(object, objects, ic_at_##object, ic_at_##object != IC_NONE && ic_rounds_##object--);                   \
              ic_at_##object = ic_hash_safe_go_on(table, places, buckets, bucket_count, &bucket, &before, ic_at_##object))
 
-/* tools/c-calls --write writes from here: hash */
+/* tools/c-calls --write writes from here: hash hash-growth */
 
 /* Inserts `place` at the front of the chain of `hash`, in O(1).
  * IC_OUT_OF_RANGE: there is no bucket, or `place` is not below `places`. IC_LINKED: `place` is linked already. IC_BROKEN: the first member
@@ -1117,6 +1122,16 @@ uint32_t ic_hash_next_equal(const struct ic_link1 *table, ic_length places, cons
 IC_NODISCARD
 uint32_t ic_hash_check(const struct ic_link1 *table, ic_length places, const uint64_t *hashes, ic_length hash_count,
                        const struct ic_stack *buckets, ic_length bucket_count, uint64_t *members);
+
+/* Moves all members of `chain`, a bucket of another array, each to the front of the chain of its hash, and leaves `chain` empty, in
+ * O(members of the chain). `hashes` has the hash of each place. Members that come into one bucket keep their order, and come before those
+ * that are there. So of moved members with one key a search still finds the one that was inserted last. Each place stays linked during the
+ * call. To grow or to shrink a hash table, make another array of buckets, and call this for each bucket of the old one.
+ * IC_OUT_OF_RANGE: there are fewer hashes than places, or there is no bucket. IC_BROKEN: the links lead from the first member of `chain` to
+ * no end within the table, or a bucket to which a member moves begins with a place that does not belong to this table. */
+IC_NODISCARD
+uint32_t ic_hash_move_chain(struct ic_link1 *table, ic_length places, const uint64_t *hashes, ic_length hash_count, struct ic_stack *chain,
+                            struct ic_stack *buckets, ic_length bucket_count);
 
 /* to here */
 

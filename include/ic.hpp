@@ -1014,6 +1014,17 @@ public:
     /// Removes a place from its chain, wherever it is in it.
     status remove(std::uint64_t hash, std::uint32_t place) const noexcept { return edit(ic_hash_remove, hash, place); }
 
+    /// Moves all members of `chain`, a bucket of another array, each to the front of its chain here. Those of one chain keep their order. `hashes`
+    /// has the hash of each place. It returns ic::status::broken of a bucket of this table. To grow, make a view of another array, and call this
+    /// for each bucket of the old one.
+    status move_chain(keys_view hashes, ic_stack &chain) const noexcept {
+        for (std::size_t i = 0; i < in_.bucket_count; ++i)
+            if (&chain == &buckets_[i])
+                return status::broken;
+        return static_cast<status>(
+            ic_hash_move_chain(table_, in_.places, hashes.data(), hashes.size(), &chain, buckets_, in_.bucket_count));
+    }
+
     /// Returns the chain of a hash, as a list. There has to be a bucket.
     [[nodiscard]] stack_view chain(std::uint64_t hash) const noexcept { return {{table_, in_.places}, buckets_[hash % in_.bucket_count]}; }
 };

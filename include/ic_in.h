@@ -582,6 +582,11 @@ static inline uint32_t ic_hash_in_check(struct ic_hash_in in, struct ic_keys has
     return ic_hash_check(in.table, in.places, hashes.keys, hashes.count, in.buckets, in.bucket_count, members);
 }
 
+IC_NODISCARD
+static inline uint32_t ic_hash_in_move_chain(struct ic_hash_in in, struct ic_keys hashes, struct ic_stack *chain) {
+    return ic_hash_move_chain(in.table, in.places, hashes.keys, hashes.count, chain, in.buckets, in.bucket_count);
+}
+
 #define IC_HASH_IN_FOREACH(place, in, hash) IC_HASH_FOREACH(place, (in).table, (in).places, (in).buckets, (in).bucket_count, hash)
 #define IC_HASH_IN_FOREACH_ENTRY(object, objects, in, hash) \
     IC_HASH_FOREACH_ENTRY(object, objects, (in).table, (in).places, (in).buckets, (in).bucket_count, hash)

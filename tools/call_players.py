@@ -36,6 +36,11 @@ def arguments(call):
     return {arg.name: at for at, arg in enumerate(names, has_number(call))}
 
 
+def chain(call):
+    """The bucket of another hash table whose members a call moves: a singly linked list."""
+    return f"stacks[n[{arguments(call).get('chain')}]]"
+
+
 def reads():
     """The reads of the table, and the names of the places that each takes."""
     of = {name: re.findall(r"uint32_t (\w+)", words) for name, words in READ.findall(call_table.HEADER.read_text())}
@@ -58,7 +63,7 @@ def c_call(call):
     own = f"&{HEADS[call.family]}[n[0]]" if call.family in HEADS else ""
     fixed = {"table": table, "places": places, "keys": "keys", "key_count": "key_count(n[0])", "list": own, "tree": own,
              "hashes": "keys", "hash_count": "key_count(n[0])", "buckets": "&buckets[bucket_from[n[0]]]", "bucket_count": "bucket_count[n[0]]",
-             "rest": "&rest", "members": "&out.members", "ends": "&tree_ends[n[0]]"}
+             "rest": "&rest", "members": "&out.members", "ends": "&tree_ends[n[0]]", "chain": f"&{chain(call)}"}
     fixed.update({name: "&out.place" for name in OUT if name != "members"})
     at, types = arguments(call), {arg.name: arg.type for arg in call.args}
     of = lambda name: f"&{HEADS[call.family]}[n[{at[name]}]]" if name in given_of(call, "") else "(uint32_t)" * (types[name] == "u32") + f"n[{at[name]}]"
@@ -105,7 +110,8 @@ def handle_call(call):
     kind = next((STRUCTS[arg.type] for arg in call.args if arg.name == "rest"), "")
     rest = f"((struct ic_{call.family}_in){{{', '.join(c_links(call.family))}, &rest}})"
     keys = "((struct ic_keys){keys, key_count(n[0])})"
-    fixed = {"members": "&out.members", "ends": "&tree_ends[n[0]]", "rest": rest * bool(kind), "keys": keys * (call.family not in KEEP_KEYS), "hashes": keys}
+    fixed = {"members": "&out.members", "ends": "&tree_ends[n[0]]", "rest": rest * bool(kind), "keys": keys * (call.family not in KEEP_KEYS), "hashes": keys,
+             "chain": f"&{chain(call)}"}
     fixed.update({name: "&out.place" for name in OUT if name != "members"})
     of = lambda name: handle(call.family, at[name]) if name in given_of(call, "") else "(uint32_t)" * (types[name] == "u32") + f"n[{at[name]}]"
     left = {"table", "buckets", *SELF, *({"keys"} if call.family in KEEP_KEYS else ())}
@@ -149,7 +155,7 @@ def cpp_call(call):
     at, types = arguments(call), {arg.name: arg.type for arg in call.args}
     own = lambda index: f"{HEADS[call.family]}[n[{index}]]" if call.family in HEADS else ""
     keys = "ic::tree_view::keys_view{keys, key_count(n[0])}"
-    fixed = {"keys": keys, "hashes": keys, "rest": view(call.family, "rest")}
+    fixed = {"keys": keys, "hashes": keys, "rest": view(call.family, "rest"), "chain": chain(call)}
     if at.keys() & given_of(call, ""):
         fixed["given"] = view(call.family, own(at["given"]))
     of = lambda name: "(uint32_t)" * (types[name] == "u32") + f"n[{at[name]}]"
@@ -200,7 +206,7 @@ def rust_call(call):
     own = f"world.{HEADS.get(call.family)}[slot(w[0])]"
     kinds = {"u64": "number", "u32": "place"}
     fixed = {"table": f"&{'mut ' * (not reads)}world.{TABLES[call.family]}_links", **given_of(call, "given"),
-             "ends": "&mut world.tree_ends[slot(w[0])]"}
+             "ends": "&mut world.tree_ends[slot(w[0])]", "chain": f"&mut world.stacks[slot(w[{at.get('chain')}])]"}
     fixed.update({name: "keys(&world.keys, slot(w[0]))" for name in ("keys", "hashes")})
     words = []
     for arg in call.args:
@@ -267,7 +273,8 @@ def script_body(call):
     if call.name == "ic_ring_init":
         return "void new w.Ring(w.links.list, place(n[0]))"
     left = ("table", "buckets", "rest", "ends", *SELF, *OUT, *(("keys",) if call.family in KEEP_KEYS else ()))
-    fixed = {"keys": "w.keys[n[0]]", "hashes": "w.keys[n[0]]", "given": script_given(call, heads, at.get("given")), "head": f"w.ringOf(place(n[{at.get('head')}]))"}
+    fixed = {"keys": "w.keys[n[0]]", "hashes": "w.keys[n[0]]", "given": script_given(call, heads, at.get("given")), "head": f"w.ringOf(place(n[{at.get('head')}]))",
+             "chain": f"w.{chain(call)}"}
     names = [arg.name for arg in call.args if arg.name not in left]
     owner = "w.ended[n[0]]" if has(call, "ends") else f"w.{heads}[n[0]]" if call.family != "ring" else "w.ringOf(0)"
     if is_of_head(call):

@@ -184,7 +184,7 @@ def head(begin, params, end, indent):
 
 
 def split_closure(line, indent):
-    """A line as rustfmt breaks it if it is too long: a statement after its `=`, a closure around its body."""
+    """A line as rustfmt breaks it if it is too long: a statement after its `=`, a closure around its body, and a call of too many words at each."""
     if indent + len(line) <= RUST_LINE or line.startswith("//"):
         return [line]
     if line.startswith("let "):
@@ -192,7 +192,10 @@ def split_closure(line, indent):
         return [f"{left} =", f"    {right}"]
     before, _, rest = line.partition("unsafe { ")
     body, _, after = rest.rpartition(" }")
-    return [f"{before}unsafe {{", f"    {body}", f"}}{after}"]
+    if indent + 4 + len(body) > RUST_LINE:
+        name, _, words = body.removesuffix(")").partition("(")
+        body = "\n".join([f"{name}(", *(f"    {word}," for word in words.split(", ")), ")"])
+    return [f"{before}unsafe {{", *textwrap.indent(body, "    ").split("\n"), f"}}{after}"]
 
 
 # ---- The table of reads ----

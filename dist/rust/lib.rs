@@ -113,7 +113,7 @@ pub const fn ic_place(word: u64) -> u32 {
 }
 
 extern "C" {
-    // tools/c-calls --write writes from here: list list-keys list-transfer ring ring-check ring-keys stack stack-keys hash xor tree tree-keys tree-steps tree-ends
+    // tools/c-calls --write writes from here: list list-keys list-transfer ring ring-check ring-keys stack stack-keys hash hash-growth xor tree tree-keys tree-steps tree-ends
     pub fn ic_list_push_front(table: *mut ic_link2, places: usize, list: *mut ic_list, place: u32) -> u32;
     pub fn ic_list_push_back(table: *mut ic_link2, places: usize, list: *mut ic_list, place: u32) -> u32;
     pub fn ic_list_pop_front(table: *mut ic_link2, places: usize, list: *mut ic_list, popped: *mut u32) -> u32;
@@ -435,6 +435,15 @@ extern "C" {
         tree: *mut ic_tree,
         ends: *mut ic_tree_ends,
         popped: *mut u32,
+    ) -> u32;
+    pub fn ic_hash_move_chain(
+        table: *mut ic_link1,
+        places: usize,
+        hashes: *const u64,
+        hash_count: usize,
+        chain: *mut ic_stack,
+        buckets: *mut ic_stack,
+        bucket_count: usize,
     ) -> u32;
     // to here
 }

@@ -509,7 +509,13 @@ export class HashTable extends Calls {
   /** The chain of a hash. A list that was made before of the same chain has the same members. */
   chain(hash) { return this.bucket(Number(u64(hash, "hash") % this.bucketCount)); }
   bucket(at) { return new Stack(this.links, new Words(this.library, 1, 1, this.buckets, at)); }
-  // tools/c-calls --write writes from here: hash
+  /** A list of this table of links, which is no chain of this hash table. */
+  given(chain) {
+    const isOther = chain instanceof Stack && chain.links === this.links && chain.ends.of !== this.buckets;
+    if (!isOther || (chain.ends.of ?? chain.ends).isFreed) throw new TypeError("the chain is another list of the same table of links");
+    return chain.self;
+  }
+  // tools/c-calls --write writes from here: hash hash-growth
   insert(hash, place) {
     this.done(this.calls.ic_hash_insert(
       this.table, this.places, this.bucketsAt, this.bucketCount, u64(hash, "hash"), placeNumber(place, "place"),
@@ -531,6 +537,11 @@ export class HashTable extends Calls {
   check(hashes) {
     return this.counted(this.calls.ic_hash_check(
       this.table, this.places, ...keyParts(hashes, this.links), this.bucketsAt, this.bucketCount, this.out,
+    ));
+  }
+  moveChain(hashes, chain) {
+    this.done(this.calls.ic_hash_move_chain(
+      this.table, this.places, ...keyParts(hashes, this.links), this.given(chain), this.bucketsAt, this.bucketCount,
     ));
   }
   // to here

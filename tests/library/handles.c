@@ -22,7 +22,7 @@ static struct ic_link2 pairs[PLACES], other_pairs[PLACES], ringed[PLACES];
 static struct ic_link1 stacked[PLACES], other_stacked[PLACES], hashed[PLACES], xored[PLACES], other_xored[PLACES];
 static struct ic_link3 nodes[PLACES];
 static struct ic_list a_list, second_list, other_list, empty_list;
-static struct ic_stack a_stack, second_stack, other_stack, empty_stack, buckets[BUCKETS];
+static struct ic_stack a_stack, second_stack, other_stack, empty_stack, buckets[BUCKETS], more[2 * BUCKETS + 1];
 static struct ic_xor_list an_xor, second_xor, other_xor, empty_xor;
 static struct ic_tree a_tree;
 static uint64_t numbers[PLACES];
@@ -32,7 +32,7 @@ static const struct ic_list_in list = {IC_TABLE(pairs), &a_list}, second = {IC_T
 static const struct ic_ring_in ring = {IC_TABLE(ringed)};
 static const struct ic_stack_in stack = {IC_TABLE(stacked), &a_stack}, stack2 = {IC_TABLE(stacked), &second_stack},
                                 stack3 = {IC_TABLE(other_stacked), &other_stack}, stack4 = {IC_TABLE(other_stacked), &empty_stack};
-static const struct ic_hash_in hash = {IC_TABLE(hashed), IC_TABLE(buckets), {IC_TABLE(numbers)}};
+static const struct ic_hash_in hash = {IC_TABLE(hashed), IC_TABLE(buckets), {IC_TABLE(numbers)}}, grown = {IC_TABLE(hashed), IC_TABLE(more), {IC_TABLE(numbers)}};
 static const struct ic_xor_in xor_in = {IC_TABLE(xored), &an_xor}, xor2 = {IC_TABLE(xored), &second_xor}, xor3 = {IC_TABLE(other_xored), &other_xor},
                               xor4 = {IC_TABLE(other_xored), &empty_xor};
 static const struct ic_tree_in tree = {IC_TABLE(nodes), &a_tree, {IC_TABLE(numbers)}};
@@ -131,6 +131,9 @@ static void reads(void) {
     EXPECT(ic_stack_in_front(stack) == 0 && ic_stack_in_is_last(stack, 4) && ic_xor_in_step(xor_in, 0, 1) == 2);
     EXPECT(ic_hash_in_find(hash, 2, 2, &found) == IC_OK && found == 1 && ic_hash_in_first(hash, 1) != IC_NONE);
     EXPECT(ic_hash_in_check(hash, hashes, &members) == IC_OK && members == 5 && ic_hash_in_check(hash, few, &members) == IC_OUT_OF_RANGE);
+    EXPECT(ic_hash_in_move_chain(grown, few, &buckets[0]) == IC_OUT_OF_RANGE && ic_hash_in_move_chain(grown, hashes, &buckets[0]) == IC_OK);
+    EXPECT(ic_hash_in_move_chain(grown, hashes, &buckets[1]) == IC_OK && ic_hash_in_first(hash, 0) == IC_NONE && ic_hash_in_first(hash, 1) == IC_NONE);
+    EXPECT(ic_hash_in_check(grown, hashes, &members) == IC_OK && members == 5 && ic_hash_in_first(grown, 4) == 2);
     EXPECT(ic_ring_in_check(ring, HEAD, &members) == IC_OK && members == 5 && ic_ring_in_check(ring, 7, &members) == IC_NOT_LINKED);
     EXPECT(ic_tree_in_find(tree, 4, &found) == IC_OK && found == 2 && ic_tree_in_first(tree, &found) == IC_OK && found == 0);
     EXPECT(ic_tree_in_left(tree, ic_tree_in_root(tree)) == ic_tree_left(nodes, PLACES, ic_tree_root(&a_tree)));

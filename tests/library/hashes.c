@@ -6,7 +6,7 @@
  * sequences, and the reads of the header have to walk them. One of some calls has a fault, and must be refused for it; in some a chain leads
  * to no end. Prints for each call how often it returned each status.
  */
-#define CALLS(X) X(hash_insert) X(hash_remove) X(hash_find) X(hash_next_equal) X(hash_check)
+#define CALLS(X) X(hash_insert) X(hash_remove) X(hash_find) X(hash_next_equal) X(hash_move_chain) X(hash_check)
 
 enum { PLACES = 24, BUCKETS = 6, BESIDE = BUCKETS, NOBODY, KEYS = 7, MORE_KEYS = 3, UNSET = 123456789 };
 
@@ -216,6 +216,53 @@ static void step_check(void) {
     check(IC_NONE);
 }
 
+/* The members of a list come to the front of their chains, and those that come into one chain are in the order that they had. */
+static void move_all(struct sequence *from, struct sequence *to, size_t count) {
+    uint32_t moved[BUCKETS] = {0};
+    for (uint32_t i = 0; i < from->count; i++) {
+        const size_t bucket = hash_of(keys[from->members[i]]) % count;
+        insert(&to[bucket], moved[bucket]++, &from->members[i], 1);
+    }
+    from->count = 0;
+}
+
+/* The list beside the buckets moves into them. */
+static void step_move(void) {
+    uint64_t hashes[PLACES + MORE_KEYS];
+    hash_all(hashes);
+    const size_t hash_count = some_keys(), count = some_buckets();
+    if (made(ic_hash_move_chain(table, PLACES, hashes, hash_count, &beside, buckets, count)))
+        move_all(&chains[BESIDE], chains, bucket_count);
+    check(IC_NONE);
+}
+
+/* A list that leads to no end, or a member whose bucket begins with a place that is not linked, or is none of the table: nothing moves. */
+static void step_unmovable(void) {
+    const struct sequence *plain = &chains[BESIDE];
+    uint64_t hashes[PLACES + MORE_KEYS];
+    if (!plain->count)
+        return;
+    const uint32_t other = below(PLACES), i = below(plain->count);
+    uint64_t *word = below(2) ? &table[before(plain, plain->count)].next : &buckets[hash_of(keys[plain->members[i]]) % bucket_count].head;
+    uint32_t to = below(8) ? other : PLACES;
+    if (*word & 1)
+        to = below(2) ? plain->members[i] : to;
+    if (to < PLACES && owner[to] != NOBODY && !(*word & 1 && owner[to] == BESIDE))
+        return;
+    const uint64_t was = *word;
+    struct ic_link1 spoiled[PLACES];
+    struct ic_stack buckets_were[BUCKETS], beside_was = beside;
+    *word = ic_word(to) + (was & 1);
+    memcpy(spoiled, table, sizeof table);
+    memcpy(buckets_were, buckets, sizeof buckets);
+    hash_all(hashes);
+    faults = 1u << IC_BROKEN;
+    made(ic_hash_move_chain(table, PLACES, hashes, PLACES, &beside, buckets, bucket_count));
+    expect(!memcmp(spoiled, table, sizeof table) && !memcmp(buckets_were, buckets, sizeof buckets) && beside.head == beside_was.head,
+           "has changed something, and refused");
+    *word = was;
+}
+
 /* A bucket that begins with a member of another one is refused. */
 static void step_shared(void) {
     uint32_t which = below((uint32_t)bucket_count), place = below(PLACES);
@@ -265,15 +312,13 @@ static void step_endless(void) {
 static void step_rebuild(void) {
     struct ic_stack made_anew[BUCKETS] = {{0}};
     struct sequence gathered[BUCKETS] = {{0, {0}}};
+    uint64_t hashes[PLACES + MORE_KEYS];
     size_t count = 1 + below(BUCKETS);
+    hash_all(hashes);
     for (size_t i = 0; i < bucket_count; i++) {
-        uint32_t place;
-        while (ic_stack_pop_front(table, PLACES, &buckets[i], &place) == IC_OK) {
-            expect(place == member(&chains[i], 0), "is popped in another order");
-            take(&chains[i], 0, 1);
-            expect(ic_hash_insert(table, PLACES, made_anew, count, hash_of(keys[place]), place) == IC_OK, "is not inserted anew");
-            insert(&gathered[hash_of(keys[place]) % count], 0, &place, 1);
-        }
+        made(ic_hash_move_chain(table, PLACES, hashes, PLACES, &buckets[i], made_anew, count));
+        expect(!buckets[i].head, "has not emptied the chain");
+        move_all(&chains[i], gathered, count);
     }
     bucket_count = count;
     memcpy(buckets, made_anew, sizeof buckets);
@@ -328,17 +373,19 @@ int main(int count, char **words) {
         now = (enum call)below(COUNT);
         faults = 0;
         switch (below(32)) {
-        case 0: step_rebuild(); break;
+        case 0: now = CALL_hash_move_chain; step_rebuild(); break;
         case 1: step_beside(); break;
         case 2: step_endless(); break;
         case 3: step_shared(); break;
         case 4: step_leave(); break;
+        case 5: now = CALL_hash_move_chain; step_unmovable(); break;
         default:
             switch (now) {
             case CALL_hash_insert: step_insert(); break;
             case CALL_hash_remove: step_remove(); break;
             case CALL_hash_find: step_find(); break;
             case CALL_hash_next_equal: step_next_equal(); break;
+            case CALL_hash_move_chain: step_move(); break;
             default: step_check();
             }
         }

@@ -250,16 +250,26 @@ function hashed(ic, turns) {
     plain.splice(0, plain.length, ...chains.flat());
     return result;
   }
+  // All members move to another array of buckets. Those of one chain keep their order, before those that are there.
+  function moveAll(from, chainsFrom, to, chainsTo) {
+    chainsFrom.forEach((members, at) => {
+      to.moveChain(hashes, from.chain(at));
+      chainsTo.forEach((there, bucket) => there.unshift(...members.filter((it) => hash(key(it)) % chainsTo.length === bucket)));
+      members.length = 0;
+    });
+  }
   play(made, plain, turns, (turn) => {
     const place = random(PLACES + 2), sought = random(12), of = random(PLACES), isMember = plain.includes(of);
     if (!plain.includes(place) && place < PLACES) keys.words[place] = BigInt(random(12));
     const here = hash(key(of)), chain = chains[here % 4], there = place < PLACES ? hash(key(place)) : 0;
     if (turn % 50 === 0) {
-      // All members move to another array of buckets, and back.
-      const more = new HashTable(links, 11, keys), back = [...plain].reverse();
-      for (const place of plain) (made.remove(hash(key(place)), place), more.insert(hash(key(place)), place));
-      assert(plain.every((place) => [...more.chain(hash(key(place)))].includes(place)) && ![...made].length);
-      for (const place of back) (more.remove(hash(key(place)), place), made.insert(hash(key(place)), place));
+      const more = new HashTable(links, 11, keys), gathered = Array.from({ length: 11 }, () => []);
+      for (let at = 0; at < PLACES; at++) hashes.words[at] = BigInt(hash(key(at)));
+      moveAll(made, chains, more, gathered);
+      assert.deepEqual([[...made], [...more]], [[], gathered.flat()]);
+      moveAll(more, gathered, made, chains);
+      edit();
+      more.free();
     }
     // Now and then a place has another hash, by which a member is in the wrong chain.
     const wrong = random(2) ? of : PLACES;
@@ -278,6 +288,14 @@ function hashed(ic, turns) {
   assert.deepEqual([...last.chain(3)], [5]);
   assert.equal(last.chain(2 ** 64 - 2 ** 11 + 3).check(), 0);
   assert.throws(() => last.chain(3).spliceAfter(null, last.chain(7)), TypeError);
+  const others = new Stack(last.links), few = ic.keys(PLACES - 1), freed = new HashTable(last.links, 1), { links: beyond } = new Stack(ic.links1(PLACES));
+  others.fill(0, 3);
+  assert.throws(() => last.moveChain(few, others), /OUT_OF_RANGE/);
+  const chain = freed.chain(0);
+  freed.free();
+  for (const wrong of [last.chain(3), new Stack(beyond), last, null, chain]) assert.throws(() => last.moveChain(hashes, wrong), TypeError);
+  last.moveChain(ic.keys(PLACES), others);
+  assert.deepEqual([[...others], [...last.chain(0)]], [[], [0, 1, 2]]);
 }
 
 function xor(ic, turns) {

@@ -20,9 +20,9 @@ function random(below) {
 const place = () => (random(40) === 0 ? NONE : random(PLACES + 2));
 const word = () => BigInt(random(3) === 0 ? random(16) : 8 * random(PLACES + 2) + random(2)) | (random(60) === 0 ? 1n << 60n : 0n);
 
-// An area of each memory has the table, the keys, which are hashes, too, two lists or a tree, an out parameter, and buckets. Keys are words 48 to 79.
+// An area of each memory has the table, the keys, which are hashes, too, two lists or a tree, an out parameter, buckets, and the ends of the tree. Keys are words 48 to 79.
 const AREA = 1024, KEYS = [48, 80];
-const OFFSETS = { table: 0, keys: 8 * KEYS[0], hashes: 8 * KEYS[0], list: 640, tree: 640, given: 656, rest: 656, popped: 672, removed: 672, replaced: 672, found: 672, members: 672, buckets: 680 };
+const OFFSETS = { table: 0, keys: 8 * KEYS[0], hashes: 8 * KEYS[0], list: 640, tree: 640, chain: 640, given: 656, rest: 656, popped: 672, removed: 672, replaced: 672, found: 672, members: 672, buckets: 680, ends: 720 };
 const BUCKETS = 4;
 const bases = both.map((library) => library.take(AREA));
 const areas = both.map((library, at) => new BigUint64Array(library.calls.memory.buffer, bases[at], AREA / 8));

@@ -48,6 +48,8 @@ table.insert(50n, 3);
 const found: Gap = table.find(50, 50n);
 const chain: Stack = table.chain(50);
 const counted: number = table.check(keys);
+const larger = new HashTable(table.links, 32, keys);
+larger.moveChain(keys, table.chain(0));
 const gone: number = list.removeIf((place) => place % 2 === 0) + table.removeIf((place: number) => place === 3);
 const sum: number = ic.scope(() => new List(ic.links2(3)).check());
 rest.free();
@@ -76,6 +78,8 @@ new Ring(ic.links2(10));
 ring.spliceAfter(8, list);
 // @ts-expect-error: no hash
 table.insert(3);
+// @ts-expect-error: a chain, and not a hash table
+larger.moveChain(keys, table);
 // @ts-expect-error: an XOR list has no check
 others.check();
 // @ts-expect-error: a read of a list names a member

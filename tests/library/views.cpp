@@ -668,6 +668,13 @@ struct chains {
 
     ic::hash_view view() { return {table, buckets}; }
 
+    std::vector<std::uint64_t> all_hashes() const {
+        std::vector<std::uint64_t> hashes;
+        for (const std::uint64_t key : keys)
+            hashes.push_back(key * 7);
+        return hashes;
+    }
+
     void check() {
         std::vector<std::uint32_t> all, gathered;
         view().for_each([&](std::uint32_t place) { all.push_back(place); });
@@ -683,9 +690,7 @@ struct chains {
 
     /// The check counts the members by their hashes, and refuses a member with another hash.
     void check_hashes(const ic::const_hash_view &reads, const std::vector<std::uint32_t> &all) {
-        std::vector<std::uint64_t> hashes;
-        for (const std::uint64_t key : keys)
-            hashes.push_back(key * 7);
+        std::vector<std::uint64_t> hashes = all_hashes();
         expect(reads.check(hashes) == all.size(), "a check counts other members of a hash table");
         if (!all.empty()) {
             hashes[all.back()]++;
@@ -696,6 +701,33 @@ struct chains {
     }
 };
 
+/// Moves all members to the buckets of a view. Those of one chain keep their order, before those that are there.
+void move_all(std::vector<ic_stack> &from, const ic::hash_view &to, const std::vector<std::uint64_t> &hashes, std::vector<std::list<std::uint32_t>> &plain,
+              std::vector<std::list<std::uint32_t>> &gathered) {
+    for (std::size_t i = 0; i < from.size(); i++) {
+        made(to.move_chain({hashes.data(), hashes.size() - 1}, from[i]), ic::status::out_of_range);
+        made(to.move_chain(hashes, from[i]), ic::status::ok);
+        expect(from[i].head == 0, "a chain that has moved is not empty");
+        for (std::size_t bucket = 0; bucket < gathered.size(); bucket++) {
+            std::list<std::uint32_t> moved = plain[i];
+            moved.remove_if([&](std::uint32_t at) { return hashes[at] % gathered.size() != bucket; });
+            gathered[bucket].splice(gathered[bucket].begin(), moved);
+        }
+        plain[i].clear();
+    }
+}
+
+/// Moves all members to three buckets, and back.
+void shrink_and_grow(chains &it) {
+    const std::vector<std::uint64_t> hashes = it.all_hashes();
+    std::vector<ic_stack> few(3);
+    std::vector<std::list<std::uint32_t>> plain(3);
+    made(it.view().move_chain(hashes, it.buckets[4]), ic::status::broken);
+    move_all(it.buckets, {it.table, few}, hashes, it.plain, plain);
+    expect(it.view().empty() && ic::const_hash_view(it.table, few).check(hashes) != std::nullopt, "the members have not all moved");
+    move_all(few, it.view(), hashes, plain, it.plain);
+}
+
 void step(chains &it) {
     const ic::hash_view view = it.view();
     const std::uint32_t place = below(places);
@@ -705,7 +737,8 @@ void step(chains &it) {
     const auto has_key = [&](std::uint32_t at) { return it.keys[at] == key; };
     const auto found = std::find_if(plain.begin(), plain.end(), has_key);
     const auto first = found == plain.end() ? std::nullopt : std::optional(*found);
-    switch (below(5)) {
+    switch (below(6)) {
+    case 4: shrink_and_grow(it); break;
     case 0:
         if (!is_linked)
             it.keys[place] = key;

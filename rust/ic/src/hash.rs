@@ -53,8 +53,27 @@
 //! # Ok::<(), Error>(())
 //! ```
 //!
-//! Each call of [`Stack`] takes a bucket, too: [`Stack::clear`] empties one, and by [`Stack::pop_front`] and [`insert`] all members move to a
-//! larger array of buckets. A place is in one chain or list of a table.
+//! A hash table grows or shrinks when you make another array of buckets, and call [`move_chain`] for each bucket of the old one, at once or over
+//! time. Members with one key keep their order:
+//!
+//! ```
+//! use ic::{hash, Error, Link1, Stack};
+//!
+//! let (keys, hashes) = ([50, 60, 60, 70, 60], [1, 2, 2, 3, 2]);
+//! let mut links = [Link1::UNLINKED; 5];
+//! let (mut few, mut many) = ([const { Stack::new() }; 1], [const { Stack::new() }; 4]);
+//! for place in 0..5 {
+//!     hash::insert(&mut links, &mut few, hashes[place as usize], place)?;
+//! }
+//! for chain in &mut few {
+//!     hash::move_chain(&mut links, &hashes, chain, &mut many)?;
+//! }
+//! assert!(few[0].is_empty() && hash::iter(&links, &many).eq([0, 4, 2, 1, 3]));
+//! assert_eq!(hash::find(&links, &keys, &many, 2, 60)?, Some(4));
+//! # Ok::<(), Error>(())
+//! ```
+//!
+//! Each call of [`Stack`] takes a bucket, too, so [`Stack::clear`] empties one. A place is in one chain or list of a table.
 
 use crate::error::{done, handed_out, try_counted};
 use crate::link::Link;
@@ -87,7 +106,7 @@ pub fn iter<'a>(table: &'a [Link1], buckets: &'a [Stack]) -> impl Iterator<Item 
     buckets.iter().flat_map(|chain| chain.iter(table)).take(table.len())
 }
 
-// tools/c-calls --write writes from here: hash
+// tools/c-calls --write writes from here: hash hash-growth
 /// Inserts `place` at the front of the chain of `hash`, in O(1).
 ///
 /// # Errors
@@ -159,6 +178,33 @@ pub fn check(table: &[Link1], hashes: &[u64], buckets: &[Stack]) -> Result<u64, 
     // SAFETY: each pointer comes from a reference, with the length of its slice, and no mutable reference overlaps another one.
     try_counted(|members| unsafe {
         ic_hash_check(links, places, hashes.as_ptr(), hashes.len(), buckets.as_ptr().cast(), buckets.len(), members)
+    })
+}
+
+/// Moves all members of `chain`, a bucket of another array, each to the front of the chain of its hash, and leaves `chain` empty, in
+/// O(members of the chain). `hashes` has the hash of each place. Members that come into one bucket keep their order, and come before those
+/// that are there. So of moved members with one key a search still finds the one that was inserted last. Each place stays linked during the
+/// call. To grow or to shrink a hash table, make another array of buckets, and call this for each bucket of the old one.
+///
+/// # Errors
+///
+/// [`Error::OutOfRange`] if there are fewer hashes than places, or there is no bucket. [`Error::Broken`] if the links lead from the first
+/// member of `chain` to no end within the table, or a bucket to which a member moves begins with a place that does not belong to this
+/// table.
+#[inline]
+pub fn move_chain(table: &mut [Link1], hashes: &[u64], chain: &mut Stack, buckets: &mut [Stack]) -> Result<(), Error> {
+    let (links, places) = Link1::parts(table);
+    // SAFETY: each pointer comes from a reference, with the length of its slice, and no mutable reference overlaps another one.
+    done(unsafe {
+        ic_hash_move_chain(
+            links,
+            places,
+            hashes.as_ptr(),
+            hashes.len(),
+            &mut chain.0,
+            buckets.as_mut_ptr().cast(),
+            buckets.len(),
+        )
     })
 }
 // to here
