@@ -191,7 +191,7 @@ static inline uint32_t ic_place(uint64_t word) {
  *         if (place % 2 == 0)
  *             printf("%u\n", (unsigned)place);
  *
- * Whatever the words say, a loop runs its body at most `places` times, each time for a linked place of the table. It ends at a word that
+ * Whatever the links are, a loop runs its body at most `places` times, each time for a linked place of the table. It ends at a word that
  * leads to no such place. It evaluates `table`, `places` and `list` in each round.
  *
  * A plain loop ends early if its body removes the member. The body of a ..._SAFE loop may remove it, and may then insert the place into
@@ -479,7 +479,7 @@ uint32_t ic_list_check(const struct ic_link2 *table, ic_length places, const str
 /* ---- Lists by keys ----
  *
  * The keys are numbers, of which the least comes first. There has to be one for each place, and the calls read those of members alone. Both
- * calls check the lists first, so they are never half done. A sort calls itself, at most 33 times within one another.
+ * calls check the lists first, so they are never half done. A sort is recursive, to a depth of at most 33 calls.
  */
 
 /* tools/c-calls --write writes from here: list-keys */
@@ -757,7 +757,7 @@ static inline uint32_t ic_ring_swap(struct ic_link2 *table, ic_length places, ui
     return status == IC_OK ? ic_ring_exchange(table, places, one, other) : status;
 }
 
-/* Moves the places from `first` to `last` of a ring, in their order, after the place `at` of a ring, in O(1). So a head's first members up
+/* Moves the places from `first` to `last` of a ring, in their order, after the place `at` of any ring, in O(1). So a head's first members up
  * to `entry` move after the head `list` as by list_cut_position(list, head, entry) of Linux. Nothing changes if they are there already. The
  * call can't tell if `at` is between `first` and `last`, or if `last` comes before `first`. Then it leaves places in circles without a head.
  * IC_NULL: `at`, `first` or `last` is IC_NONE. IC_OUT_OF_RANGE: one of them is not below `places`. IC_NOT_LINKED: one of them is not
@@ -778,7 +778,7 @@ static inline uint32_t ic_ring_move_range_after(struct ic_link2 *table, ic_lengt
     return status == IC_OK ? ic_ring_exchange(table, places, at, last) : status;
 }
 
-/* Moves the places from `first` to `last` of a ring, in their order, before the place `at` of a ring, in O(1). If `at` is a head, they
+/* Moves the places from `first` to `last` of a ring, in their order, before the place `at` of any ring, in O(1). If `at` is a head, they
  * become its last members, as by list_bulk_move_tail of Linux. Nothing changes if they are there already. What the call can't tell is as
  * of ic_ring_move_range_after.
  * IC_NULL: `at`, `first` or `last` is IC_NONE. IC_OUT_OF_RANGE: one of them is not below `places`. IC_NOT_LINKED: one of them is not
@@ -796,7 +796,7 @@ static inline uint32_t ic_ring_move_range_before(struct ic_link2 *table, ic_leng
 /* ---- Rings by keys ----
  *
  * The keys are as for lists: numbers, of which the least comes first, and one for each place. Both calls check their rings first, so they are
- * never half done. A sort calls itself, at most 33 times within one another.
+ * never half done. A sort is recursive, to a depth of at most 33 calls.
  */
 
 /* tools/c-calls --write writes from here: ring-keys */
@@ -1293,15 +1293,15 @@ uint32_t ic_xor_insert_between(struct ic_link1 *table, ic_length places, struct 
 
 /* Removes the member `at`, in O(1). You name the member before it, too: `before`, which is IC_NONE if `at` is the first member.
  * IC_NULL: the place `at` is IC_NONE. IC_OUT_OF_RANGE: `before` or `at` is not below `places`. IC_NOT_LINKED: `before` or `at` is not
- * linked. IC_BROKEN: `before` and `at` are no such members. */
+ * linked. IC_BROKEN: `at` is no member of the list, or `before` is not the member before it. */
 IC_NODISCARD
 uint32_t ic_xor_remove(struct ic_link1 *table, ic_length places, struct ic_xor_list *list, uint32_t before, uint32_t at);
 
 /* Removes the member `at`, and inserts `place` where it was, in O(1). You name the member before `at`, too: `before`, which is IC_NONE if
  * `at` is the first member.
  * IC_NULL: the place `at` is IC_NONE. IC_OUT_OF_RANGE: `before`, `at` or `place` is not below `places`. IC_LINKED: `place` is linked
- * already, also where `at` and `place` are the same. IC_NOT_LINKED: `before` or `at` is not linked. IC_BROKEN: `before` and `at` are no
- * such members. */
+ * already, also where `at` and `place` are the same. IC_NOT_LINKED: `before` or `at` is not linked. IC_BROKEN: `at` is no member of the
+ * list, or `before` is not the member before it. */
 IC_NODISCARD
 uint32_t ic_xor_replace(struct ic_link1 *table, ic_length places, struct ic_xor_list *list, uint32_t before, uint32_t at, uint32_t place);
 

@@ -169,7 +169,8 @@ impl XorList {
     /// # Errors
     ///
     /// [`Error::Null`] if the place `at` is `u32::MAX`. [`Error::OutOfRange`] if `before` or `at` is not below the table's length.
-    /// [`Error::NotLinked`] if `before` or `at` is not linked. [`Error::Broken`] if `before` and `at` are no such members.
+    /// [`Error::NotLinked`] if `before` or `at` is not linked. [`Error::Broken`] if `at` is no member of the list, or `before` is not the
+    /// member before it.
     #[inline]
     pub fn remove(&mut self, table: &mut [Link1], before: Option<u32>, at: u32) -> Result<(), Error> {
         let (links, places) = Link1::parts(table);
@@ -184,7 +185,7 @@ impl XorList {
     ///
     /// [`Error::Null`] if the place `at` is `u32::MAX`. [`Error::OutOfRange`] if `before`, `at` or `place` is not below the table's length.
     /// [`Error::Linked`] if `place` is linked already, also where `at` and `place` are the same. [`Error::NotLinked`] if `before` or `at`
-    /// is not linked. [`Error::Broken`] if `before` and `at` are no such members.
+    /// is not linked. [`Error::Broken`] if `at` is no member of the list, or `before` is not the member before it.
     #[inline]
     pub fn replace(&mut self, table: &mut [Link1], before: Option<u32>, at: u32, place: u32) -> Result<(), Error> {
         let (links, places) = Link1::parts(table);
