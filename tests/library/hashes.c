@@ -220,7 +220,7 @@ static void step_check(void) {
 static void move_all(struct sequence *from, struct sequence *to, size_t count) {
     uint32_t moved[BUCKETS] = {0};
     for (uint32_t i = 0; i < from->count; i++) {
-        const size_t bucket = hash_of(keys[from->members[i]]) % count;
+        const size_t bucket = (size_t)(hash_of(keys[from->members[i]]) % count);
         insert(&to[bucket], moved[bucket]++, &from->members[i], 1);
     }
     from->count = 0;
