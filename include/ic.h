@@ -1510,8 +1510,8 @@ static inline uint32_t ic_tree_child(const struct ic_link3 *table, ic_length pla
     return ic_place_within(places, is_left ? table[at].left : table[at].right);
 }
 
-/* The searches are made of this. It goes to the left of each member of which `comparison goes_left 0` is true, and `at` becomes the last one of
- * which `comparison is_found 0` is. */
+/* The three macros below that search by a comparison expand to this one. It goes to the left of each member of which `comparison goes_left 0` is
+ * true, and `at` becomes the last one of which `comparison is_found 0` is true. */
 #define IC_SEARCH_BY(at, table, places, tree, comparison, is_found, goes_left)                  \
     do {                                                                                        \
         uint32_t ic_found_##at = IC_NONE, ic_rounds_##at = ic_bound(places);                    \
@@ -1534,7 +1534,7 @@ static inline uint32_t ic_tree_child(const struct ic_link3 *table, ic_length pla
 /* Sets `at` to the last member that does not come after what you look for, or to IC_NONE if there is none. */
 #define IC_TREE_UPPER_BOUND_BY(at, table, places, tree, comparison) IC_SEARCH_BY(at, table, places, tree, comparison, >=, <)
 
-/* Both insertions are made of this. If `place` is none to insert, it compares nothing, and the call says why. */
+/* The two macros below that insert expand to this one. If `place` cannot be inserted, it compares nothing, and the status says why. */
 #define IC_DESCEND_AND_INSERT(status, at, table, places, tree, place, comparison, is_unique)                                    \
     do {                                                                                                                        \
         uint32_t ic_under_##at = IC_NONE, ic_same_##at = IC_NONE, ic_rounds_##at = ic_bound(places);                            \
