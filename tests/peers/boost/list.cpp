@@ -1,43 +1,24 @@
 /* Boost.Intrusive's test of its list (list_test.cpp), over a container whose members are calls of rings. */
-#include <iterator>
-#include <utility>
-
 #include "list_test.cpp"
 
-#include "../places.h"
+#include "boost.hpp"
 
 namespace peer {
 
 ic_link2 links[PEER_PLACES];
-std::uint64_t ranks[PEER_PLACES];
-#define RING links, PEER_PLACES
-#define DO(call) peer_expect((call) == IC_OK, #call, __LINE__)
+#define RING peer::links, PEER_PLACES
 
-/* Returns the place of an object. */
-std::uint32_t at(const void *object) {
-    const std::uint32_t place = peer_find(object);
-    return place == IC_NONE ? peer_add(object, 0) : place;
+bool value::is_linked() const {
+    return ic_ring_is_linked(RING, at(this));
 }
-
-struct value {
-    boost::intrusive::int_holder value_;
-
-    explicit value(int number = 0) : value_(number) {}
-    int int_value() const { return value_.int_value(); }
-    friend bool operator==(const value &one, const value &other) { return one.value_ == other.value_; }
-    friend bool operator!=(const value &one, const value &other) { return one.value_ != other.value_; }
-    friend bool operator<(const value &one, const value &other) { return one.value_ < other.value_; }
-    friend bool operator!=(int one, const value &other) { return one != other.int_value(); }
-};
 
 /* Exchanges two values in their lists. If only one of them is in a list, the other takes its place. */
 template <class Algorithms>
 void swap_nodes(value &one, value &other) {
-    const bool has_one = ic_ring_is_linked(RING, at(&one)), has_other = ic_ring_is_linked(RING, at(&other));
-    if (has_one && has_other)
+    if (one.is_linked() && other.is_linked())
         DO(ic_ring_swap(RING, at(&one), at(&other)));
-    else if (has_one || has_other)
-        DO(ic_ring_replace(RING, at(has_one ? &one : &other), at(has_one ? &other : &one)));
+    else if (one.is_linked() || other.is_linked())
+        DO(ic_ring_replace(RING, at(one.is_linked() ? &one : &other), at(one.is_linked() ? &other : &one)));
 }
 
 template <class Value>
@@ -70,30 +51,11 @@ bool operator!=(iterator<One> one, iterator<Other> other) {
     return one.place != other.place;
 }
 
-/* Drops what it is handed. */
-struct nobody {
-    template <class Any>
-    void operator()(const Any &) const {}
-};
-
 /* A list is the head of a ring, which has a place itself. */
-class list {
+class list : public types<iterator<value>, iterator<const value>>, compared<list> {
 public:
-    using value_type = value;
-    using pointer = value *;
-    using const_pointer = const value *;
-    using reference = value &;
-    using const_reference = const value &;
-    using size_type = std::size_t;
-    using difference_type = std::ptrdiff_t;
-    using iterator = peer::iterator<value>;
-    using const_iterator = peer::iterator<const value>;
     using reverse_iterator = boost::intrusive::reverse_iterator<iterator>;
     using const_reverse_iterator = boost::intrusive::reverse_iterator<const_iterator>;
-    struct value_traits {
-        using value_type = value;
-    };
-    struct node_algorithms {};
 
     list() { DO(ic_ring_init(RING, head())); }
     template <class Iterator>
@@ -202,23 +164,15 @@ public:
             DO(ic_ring_move_after(RING, head(), (it++).place));
     }
 
-    /* A sort and a merge take keys here and no comparison. The key of a member is how many members of both lists come before it. */
     template <class Less>
     void sort(Less less) {
-        rank(*this, *this, less), (void)DO(ic_ring_sort(RING, ranks, PEER_PLACES, head()));
+        rank(*this, *this, less), (void)DO(ic_ring_sort(RING, RANKS, head()));
     }
     void sort() { sort(std::less<value>()); }
     void merge(list &other) {
         rank(*this, other, std::less<value>()), rank(other, *this, std::less<value>());
-        DO(ic_ring_merge(RING, ranks, PEER_PLACES, head(), other.head()));
+        DO(ic_ring_merge(RING, RANKS, head(), other.head()));
     }
-
-    friend bool operator==(const list &one, const list &other) { return std::equal(one.begin(), one.end(), other.begin(), other.end()); }
-    friend bool operator!=(const list &one, const list &other) { return !(one == other); }
-    friend bool operator<(const list &one, const list &other) { return std::lexicographical_compare(one.begin(), one.end(), other.begin(), other.end()); }
-    friend bool operator>(const list &one, const list &other) { return other < one; }
-    friend bool operator<=(const list &one, const list &other) { return !(other < one); }
-    friend bool operator>=(const list &one, const list &other) { return !(one < other); }
 
 private:
     std::uint32_t popped = IC_NONE;
@@ -228,36 +182,17 @@ private:
         std::uint64_t members = 0;
         return DO(ic_ring_check(RING, head(), &members)), members;
     }
-    template <class Less>
-    static void rank(const list &mine, const list &other, Less less) {
-        for (const value &it : mine) {
-            ranks[at(&it)] = 0;
-            for (const list *all : {&mine, &other})
-                for (const value &before : *all)
-                    ranks[at(&it)] += less(before, it);
-        }
-    }
 };
 
 } // namespace peer
 
-/* Runs one function of the test. */
-template <class Test>
-static void run(const char *name, Test test) {
-    const auto before = boost::detail::test_errors() + static_cast<int>(peer_failures);
-    test();
-    std::printf("%s %s\n", boost::detail::test_errors() + static_cast<int>(peer_failures) == before ? "ok" : "not ok", name);
-}
-
 int main() {
-    using values_type = std::vector<peer::value>;
-    using tests = test_list<peer::list, values_type>;
-    values_type values;
-    for (int i = 1; i <= 5; i++)
-        values.emplace_back(i);
-    run("test_container", [&] { peer::list list(values.begin(), values.end()); test::test_container(list); });
-    run("test_sequence_container", [&] { peer::list list(values.begin(), values.end()); test::test_sequence_container(list, values); });
-    run("test_iterator_bidirectional", [&] { peer::list list(values.begin(), values.end()); test::test_iterator_bidirectional(list); });
+    using namespace peer;
+    using tests = test_list<peer::list, std::vector<value>>;
+    std::vector<value> values = one_to_five();
+    run("test_container", [&] { peer::list it(values.begin(), values.end()); test::test_container(it); });
+    run("test_sequence_container", [&] { peer::list it(values.begin(), values.end()); test::test_sequence_container(it, values); });
+    run("test_iterator_bidirectional", [&] { peer::list it(values.begin(), values.end()); test::test_iterator_bidirectional(it); });
     run("test_front_back", [&] { tests::test_front_back(values); });
     run("test_sort", [&] { tests::test_sort(values); });
     run("test_merge", [&] { tests::test_merge(values); });
