@@ -1,12 +1,12 @@
 -- A test that is asked of member after member.
-use Rattle.std.proofs.Common.{◌≡◌, Bool, true, false, not, cond, MatchBool, Option, Some, None, List, [], ◌∷◌, ◌++◌, length, append_assoc, append-nil, refl, sym, ◌∙◌, ap, subst, arith}
+use Rattle.std.proofs.Common.{◌≡◌, Bool, true, false, not, cond, MatchBool, Option, Some, None, List, [], ◌∷◌, ◌++◌, length, append_assoc, append-nil, inl, inr, refl, sym, ◌∙◌, ap, subst, arith}
 use Rattle.std.specs.List.{items_where_true}
 use Rattle.std.specs.List.Retain.{IsFiltered, DedupsFrom, IsDeduped}
 use Rattle.ic_unsafe_ref.specs.declared.place.Place.{Place}
 use Rattle.ic_unsafe_ref.specs.Objects.{Objects, object_at}
 use Rattle.ic_link_ops.specs.Sequences.{last}
 use Rattle.ic_link_ops.proofs.SequenceLemmas.{last_of_push}
-use Rattle.ic_list_algorithms.specs.Asked.{AnswersNo, KeepsInTurn, AsksAt, AsksBoth, AsksBeside}
+use Rattle.ic_list_algorithms.specs.Asked.{AnswersNo, KeepsInTurn, OrderedInTurn, AsksAt, AsksBoth, AsksBeside}
 
 -- ONE MORE of which it answers no
 module _ {X F : Type 0} (asks : F → X → Bool → F → Type 0) where
@@ -47,6 +47,28 @@ module _ {F : Type 0} (asks : F → Option Place → Place → Bool → F → Ty
   pub asked_all : (done rest : List Place) (prev : Option Place) (now : F) → AskedSoFar done rest prev now → rest ≡ [] → KeepsInTurn asks f None s done now
   asked_all done rest prev now so_far none =
       subst (λ l. KeepsInTurn asks f None s l now) (append-nil done) (so_far [] now (subst (λ l. KeepsInTurn asks now prev l [] now) (sym none) (refl, refl)))
+
+-- SO FAR each may come after the one before it: what is asked of the rest, is asked of all
+module _ {F : Type 0} (asks : F → Option Place → Place → Bool → F → Type 0) (f : F) (s : List Place) where
+  abbrev pub OrderedSoFar : List Place → Option Place → F → Type 0
+  OrderedSoFar rest prev now = (sorted : Bool) (g : F) → OrderedInTurn asks now prev rest sorted g → OrderedInTurn asks f None s sorted g
+
+  -- at first nothing is asked
+  pub ordered_begins : (rest : List Place) → rest ≡ s → OrderedSoFar rest None f
+  ordered_begins rest all = λ sorted g more. subst (λ l. OrderedInTurn asks f None l sorted g) all more
+
+  module _ (rest : List Place) (prev : Option Place) (now : F) (so_far : OrderedSoFar rest prev now) where
+    -- one more may,
+    pub ordered_turns : (next : F) (p : Place) (left : List Place) → rest ≡ p ∷ left → asks now prev p true next → OrderedSoFar left (Some p) next
+    ordered_turns next p left is asked = λ sorted g more. so_far sorted g (subst (λ l. OrderedInTurn asks now prev l sorted g) (sym is) (inr (next, asked, more)))
+
+    -- one may not,
+    pub ordered_stops : (next : F) (p : Place) (left : List Place) → rest ≡ p ∷ left → asks now prev p false next → OrderedInTurn asks f None s false next
+    ordered_stops next p left is asked = so_far false next (subst (λ l. OrderedInTurn asks now prev l false next) (sym is) (inl (asked, refl)))
+
+    -- and all may
+    pub ordered_all : rest ≡ [] → OrderedInTurn asks f None s true now
+    ordered_all none = so_far true now (subst (λ l. OrderedInTurn asks now prev l true now) (sym none) (refl, refl))
 
 -- `test_of`: the test within what asks it
 module _ {V S F : Type 0} (objects : Objects V) (asks : S → Option V → V → Bool → S → Type 0) (test_of : S → F) where

@@ -1,5 +1,5 @@
 -- Of which members a test was asked, how often, in which order, and what it answered.
-use Rattle.std.specs.Prelude.{◌≡◌, ℕ, Bool, true, false, not, cond, length, Option, Some, None, List, [], ◌∷◌, ◌++◌}
+use Rattle.std.specs.Prelude.{◌≡◌, ◌⊎◌, ℕ, Bool, true, false, not, cond, length, Option, Some, None, List, [], ◌∷◌, ◌++◌}
 use Rattle.ic_unsafe_ref.specs.declared.place.Place.{Place}
 use Rattle.ic_unsafe_ref.specs.Objects.{Objects, object_at}
 
@@ -28,6 +28,13 @@ module _ {X F : Type 0} (asks : F → Option X → X → Bool → F → Type 0) 
   KeepsInTurn f prev (x ∷ s) kept g = (answer : Bool) × (next : F) × asks f prev x answer next
       × (rest : List X) × (kept ≡ cond answer (x ∷ rest) rest) × KeepsInTurn next (cond answer (Some x) prev) s rest g
 
+-- `asks f prev x may g`: the order f says whether x may come after `prev`, none at first, and is g then
+module _ {X F : Type 0} (asks : F → Option X → X → Bool → F → Type 0) where
+  -- ASKED OF EACH of s once, in their order, until one may not come after the one before it
+  abbrev pub OrderedInTurn : F → Option X → List X → Bool → F → Type 0
+  OrderedInTurn f prev [] sorted g = (sorted ≡ true) × (g ≡ f)
+  OrderedInTurn f prev (x ∷ s) sorted g = (asks f prev x false g × (sorted ≡ false)) ⊎ ((next : F) × asks f prev x true next × OrderedInTurn next (Some x) s sorted g)
+
 -- a test of two that are the same says whether the second is kept: the first of all is kept, and nothing is asked of it
 abbrev pub asks_two : {V F : Type 0} → (F → V → V → Bool → F → Type 0) → F → Option V → V → Bool → F → Type 0
 asks_two asks f None x kept g = (kept ≡ true) × (g ≡ f)
@@ -53,3 +60,9 @@ module _ {V F : Type 0} (objects : Objects V) where
   abbrev pub AsksBeside : (F → Option V → V → Bool → F → Type 0) → F → Option Place → Place → Bool → F → Type 0
   AsksBeside asks f None p answer g = (value : V) × (object_at objects p ≡ Some value) × asks f None value answer g
   AsksBeside asks f (Some last) p answer g = (before : V) × (value : V) × (object_at objects last ≡ Some before) × (object_at objects p ≡ Some value) × asks f (Some before) value answer g
+
+  -- THE OBJECT at p MAY COME AFTER that at `last` if it does not go before it. Nothing is asked of the first
+  abbrev pub AsksAfter : (F → V → V → Bool → F → Type 0) → F → Option Place → Place → Bool → F → Type 0
+  AsksAfter asks f None p may g = (may ≡ true) × (g ≡ f)
+  AsksAfter asks f (Some last) p may g = (before : V) × (value : V) × (object_at objects last ≡ Some before) × (object_at objects p ≡ Some value)
+      × (less : Bool) × asks f value before less g × (may ≡ not less)

@@ -6,14 +6,14 @@
 //! let late = find(&list, &links, &tasks, |task: &Task| task.deadline < now);
 //! ```
 
-ghost use Rattle.std.specs.Prelude.{◌≡◌, ◌↔◌, ℕ, Bool, true, Some, IsTrue, MatchOption, List, length, drop};
+ghost use Rattle.std.specs.Prelude.{◌≡◌, ◌↔◌, ℕ, Bool, true, Some, None, IsTrue, MatchOption, List, length, drop};
 ghost use Rattle.std.specs.Fn.{ComputesKey, CalledAt};
 ghost use Rattle.ic_unsafe_ref.specs.declared.place.Place.{Place};
 ghost use Rattle.ic_unsafe_ref.specs.Objects.{is_placed};
 ghost use Rattle.ic_link_ops.specs.Sequences.{first};
 ghost use Rattle.ic_link_ops.specs.Chains.{ShowsChain, ShowsSomeChain};
 ghost use Rattle.ic_link_ops.specs.PlacedObjects.{ShowsPlaced};
-ghost use Rattle.ic_list_algorithms.specs.Asked.{AnswersNo, AsksAt, FindsFirst};
+ghost use Rattle.ic_list_algorithms.specs.Asked.{AnswersNo, AsksAt, AsksAfter, FindsFirst, OrderedInTurn};
 ghost use Rattle.ic_list_algorithms.specs.Ordered.{GoesBy, IsOrdered};
 ghost use Rattle.ic_list_algorithms.specs.Runs.{less_at};
 ghost use Rattle.ic_list_algorithms.specs.Walks.{test_at, HoldsNowhere, HoldsFirst, stands_behind, are_neighbors_ordered};
@@ -132,7 +132,8 @@ fn find_first<K: ForwardLinks<L>, T, V, L: LinkOps, O: Values<V>, F: FnMut(&V) -
     None
 }
 
-/// Whether no member goes before the one in front of it. It walks from the front, with one comparison for each pair of neighbors.
+/// Whether no member goes before the one in front of it. It walks from the front, with one comparison for each pair of neighbors, up to the
+/// first pair that is out of order.
 ///
 /// It requires that all members are placed. By an order of values the list is in order then: no member goes before any in front of it.
 pub fn is_sorted_by<K: ForwardLinks<L>, T, V, L: LinkOps, O: Values<V>, C: Precedes<V>>(
@@ -147,6 +148,8 @@ pub fn is_sorted_by<K: ForwardLinks<L>, T, V, L: LinkOps, O: Values<V>, C: Prece
         → result ≡ are_neighbors_ordered (less_at lt (O.values objects.now)) s }
     ensures ordered { (s : List Place) (lt : V → V → Bool) → ShowsChain K.Between K.kept (L.table links.now) list.now s → GoesBy C.obeys order.old lt
         → IsTrue result ↔ IsOrdered (less_at lt (O.values objects.now)) s }
+    ensures asked { (s : List Place) → ShowsChain K.Between K.kept (L.table links.now) list.now s
+        → OrderedInTurn (AsksAfter (O.values objects.now) C.asks) order.old None s result order.new }
     ensures again { C.ready order.new }
     ensures obeys { (lt : V → V → Bool) → C.obeys order.old lt → C.obeys order.new lt }
 {
@@ -173,6 +176,7 @@ fn may_stand_behind<V, O: Values<V>, C: Precedes<V>>(
     requires placed { is_placed (O.values objects.now) member ≡ true }
     requires prev { (q : Place) → prev ≡ Some q → is_placed (O.values objects.now) q ≡ true }
     ensures answer { (lt : V → V → Bool) → C.obeys order.old lt → result ≡ stands_behind (less_at lt (O.values objects.now)) prev member }
+    ensures asked { AsksAfter (O.values objects.now) C.asks order.old prev member result order.new }
     ensures again { C.ready order.new }
     ensures obeys { (lt : V → V → Bool) → C.obeys order.old lt → C.obeys order.new lt }
 {

@@ -1,6 +1,8 @@
-use Rattle.std.proofs.Common.{IsSome, refl, sym}
+use Rattle.std.proofs.Common.{IsSome, refl, sym, drop}
 use Rattle.ic_unsafe_ref.specs.Objects.{object_at}
+use Rattle.ic_list_algorithms.specs.Asked.{AsksAfter}
 use Rattle.ic_list_algorithms.specs.Runs.{less_at}
+use Rattle.ic_list_algorithms.proofs.AskedLemmas.{ordered_begins, ordered_turns, ordered_stops, ordered_all}
 use Rattle.ic_list_algorithms.proofs.SortedFronts.{places_are_ordered}
 use Rattle.ic_list_algorithms.proofs.WalkLemmas.{walk_begins, walk_ends, walk_at, walk_between, walk_goes, walk_fewer, walk_holds, walk_held, order_goes, order_breaks, order_ends, tells_order}
 use Rattle.ic_list_algorithms.proofs.walks.is_sorted_by.Goals as goal
@@ -9,7 +11,9 @@ pub loop-current-init : goal.loop-current-init
 loop-current-init g c = record {
   ready = c.requires.ready;
   obeys = λ lt h. h;
-  passed = λ s shown. let k = walk_begins shown c.first-current.ensures in (k.0, λ lt h. rw k.2 refl);
+  passed = λ s shown.
+      let k = walk_begins shown c.first-current.ensures in
+      (k.0, (λ lt h. rw k.2 refl), ordered_begins (AsksAfter (g.O.Values.values c.args.objects.now) g.C.Precedes.asks) c.args.order.now s k.0.rest k.2);
 }
 
 pub may_stand_behind-requires : goal.may_stand_behind-requires
@@ -46,6 +50,18 @@ returns-then-not-may_stand_behind-clause-ordered g c s lt shown law =
     (order_breaks (less_at lt (g.O.Values.values c.args.objects.now)) c.loop-current.prev (k.1 lt law.0) (walk_at k.0 c.in-Some.is).0
     (sym (c.if-not-may_stand_behind.ensures.answer lt (c.loop-current.invariant.obeys lt law.0))))
 
+pub returns-then-not-may_stand_behind-clause-asked : goal.returns-then-not-may_stand_behind-clause-asked
+returns-then-not-may_stand_behind-clause-asked g c s shown =
+    let k = c.loop-current.invariant.passed s shown in
+    ordered_stops (AsksAfter (g.O.Values.values c.args.objects.now) g.C.Precedes.asks) c.args.order.now s k.0.rest c.loop-current.prev c.loop-current.order k.2
+    c.may_stand_behind.new.order c.in-Some.member (drop 1 k.0.rest) (walk_at k.0 c.in-Some.is).0 c.if-not-may_stand_behind.ensures.asked
+
+pub returns-clause-asked : goal.returns-clause-asked
+returns-clause-asked g c s shown =
+    let k = c.loop-current.invariant.passed s shown in
+    ordered_all (AsksAfter (g.O.Values.values c.args.objects.now) g.C.Precedes.asks) c.args.order.now s k.0.rest c.loop-current.prev c.loop-current.order k.2
+    (walk_ends k.0 c.in_default.is).0
+
 pub loop-current-preserved : goal.loop-current-preserved
 loop-current-preserved g c = record {
   ready = c.may_stand_behind.ensures.again;
@@ -54,9 +70,13 @@ loop-current-preserved g c = record {
       let k = c.loop-current.invariant.passed s shown in
       let m = walk_goes g.K.ForwardLinks.step g.met.K.ForwardLinks.leads k.0 c.in-Some.is c.next-current.ensures in (
         m.0,
-        λ lt h.
+        (
+            λ lt h.
             order_goes (less_at lt (g.O.Values.values c.args.objects.now)) c.loop-current.prev (k.1 lt h) m.1
-            (sym (c.if-not-may_stand_behind.ensures.answer lt (c.loop-current.invariant.obeys lt h))),
+            (sym (c.if-not-may_stand_behind.ensures.answer lt (c.loop-current.invariant.obeys lt h)))
+            ),
+        ordered_turns (AsksAfter (g.O.Values.values c.args.objects.now) g.C.Precedes.asks) c.args.order.now s k.0.rest c.loop-current.prev c.loop-current.order k.2
+            c.may_stand_behind.new.order c.in-Some.member m.0.rest m.1 c.if-not-may_stand_behind.ensures.asked,
       );
 }
 

@@ -2,7 +2,9 @@ use Rattle.std.proofs.Common.{◌≡◌, None, List, length}
 use Rattle.ic_unsafe_ref.specs.declared.place.Place.{Place}
 use Rattle.ic_link_ops.specs.Chains.{ShowsChain}
 use Rattle.ic_link_ops.specs.Walk.{walked}
+use Rattle.ic_list_algorithms.proofs.AskedLemmas.{OrderedSoFar}
 use Rattle.ic_list_algorithms.proofs.WalkLemmas.{WalksTo}
+use Rattle.ic_list_algorithms.specs.Asked.{AsksAfter}
 use Rattle.ic_list_algorithms.specs.Runs.{less_at}
 use Rattle.ic_list_algorithms.specs.Walks.{ordered_from, are_neighbors_ordered}
 use Rattle.ic_list_algorithms.proofs.walks.is_sorted_by.Given as goal
@@ -14,7 +16,8 @@ invariant-loop-current g l = record {
   passed : (s : List Place) → ShowsChain g.K.ForwardLinks.Between g.K.ListKind.kept (g.L.LinkOps.table l.fn.links) l.fn.list s
       → (k : WalksTo g.K.ForwardLinks.Between (g.L.LinkOps.table l.fn.links) s l.prev l.current)
       × ((lt : _) → g.C.Precedes.obeys l.fn.order lt
-      → are_neighbors_ordered (less_at lt (g.O.Values.values l.objects)) s ≡ ordered_from (less_at lt (g.O.Values.values l.objects)) l.prev k.rest);
+      → are_neighbors_ordered (less_at lt (g.O.Values.values l.objects)) s ≡ ordered_from (less_at lt (g.O.Values.values l.objects)) l.prev k.rest)
+      × OrderedSoFar (AsksAfter (g.O.Values.values l.objects) g.C.Precedes.asks) l.fn.order s k.rest l.prev l.order;
 }
 
 abbrev pub decreases-loop-current : goal.decreases-loop-current
