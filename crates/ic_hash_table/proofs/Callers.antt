@@ -10,7 +10,7 @@ use Rattle.ic_link_ops.proofs.SequenceLemmas.{member_split}
 use Rattle.ic_hash_table.specs.declared.table.HashTable.{HashTable}
 use Rattle.ic_hash_table.specs.HashTable.{BelongsIn, Holds, HoldsSome, IsNew, IsShown}
 use Rattle.ic_hash_table.specs.Searches.{Finds}
-use Rattle.ic_hash_table.proofs.Chains.{chains_nothing, chains_weakened}
+use Rattle.ic_hash_table.proofs.Chains.{chains_nothing, chains_one, chains_weakened}
 
 -- EVERY TABLE OF LINKS holds nothing for a new hash table
 pub new_held : {E A B V : Type 0} (successor : E → Successor) (hash : A → V → ℕ) (fronts : B → List (Option Place)) (t : Table E) (table : HashTable A B) (objects : Objects V)
@@ -36,6 +36,12 @@ held_shown {successor = successor} {hash = hash} {fronts = fronts} {t = t} {tabl
   well_formed = held.well_formed;
   enough = held.enough;
 }
+
+-- AND NO OTHER MEMBERS are shown: so what an edit leaves of the links can be said of either
+pub shown_is_held : {E A B V : Type 0} {successor : E → Successor} {hash : A → V → ℕ} {fronts : B → List (Option Place)} {t : Table E} {table : HashTable A B} {objects : Objects V} {s u : List Place}
+    → Holds successor hash fronts t table objects s → IsShown successor fronts t table u → s ≡ u
+shown_is_held {successor = successor} {fronts = fronts} {t = t} {table = table} {s = s} {u = u} held shown =
+    chains_one successor (λ i p. ⊤) t 0 (fronts table.buckets) s u (held_shown held).chained shown.chained
 
 -- AFTER `remove`, whatever it answered: P is held before, Q after
 pub removed_some : (P Q : List Place → Type 0) {Same : Type 0} (answer : Bool) {p : Place} (s : List Place) → P s → (IsTrue answer ↔ IsMember p s)

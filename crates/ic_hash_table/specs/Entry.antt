@@ -5,7 +5,7 @@ use Rattle.ic_unsafe_ref.specs.declared.place.Place.{Place}
 use Rattle.ic_unsafe_ref.specs.Objects.{Objects}
 use Rattle.ic_link_ops.specs.Sequences.{last}
 use Rattle.ic_link_ops.specs.LinkSteps.{LinkStep, acquires}
-use Rattle.ic_link_ops.specs.Tables.{Table, KeepsBeside}
+use Rattle.ic_link_ops.specs.Tables.{Table}
 use Rattle.ic_link_ops.specs.SinglyLinkedList.{Successor}
 use Rattle.ic_hash_table.specs.declared.entry.Entry.{Entry}
 use Rattle.ic_hash_table.specs.declared.entry.Entry.TheVariants.{Occupied, Vacant}
@@ -14,7 +14,7 @@ use Rattle.ic_hash_table.specs.declared.entry.RefusedInsert.{RefusedInsert}
 use Rattle.ic_hash_table.specs.declared.entry.VacantEntry.{VacantEntry}
 use Rattle.ic_hash_table.specs.declared.table.HashTable.{HashTable}
 use Rattle.ic_hash_table.specs.Chains.{ShowsFrom}
-use Rattle.ic_hash_table.specs.HashTable.{adapter_of, slots_of, front_at, BelongsIn, Holds, HoldsWith, KeepsBuckets}
+use Rattle.ic_hash_table.specs.HashTable.{adapter_of, slots_of, front_at, BelongsIn, Holds, HoldsWith, KeepsBesideMembers}
 use Rattle.ic_hash_table.specs.Slots.{slot_of}
 
 module _ {A B L : Type 0} where
@@ -68,11 +68,7 @@ module _ {E A B L V K : Type 0} (successor : E → Successor) (table : L → Tab
         → IfOk result (λ e. HoldsWith successor hash fronts (table e.links.now) e.table.now objects s object)
     pub can_remove : IfOk result (CanRemove successor table fronts)
     pub acquired : IfOk result (λ e. Does old.links.now e.links.now (acquires object ∷ []))
-    pub adapter : IfOk result (λ e. adapter_of e.table.now ≡ adapter_of old.table.now)
-    pub slots : IfOk result (λ e. slots_of e.table.now ≡ slots_of old.table.now)
-    pub buckets : IfOk result (λ e. KeepsBuckets fronts Rewrites old.table.now e.table.now)
     pub borrows : IfOk result (λ e. (e.table.ghost_name ≡ old.table.ghost_name) × (e.links.ghost_name ≡ old.links.ghost_name))
-    pub frame : (s : List Place) → Holds successor hash fronts (table old.links.now) old.table.now objects s
-        → IfOk result (λ e. KeepsBeside (table old.links.now) (table e.links.now) (object ∷ s))
+    pub kept : IfOk result (λ e. KeepsBesideMembers successor fronts Rewrites (table old.links.now) (table e.links.now) old.table.now e.table.now (object ∷ []))
     pub refused : IfErr result (λ r. Refused old.links.now r.entry.links.now object)
     pub unchanged : IfErr result (λ r. (r.object ≡ object) × IsVacantAgain old r.entry)

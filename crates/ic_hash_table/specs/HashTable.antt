@@ -3,7 +3,7 @@ use Rattle.std.specs.Prelude.{◌≡◌, ◌≢◌, ℕ, ◌≤◌, Bool, Option
 use Rattle.std.specs.List.{AllByRecursion}
 use Rattle.ic_unsafe_ref.specs.declared.place.Place.{Place}
 use Rattle.ic_unsafe_ref.specs.Objects.{Objects, object_at}
-use Rattle.ic_link_ops.specs.Tables.{Table}
+use Rattle.ic_link_ops.specs.Tables.{Table, KeepsBeside}
 use Rattle.ic_link_ops.specs.SinglyLinkedList.{Successor}
 use Rattle.ic_link_ops.specs.PlacedObjects.{ArePlaced}
 use Rattle.ic_link_ops.specs.Sequences.{Cut, join, insert, IsBefore, IsDistinct, IsMember}
@@ -58,6 +58,18 @@ pub record IsShown {E A B : Type 0} (successor : E → Successor) (fronts : B �
   pub chained : AreChained successor (λ i p. ⊤) t 0 (fronts table.buckets) s
   pub well_formed : IsWellFormed table.slots
   pub enough : table.slots.used ≤ length (fronts table.buckets)
+
+module _ {E A B : Type 0} (successor : E → Successor) (fronts : B → List (Option Place)) (Rewrites : B → B → Type 0) where
+  -- AN EDIT LEAVES what is beside its chains: the adapter, the buckets, and the entry of each place but its members and these
+  pub record KeepsBesideChains (old new : Table E) (table table' : HashTable A B) (places : List Place) : Type 0 where
+    pub adapter : adapter_of table' ≡ adapter_of table
+    pub buckets : KeepsBuckets fronts Rewrites table table'
+    pub frame : (s : List Place) → IsShown successor fronts old table s → KeepsBeside old new (places ++ s)
+
+  -- and it leaves which chains are in use
+  pub record KeepsBesideMembers (old new : Table E) (table table' : HashTable A B) (places : List Place) : Type 0 where
+    pub chains : KeepsBesideChains old new table table' places
+    pub slots : slots_of table' ≡ slots_of table
 
 -- the number of a value: that of its key
 abbrev pub number : {A V K : Type 0} → (A → V → K) → (A → K → ℕ) → A → V → ℕ

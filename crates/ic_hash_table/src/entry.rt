@@ -12,9 +12,9 @@ ghost use Rattle.std.specs.Prelude.{◌≡◌, ◌∷◌, ◌++◌, [], List, So
 ghost use Rattle.ic_unsafe_ref.specs.declared.place.Place.{Place};
 ghost use Rattle.ic_unsafe_ref.specs.Objects.{is_placed};
 ghost use Rattle.ic_link_ops.specs.LinkSteps.{acquires, releases};
-ghost use Rattle.ic_link_ops.specs.Tables.{IsCovered, KeepsBeside};
+ghost use Rattle.ic_link_ops.specs.Tables.{IsCovered};
 ghost use Rattle.ic_hash_table.specs.Entry.{IfOccupied, IfVacant, member_of, CanRemove, CanInsert, IsChainFor, IsFoundIn, IsVacantIn, EntersAt};
-ghost use Rattle.ic_hash_table.specs.HashTable.{adapter_of, slots_of, number, Holds, HoldsSome, HoldsWith, KeepsBuckets};
+ghost use Rattle.ic_hash_table.specs.HashTable.{adapter_of, number, Holds, HoldsSome, HoldsWith, KeepsBesideMembers};
 ghost use Rattle.ic_hash_table.specs.Searches.{has_key, Finds};
 
 use crate::{BucketRow, BucketsFor, HashAdapter, HashTable};
@@ -145,12 +145,7 @@ impl<A: HashAdapter, B: BucketsFor<L>, L: SinglyLinkedListOps> OccupiedEntry<'_,
             → Holds L.successor (number A.key_of A.hash_of) B.fronts (L.table self.entry.links.now) self.entry.table.now (O.values objects.now) (front ++ result ∷ back)
             → Holds L.successor (number A.key_of A.hash_of) B.fronts (L.table self.exit.1.0.now) self.exit.0.now (O.values objects.now) (front ++ back) }
         ensures released { L.Does self.entry.links.now self.exit.1.0.now (releases result ∷ []) }
-        ensures adapter { adapter_of self.exit.0.now ≡ adapter_of self.entry.table.now }
-        ensures slots { slots_of self.exit.0.now ≡ slots_of self.entry.table.now }
-        ensures buckets { KeepsBuckets B.fronts B.Rewrites self.entry.table.now self.exit.0.now }
-        ensures frame { (s : List Place)
-            → Holds L.successor (number A.key_of A.hash_of) B.fronts (L.table self.entry.links.now) self.entry.table.now (O.values objects.now) s
-            → KeepsBeside (L.table self.entry.links.now) (L.table self.exit.1.0.now) s }
+        ensures kept { KeepsBesideMembers L.successor B.fronts B.Rewrites (L.table self.entry.links.now) (L.table self.exit.1.0.now) self.entry.table.now self.exit.0.now [] }
     {
         let OccupiedEntry {
             table,
@@ -184,14 +179,9 @@ impl<'a, A: HashAdapter, B: BucketsFor<L>, L: SinglyLinkedListOps> VacantEntry<'
             → Holds L.successor (number A.key_of A.hash_of) B.fronts (L.table self.entry.links.now) self.entry.table.now (O.values objects.now) s
             → OnOk result (HoldsWith L.successor (number A.key_of A.hash_of) B.fronts (L.table self.exit.1.0.now) self.exit.0.now (O.values objects.now) s object) }
         ensures acquired { OnOk result (L.Does self.entry.links.now self.exit.1.0.now (acquires object ∷ [])) }
-        ensures adapter { adapter_of self.exit.0.now ≡ adapter_of self.entry.table.now }
-        ensures slots { slots_of self.exit.0.now ≡ slots_of self.entry.table.now }
-        ensures buckets { KeepsBuckets B.fronts B.Rewrites self.entry.table.now self.exit.0.now }
         ensures refused { OnErr result (L.Refused self.entry.links.now self.exit.1.0.now object) }
         ensures unchanged { IfErr result (λ refused. (refused.0 ≡ object) × (self.exit.0.now ≡ self.entry.table.now)) }
-        ensures frame { (s : List Place)
-            → Holds L.successor (number A.key_of A.hash_of) B.fronts (L.table self.entry.links.now) self.entry.table.now (O.values objects.now) s
-            → KeepsBeside (L.table self.entry.links.now) (L.table self.exit.1.0.now) (object ∷ s) }
+        ensures kept { KeepsBesideMembers L.successor B.fronts B.Rewrites (L.table self.entry.links.now) (L.table self.exit.1.0.now) self.entry.table.now self.exit.0.now (object ∷ []) }
     {
         let VacantEntry { table, links, at } = self;
         let front = table.buckets.front(at);

@@ -14,8 +14,8 @@ ghost use Rattle.ic_unsafe_ref.specs.Objects.{object_at, is_placed};
 ghost use Rattle.ic_link_ops.specs.LinkSteps.{acquires};
 ghost use Rattle.ic_link_ops.specs.Positions.{HasMember};
 ghost use Rattle.ic_link_ops.specs.Sequences.{first};
-ghost use Rattle.ic_link_ops.specs.Tables.{IsCovered, KeepsBeside};
-ghost use Rattle.ic_hash_table.specs.HashTable.{adapter_of, slots_of, number, Holds, HoldsSome, HoldsInFront, KeepsBuckets};
+ghost use Rattle.ic_link_ops.specs.Tables.{IsCovered};
+ghost use Rattle.ic_hash_table.specs.HashTable.{adapter_of, number, Holds, HoldsSome, HoldsInFront, KeepsBesideMembers};
 ghost use Rattle.ic_hash_table.specs.SideBySide.{AreSideBySide, HoldsSideBySide, same_key};
 ghost use Rattle.ic_hash_table.specs.Searches.{has_key, Finds};
 
@@ -79,13 +79,9 @@ impl<A: HashAdapter, B> HashTable<A, B> {
         ensures beside { HoldsSideBySide L.successor (number A.key_of A.hash_of) B.fronts A.Key.eq A.key_of (L.table links.old) self.old (O.values objects.now)
             → OnOk result (HoldsSideBySide L.successor (number A.key_of A.hash_of) B.fronts A.Key.eq A.key_of (L.table links.new) self.new (O.values objects.now)) }
         ensures acquired { OnOk result (L.Does links.old links.new (acquires object ∷ [])) }
-        ensures adapter { adapter_of self.new ≡ adapter_of self.old }
-        ensures slots { slots_of self.new ≡ slots_of self.old }
-        ensures buckets { KeepsBuckets B.fronts B.Rewrites self.old self.new }
         ensures refused { OnErr result (L.Refused links.old links.new object) }
         ensures unchanged { IfErr result (λ refused. (refused.0 ≡ object) × (self.new ≡ self.old)) }
-        ensures frame { (s : List Place) → Holds L.successor (number A.key_of A.hash_of) B.fronts (L.table links.old) self.old (O.values objects.now) s
-            → KeepsBeside (L.table links.old) (L.table links.new) (object ∷ s) }
+        ensures kept { KeepsBesideMembers L.successor B.fronts B.Rewrites (L.table links.old) (L.table links.new) self.old self.new (object ∷ []) }
     {
         let key = self.adapter.get_key(objects.value(object.place()));
         let (at, before, found) = self.search(&*links, objects, key);

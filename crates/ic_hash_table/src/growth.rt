@@ -8,7 +8,7 @@
 //! }
 //! ```
 
-ghost use Rattle.std.specs.Prelude.{◌≡◌, ◌≢◌, ◌↔◌, ◌+◌, ◌<◌, ◌≤◌, length, IsTrue, true, false, nat_eq, Option, None, Some, List, [], ◌∷◌};
+ghost use Rattle.std.specs.Prelude.{◌≡◌, ◌≢◌, ◌↔◌, ◌+◌, ◌<◌, ◌≤◌, length, IsTrue, true, false, Option, None, Some, List, [], ◌∷◌};
 ghost use Rattle.std.specs.Bool.{OnTrue, OnFalse};
 ghost use Rattle.ic_unsafe_ref.specs.declared.place.Place.{Place};
 ghost use Rattle.ic_unsafe_ref.specs.Objects.{is_placed};
@@ -17,7 +17,7 @@ ghost use Rattle.ic_link_ops.specs.Sequences.{IsAbsent};
 ghost use Rattle.ic_link_ops.specs.Tables.{IsLinked, IsNameable, KeepsBeside};
 ghost use Rattle.ic_hash_table.specs.HashTable.{number};
 ghost use Rattle.ic_hash_table.specs.Searches.{matches};
-ghost use Rattle.ic_hash_table.specs.Slots.{slot_of, IsWellFormed};
+ghost use Rattle.ic_hash_table.specs.Slots.{IsWellFormed};
 ghost use Rattle.ic_hash_table.specs.Growth.{belongs_at, IsParted};
 ghost use Rattle.ic_hash_table.specs.Chains.{ShowsFrom};
 
@@ -99,7 +99,7 @@ pub(crate) fn part_chain<A: HashAdapter, L: SinglyLinkedListOps, O: Values<A::Va
 }
 
 impl<A: HashAdapter, B> HashTable<A, B> {
-    ghost use Rattle.ic_hash_table.specs.HashTable.{adapter_of, slots_of, fronts_of, Holds, HoldsSome, IsShown, KeepsBuckets};
+    ghost use Rattle.ic_hash_table.specs.HashTable.{slots_of, fronts_of, Holds, HoldsSome, IsShown, KeepsBesideChains};
     ghost use Rattle.ic_unsafe_ref.specs.Objects.{Objects};
     ghost use Rattle.ic_hash_table.specs.Growth.{HoldsSameMembers};
     ghost use Rattle.ic_hash_table.specs.SideBySide.{HoldsSideBySide};
@@ -126,10 +126,7 @@ impl<A: HashAdapter, B> HashTable<A, B> {
         ensures used { OnTrue result ((slots_of self.new).used ≡ (slots_of self.old).used + 1) }
         ensures full { OnFalse result ((self.new ≡ self.old) × (links.new ≡ links.old)) }
         ensures no_step { L.Does links.old links.new [] }
-        ensures adapter { adapter_of self.new ≡ adapter_of self.old }
-        ensures buckets { KeepsBuckets B.fronts B.Rewrites self.old self.new }
-        ensures frame { (s : List Place) → Holds L.successor (number A.key_of A.hash_of) B.fronts (L.table links.old) self.old (O.values objects.now) s
-            → KeepsBeside (L.table links.old) (L.table links.new) s }
+        ensures kept { KeepsBesideChains L.successor B.fronts B.Rewrites (L.table links.old) (L.table links.new) self.old self.new [] }
     {
         let to = self.slots.used();
         if to >= self.buckets.count() || to >= 4294967295 {
@@ -168,10 +165,7 @@ impl<A: HashAdapter, B> HashTable<A, B> {
         ensures used { OnTrue result ((slots_of self.old).used ≡ (slots_of self.new).used + 1) }
         ensures last { OnFalse result ((self.new ≡ self.old) × (links.new ≡ links.old)) }
         ensures no_step { L.Does links.old links.new [] }
-        ensures adapter { adapter_of self.new ≡ adapter_of self.old }
-        ensures buckets { KeepsBuckets B.fronts B.Rewrites self.old self.new }
-        ensures frame { (s : List Place) → IsShown L.successor B.fronts (L.table links.old) self.old s
-            → KeepsBeside (L.table links.old) (L.table links.new) s }
+        ensures kept { KeepsBesideChains L.successor B.fronts B.Rewrites (L.table links.old) (L.table links.new) self.old self.new [] }
     {
         if self.slots.used() < 2 {
             return false;

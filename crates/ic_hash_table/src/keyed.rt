@@ -13,8 +13,8 @@ ghost use Rattle.ic_unsafe_ref.specs.declared.place.Place.{Place};
 ghost use Rattle.ic_unsafe_ref.specs.Objects.{is_placed};
 ghost use Rattle.ic_link_ops.specs.LinkSteps.{acquires, releases};
 ghost use Rattle.ic_link_ops.specs.Sequences.{IsMember};
-ghost use Rattle.ic_link_ops.specs.Tables.{IsCovered, KeepsBeside};
-ghost use Rattle.ic_hash_table.specs.HashTable.{adapter_of, slots_of, number, Holds, HoldsSome, HoldsWith, KeepsBuckets};
+ghost use Rattle.ic_link_ops.specs.Tables.{IsCovered};
+ghost use Rattle.ic_hash_table.specs.HashTable.{adapter_of, number, Holds, HoldsSome, HoldsWith, KeepsBesideMembers};
 ghost use Rattle.ic_hash_table.specs.Searches.{has_key, Finds};
 
 use crate::{BucketsFor, HashAdapter, HashTable};
@@ -42,13 +42,9 @@ impl<A: HashAdapter, B> HashTable<A, B> {
             → OnOk result (HoldsWith L.successor (number A.key_of A.hash_of) B.fronts (L.table links.new) self.new (L.values links.old) s object) }
         ensures values { L.values links.new ≡ L.values links.old }
         ensures acquired { OnOk result (L.Does links.old links.new (acquires object ∷ [])) }
-        ensures adapter { adapter_of self.new ≡ adapter_of self.old }
-        ensures slots { slots_of self.new ≡ slots_of self.old }
-        ensures buckets { KeepsBuckets B.fronts B.Rewrites self.old self.new }
         ensures refused { OnErr result (L.Refused links.old links.new object) }
         ensures unchanged { IfErr result (λ refused. (refused.0 ≡ object) × (self.new ≡ self.old)) }
-        ensures frame { (s : List Place) → Holds L.successor (number A.key_of A.hash_of) B.fronts (L.table links.old) self.old (L.values links.old) s
-            → KeepsBeside (L.table links.old) (L.table links.new) (object ∷ s) }
+        ensures kept { KeepsBesideMembers L.successor B.fronts B.Rewrites (L.table links.old) (L.table links.new) self.old self.new (object ∷ []) }
     {
         let at = self.slot_of_object(&*links, object.place());
         let front = self.buckets.front(at);
@@ -76,11 +72,7 @@ impl<A: HashAdapter, B> HashTable<A, B> {
         ensures values { L.values links.new ≡ L.values links.old }
         ensures released { OnTrue result (L.Does links.old links.new (releases object.now ∷ [])) }
         ensures nothing { OnFalse result ((self.new ≡ self.old) × (links.new ≡ links.old)) }
-        ensures adapter { adapter_of self.new ≡ adapter_of self.old }
-        ensures slots { slots_of self.new ≡ slots_of self.old }
-        ensures buckets { KeepsBuckets B.fronts B.Rewrites self.old self.new }
-        ensures frame { (s : List Place) → Holds L.successor (number A.key_of A.hash_of) B.fronts (L.table links.old) self.old (L.values links.old) s
-            → KeepsBeside (L.table links.old) (L.table links.new) s }
+        ensures kept { KeepsBesideMembers L.successor B.fronts B.Rewrites (L.table links.old) (L.table links.new) self.old self.new [] }
     {
         let Some((at, before)) = self.locate(&*links, &*links, object.place()) else {
             return false;
@@ -109,11 +101,7 @@ impl<A: HashAdapter, B> HashTable<A, B> {
         ensures values { L.values links.new ≡ L.values links.old }
         ensures released { IfSome result (λ object. L.Does links.old links.new (releases object ∷ [])) }
         ensures nothing { IfNone result ((self.new ≡ self.old) × (links.new ≡ links.old)) }
-        ensures adapter { adapter_of self.new ≡ adapter_of self.old }
-        ensures slots { slots_of self.new ≡ slots_of self.old }
-        ensures buckets { KeepsBuckets B.fronts B.Rewrites self.old self.new }
-        ensures frame { (s : List Place) → Holds L.successor (number A.key_of A.hash_of) B.fronts (L.table links.old) self.old (L.values links.old) s
-            → KeepsBeside (L.table links.old) (L.table links.new) s }
+        ensures kept { KeepsBesideMembers L.successor B.fronts B.Rewrites (L.table links.old) (L.table links.new) self.old self.new [] }
     {
         let (at, before, found) = self.search(&*links, &*links, key);
         let Some(place) = found else {

@@ -7,7 +7,7 @@
 //! }
 //! ```
 
-ghost use Rattle.std.specs.Prelude.{◌≡◌, ◌≤◌, List, Some, Option, drop, length, true};
+ghost use Rattle.std.specs.Prelude.{◌≡◌, ◌≤◌, List, Some, Option, drop};
 ghost use Rattle.std.specs.Bool.{⊤};
 ghost use Rattle.ic_unsafe_ref.specs.declared.place.Place.{Place};
 ghost use Rattle.ic_link_ops.specs.Sequences.{Cut, join, first, IsAfter, IsBefore};
@@ -41,7 +41,7 @@ fn first_from<L: SinglyLinkedListOps, B: BucketRow>(
 }
 
 impl<A: HashAdapter, B: BucketRow> HashTable<A, B> {
-    ghost use Rattle.ic_hash_table.specs.HashTable.{HoldsSome, Holds};
+    ghost use Rattle.ic_hash_table.specs.HashTable.{Holds};
 
     /// The member behind this one, through all chains; behind `None` the first one. `None` where nothing follows.
     ///

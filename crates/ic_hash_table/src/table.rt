@@ -13,7 +13,7 @@ ghost use Rattle.ic_unsafe_ref.specs.Objects.{Objects, object_at, is_placed};
 ghost use Rattle.ic_link_ops.specs.LinkSteps.{acquires, releases};
 ghost use Rattle.ic_link_ops.specs.Sequences.{Cut, join, insert, IsAbsent, IsAfter, IsBefore, IsMember, last};
 ghost use Rattle.ic_link_ops.specs.PlacedObjects.{ShowsPlaced};
-ghost use Rattle.ic_link_ops.specs.Tables.{IsCovered, KeepsBeside};
+ghost use Rattle.ic_link_ops.specs.Tables.{IsCovered};
 ghost use Rattle.ic_link_ops.specs.SinglyLinkedList.{list_from, Shows};
 ghost use Rattle.ic_hash_table.specs.Slots.{slot_of};
 ghost use Rattle.ic_hash_table.specs.Searches.{found_of, matches, has_key, Finds, StopsAt, HasRoom, Looks};
@@ -240,7 +240,7 @@ impl<A: HashAdapter, B: BucketRow> HashTable<A, B> {
 }
 
 impl<A: HashAdapter, B> HashTable<A, B> {
-    ghost use Rattle.ic_hash_table.specs.HashTable.{adapter_of, slots_of, number, Holds, HoldsSome, HoldsWith, KeepsBuckets};
+    ghost use Rattle.ic_hash_table.specs.HashTable.{adapter_of, slots_of, number, Holds, HoldsSome, HoldsWith, KeepsBesideMembers};
 
     /// Puts the object in, unless its link is refused. O(1): one hash, no look, and no memory.
     ///
@@ -261,13 +261,9 @@ impl<A: HashAdapter, B> HashTable<A, B> {
         ensures inserted { (s : List Place) → Holds L.successor (number A.key_of A.hash_of) B.fronts (L.table links.old) self.old (O.values objects.now) s
             → OnOk result (HoldsWith L.successor (number A.key_of A.hash_of) B.fronts (L.table links.new) self.new (O.values objects.now) s object) }
         ensures acquired { OnOk result (L.Does links.old links.new (acquires object ∷ [])) }
-        ensures adapter { adapter_of self.new ≡ adapter_of self.old }
-        ensures slots { slots_of self.new ≡ slots_of self.old }
-        ensures buckets { KeepsBuckets B.fronts B.Rewrites self.old self.new }
         ensures refused { OnErr result (L.Refused links.old links.new object) }
         ensures unchanged { IfErr result (λ refused. (refused.0 ≡ object) × (self.new ≡ self.old)) }
-        ensures frame { (s : List Place) → Holds L.successor (number A.key_of A.hash_of) B.fronts (L.table links.old) self.old (O.values objects.now) s
-            → KeepsBeside (L.table links.old) (L.table links.new) (object ∷ s) }
+        ensures kept { KeepsBesideMembers L.successor B.fronts B.Rewrites (L.table links.old) (L.table links.new) self.old self.new (object ∷ []) }
     {
         let at = self.slot_of_object(objects, object.place());
         let front = self.buckets.front(at);
@@ -294,11 +290,7 @@ impl<A: HashAdapter, B> HashTable<A, B> {
             → Holds L.successor (number A.key_of A.hash_of) B.fronts (L.table links.new) self.new (O.values objects.now) (front ++ back) }
         ensures released { OnTrue result (L.Does links.old links.new (releases object.now ∷ [])) }
         ensures nothing { OnFalse result ((self.new ≡ self.old) × (links.new ≡ links.old)) }
-        ensures adapter { adapter_of self.new ≡ adapter_of self.old }
-        ensures slots { slots_of self.new ≡ slots_of self.old }
-        ensures buckets { KeepsBuckets B.fronts B.Rewrites self.old self.new }
-        ensures frame { (s : List Place) → Holds L.successor (number A.key_of A.hash_of) B.fronts (L.table links.old) self.old (O.values objects.now) s
-            → KeepsBeside (L.table links.old) (L.table links.new) s }
+        ensures kept { KeepsBesideMembers L.successor B.fronts B.Rewrites (L.table links.old) (L.table links.new) self.old self.new [] }
     {
         let Some((at, before)) = self.locate(&*links, objects, object.place()) else {
             return false;
@@ -331,12 +323,8 @@ impl<A: HashAdapter, B> HashTable<A, B> {
         ensures inserted { (s : List Place) → Holds L.successor (number A.key_of A.hash_of) B.fronts (L.table links.old) self.old (O.values objects.now) s
             → IfOk result (λ found. IfNone found (HoldsWith L.successor (number A.key_of A.hash_of) B.fronts (L.table links.new) self.new (O.values objects.now) s object)) }
         ensures acquired { IfOk result (λ found. IfNone found (L.Does links.old links.new (acquires object ∷ []))) }
-        ensures adapter { adapter_of self.new ≡ adapter_of self.old }
-        ensures slots { slots_of self.new ≡ slots_of self.old }
-        ensures buckets { KeepsBuckets B.fronts B.Rewrites self.old self.new }
         ensures refused { IfErr result (λ refused. (refused.0 ≡ object) × (self.new ≡ self.old) × L.Refused links.old links.new object) }
-        ensures frame { (s : List Place) → Holds L.successor (number A.key_of A.hash_of) B.fronts (L.table links.old) self.old (O.values objects.now) s
-            → KeepsBeside (L.table links.old) (L.table links.new) (object ∷ s) }
+        ensures kept { KeepsBesideMembers L.successor B.fronts B.Rewrites (L.table links.old) (L.table links.new) self.old self.new (object ∷ []) }
     {
         let key = self.adapter.get_key(objects.value(object.place()));
         if let Some(member) = self.find(&*links, objects, key) {
@@ -366,11 +354,7 @@ impl<A: HashAdapter, B> HashTable<A, B> {
             → Holds L.successor (number A.key_of A.hash_of) B.fronts (L.table links.new) self.new (O.values objects.now) (front ++ back)) }
         ensures released { IfSome result (λ object. L.Does links.old links.new (releases object ∷ [])) }
         ensures nothing { IfNone result ((self.new ≡ self.old) × (links.new ≡ links.old)) }
-        ensures adapter { adapter_of self.new ≡ adapter_of self.old }
-        ensures slots { slots_of self.new ≡ slots_of self.old }
-        ensures buckets { KeepsBuckets B.fronts B.Rewrites self.old self.new }
-        ensures frame { (s : List Place) → Holds L.successor (number A.key_of A.hash_of) B.fronts (L.table links.old) self.old (O.values objects.now) s
-            → KeepsBeside (L.table links.old) (L.table links.new) s }
+        ensures kept { KeepsBesideMembers L.successor B.fronts B.Rewrites (L.table links.old) (L.table links.new) self.old self.new [] }
     {
         let (at, before, found) = self.search(&*links, objects, key);
         let Some(place) = found else {
@@ -449,7 +433,7 @@ impl<A: HashAdapter, B: BucketRow> HashTable<A, B> {
 }
 
 impl<A: HashAdapter, B> HashTable<A, B> {
-    ghost use Rattle.ic_hash_table.specs.HashTable.{adapter_of, slots_of, front_at, number, BelongsIn, Holds, HoldsAt, HoldsSome, KeepsBuckets};
+    ghost use Rattle.ic_hash_table.specs.HashTable.{adapter_of, slots_of, front_at, number, BelongsIn, Holds, HoldsAt, HoldsSome, KeepsBesideMembers};
 
     // Puts the object between two neighbors of chain `at`. It reads no object.
     #[inline]
@@ -476,14 +460,9 @@ impl<A: HashAdapter, B> HashTable<A, B> {
             → IsAfter gap neighbors.0 → IsBefore gap neighbors.1
             → OnOk result (ShowsFrom L.successor (L.table links.new) (front_at B.fronts self.new at) (insert gap object)) }
         ensures acquired { OnOk result (L.Does links.old links.new (acquires object ∷ [])) }
-        ensures adapter { adapter_of self.new ≡ adapter_of self.old }
-        ensures slots { slots_of self.new ≡ slots_of self.old }
-        ensures buckets { KeepsBuckets B.fronts B.Rewrites self.old self.new }
         ensures refused { OnErr result (L.Refused links.old links.new object) }
         ensures unchanged { IfErr result (λ refused. (refused.0 ≡ object) × (self.new ≡ self.old)) }
-        ensures frame { (objects : Objects A.Value) (s : List Place)
-            → Holds L.successor (number A.key_of A.hash_of) B.fronts (L.table links.old) self.old objects s
-            → KeepsBeside (L.table links.old) (L.table links.new) (object ∷ s) }
+        ensures kept { KeepsBesideMembers L.successor B.fronts B.Rewrites (L.table links.old) (L.table links.new) self.old self.new (object ∷ []) }
     {
         let (before, behind) = neighbors;
         let mut chain: SinglyLinkedList<A::Value> = SinglyLinkedList::from_front(
@@ -516,12 +495,7 @@ impl<A: HashAdapter, B> HashTable<A, B> {
             → Holds L.successor (number A.key_of A.hash_of) B.fronts (L.table links.old) self.old objects (front ++ place ∷ back)
             → Holds L.successor (number A.key_of A.hash_of) B.fronts (L.table links.new) self.new objects (front ++ back) }
         ensures released { L.Does links.old links.new (releases place ∷ []) }
-        ensures adapter { adapter_of self.new ≡ adapter_of self.old }
-        ensures slots { slots_of self.new ≡ slots_of self.old }
-        ensures buckets { KeepsBuckets B.fronts B.Rewrites self.old self.new }
-        ensures frame { (objects : Objects A.Value) (s : List Place)
-            → Holds L.successor (number A.key_of A.hash_of) B.fronts (L.table links.old) self.old objects s
-            → KeepsBeside (L.table links.old) (L.table links.new) s }
+        ensures kept { KeepsBesideMembers L.successor B.fronts B.Rewrites (L.table links.old) (L.table links.new) self.old self.new [] }
     {
         let front = unlink_behind(links, self.buckets.front(at), before, place);
         self.buckets.set_front(at, front);

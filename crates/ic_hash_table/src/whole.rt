@@ -5,7 +5,7 @@
 //! table.clear(&mut links); // and so is each that is left
 //! ```
 
-ghost use Rattle.std.specs.Prelude.{◌≡◌, ◌<◌, Bool, None, List, length, slice_index_or, slice_set};
+ghost use Rattle.std.specs.Prelude.{◌≡◌, ◌<◌, Bool, None, List, [], length, slice_index_or, slice_set};
 ghost use Rattle.ic_unsafe_ref.specs.declared.place.Place.{Place};
 ghost use Rattle.ic_link_ops.specs.LinkSteps.{releases_each};
 ghost use Rattle.ic_link_ops.specs.Tables.{KeepsBeside};
@@ -34,7 +34,7 @@ fn clear_chain<L: SinglyLinkedListOps, B: BucketsFor<L>>(buckets: &mut B, links:
 }
 
 impl<A, B> HashTable<A, B> {
-    ghost use Rattle.ic_hash_table.specs.HashTable.{adapter_of, slots_of, IsNew, IsShown, KeepsBuckets};
+    ghost use Rattle.ic_hash_table.specs.HashTable.{IsNew, IsShown, KeepsBesideMembers};
 
     /// Takes all members out: each is unlinked, and the table is empty.
     ///
@@ -45,13 +45,9 @@ impl<A, B> HashTable<A, B> {
         B: BucketsFor<L>,
         requires shown { (s : List Place) × IsShown L.successor B.fronts (L.table links.old) self.old s }
         ensures empty { IsNew B.fronts self.new }
-        ensures adapter { adapter_of self.new ≡ adapter_of self.old }
-        ensures slots { slots_of self.new ≡ slots_of self.old }
-        ensures buckets { KeepsBuckets B.fronts B.Rewrites self.old self.new }
         ensures released { (s : List Place) → IsShown L.successor B.fronts (L.table links.old) self.old s
             → L.Does links.old links.new (releases_each s) }
-        ensures frame { (s : List Place) → IsShown L.successor B.fronts (L.table links.old) self.old s
-            → KeepsBeside (L.table links.old) (L.table links.new) s }
+        ensures kept { KeepsBesideMembers L.successor B.fronts B.Rewrites (L.table links.old) (L.table links.new) self.old self.new [] }
     {
         let count = self.buckets.count();
         let mut at = 0;
@@ -65,7 +61,7 @@ impl<A, B> HashTable<A, B> {
 
 impl<A: HashAdapter, B> HashTable<A, B> {
     ghost use Rattle.std.specs.Fn.{CalledAt};
-    ghost use Rattle.ic_hash_table.specs.HashTable.{adapter_of, slots_of, number, Holds, HoldsSome, KeepsBuckets};
+    ghost use Rattle.ic_hash_table.specs.HashTable.{number, Holds, HoldsSome, KeepsBesideMembers};
     ghost use Rattle.ic_hash_table.specs.Retained.{AreAnswers, passing, failing};
 
     /// Takes each member out whose object fails the test. The others stay, in their order.
@@ -87,11 +83,7 @@ impl<A: HashAdapter, B> HashTable<A, B> {
             → (answers : List Bool) × (last : F) × AreAnswers (CalledAt F.FnMut) (O.values objects.now) keeps s answers last
             × Holds L.successor (number A.key_of A.hash_of) B.fronts (L.table links.new) self.new (O.values objects.now) (passing answers s)
             × L.Does links.old links.new (releases_each (failing answers s)) }
-        ensures adapter { adapter_of self.new ≡ adapter_of self.old }
-        ensures slots { slots_of self.new ≡ slots_of self.old }
-        ensures buckets { KeepsBuckets B.fronts B.Rewrites self.old self.new }
-        ensures frame { (s : List Place) → Holds L.successor (number A.key_of A.hash_of) B.fronts (L.table links.old) self.old (O.values objects.now) s
-            → KeepsBeside (L.table links.old) (L.table links.new) s }
+        ensures kept { KeepsBesideMembers L.successor B.fronts B.Rewrites (L.table links.old) (L.table links.new) self.old self.new [] }
     {
         self.retain_by(links, objects, &mut keeps);
     }
@@ -111,11 +103,7 @@ impl<A: HashAdapter, B> HashTable<A, B> {
             → (answers : List Bool) × AreAnswers (CalledAt F.FnMut) (O.values objects.now) keeps.old s answers keeps.new
             × Holds L.successor (number A.key_of A.hash_of) B.fronts (L.table links.new) self.new (O.values objects.now) (passing answers s)
             × L.Does links.old links.new (releases_each (failing answers s)) }
-        ensures adapter { adapter_of self.new ≡ adapter_of self.old }
-        ensures slots { slots_of self.new ≡ slots_of self.old }
-        ensures buckets { KeepsBuckets B.fronts B.Rewrites self.old self.new }
-        ensures frame { (s : List Place) → Holds L.successor (number A.key_of A.hash_of) B.fronts (L.table links.old) self.old (O.values objects.now) s
-            → KeepsBeside (L.table links.old) (L.table links.new) s }
+        ensures kept { KeepsBesideMembers L.successor B.fronts B.Rewrites (L.table links.old) (L.table links.new) self.old self.new [] }
     {
         let mut at = self.next(&*links, objects, None);
         while let Some(place) = at {

@@ -1,10 +1,10 @@
 -- What clauses see of a cursor that edits.
-use Rattle.std.specs.Prelude.{◌≡◌, List}
+use Rattle.std.specs.Prelude.{◌≡◌, List, [], ◌∷◌}
 use Rattle.std.specs.Borrow.{MutBor}
 use Rattle.ic_unsafe_ref.specs.declared.place.Place.{Place}
 use Rattle.ic_link_ops.specs.Tables.{Table, KeepsBeside}
 use Rattle.ic_link_ops.specs.LinkedList.{Neighbors}
-use Rattle.ic_ring.specs.Rings.{Shows}
+use Rattle.ic_ring.specs.Rings.{Shows, OthersStay}
 use Rattle.ic_ring.specs.RingCursors.{Stands}
 use Rattle.ic_ring.specs.declared.cursor_mut.CursorMut.{CursorMut}
 
@@ -39,3 +39,10 @@ module _ {T L : Type 0} where
     -- nothing is changed but entries of the ring and of these places
     abbrev pub KeepsBesideRing : CursorMut T L → CursorMut T L → (List Place → List Place) → Type 0
     KeepsBesideRing old new and = (s : List Place) → ShowsAt old s → KeepsBeside (table (links_of old)) (table (links_of new)) (and s)
+
+    -- AN EDIT LEAVES THE CURSOR in its ring, which has changed alone: the others stay, and each entry but its own and those of these places
+    pub record StaysInRing (old new : CursorMut T L) (and : List Place → List Place) : Type 0 where
+      pub stands : IsStanding new
+      pub same : SameRing old new
+      pub others : OthersStay neighbors (table (links_of old)) (table (links_of new)) (head_of old ∷ [])
+      pub frame : KeepsBesideRing old new and

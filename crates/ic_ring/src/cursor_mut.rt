@@ -51,7 +51,7 @@ impl<T, L> Drop for CursorMut<'_, T, L> {
 }
 
 impl<'a, T, L: LinkedListOps> CursorMut<'a, T, L> {
-    ghost use Rattle.ic_ring.specs.CursorMut.{links_of, head_of, at_of, IsBorrowed, IsStanding, SameRing, ShowsAt, KeepsBesideRing};
+    ghost use Rattle.ic_ring.specs.CursorMut.{links_of, head_of, at_of, IsBorrowed, IsStanding, SameRing, ShowsAt, KeepsBesideRing, StaysInRing};
     ghost use Rattle.ic_ring.specs.Cursor as reading;
 
     // A cursor at that place of the ring with this head.
@@ -146,10 +146,7 @@ impl<'a, T, L: LinkedListOps> CursorMut<'a, T, L> {
         ensures refused { OnErr result (L.Refused (links_of self.old) (links_of self.new) object) }
         ensures unchanged { IfErr result (λ refused. refused.0 ≡ object) }
         ensures at { at_of self.new ≡ at_of self.old }
-        ensures stands { IsStanding L.neighbors L.table self.new }
-        ensures others { OthersStay L.neighbors (L.table (links_of self.old)) (L.table (links_of self.new)) (head_of self.old ∷ []) }
-        ensures frame { KeepsBesideRing L.neighbors L.table self.old self.new (λ s. object ∷ head_of self.old ∷ s) }
-        ensures same { SameRing self.old self.new }
+        ensures kept { StaysInRing L.neighbors L.table self.old self.new (λ s. object ∷ head_of self.old ∷ s) }
     {
         insert_after(self.links, self.at, object)
     }
@@ -167,10 +164,7 @@ impl<'a, T, L: LinkedListOps> CursorMut<'a, T, L> {
         ensures refused { OnErr result (L.Refused (links_of self.old) (links_of self.new) object) }
         ensures unchanged { IfErr result (λ refused. refused.0 ≡ object) }
         ensures at { at_of self.new ≡ at_of self.old }
-        ensures stands { IsStanding L.neighbors L.table self.new }
-        ensures others { OthersStay L.neighbors (L.table (links_of self.old)) (L.table (links_of self.new)) (head_of self.old ∷ []) }
-        ensures frame { KeepsBesideRing L.neighbors L.table self.old self.new (λ s. object ∷ head_of self.old ∷ s) }
-        ensures same { SameRing self.old self.new }
+        ensures kept { StaysInRing L.neighbors L.table self.old self.new (λ s. object ∷ head_of self.old ∷ s) }
     {
         insert_before(self.links, self.at, object)
     }
@@ -189,10 +183,7 @@ impl<'a, T, L: LinkedListOps> CursorMut<'a, T, L> {
             → Some (at_of self.new) ≡ first_or (drop 1 gap.back) (Some (head_of self.old)) }
         ensures released { IfSome result (λ object. L.Does (links_of self.old) (links_of self.new) (releases object ∷ [])) }
         ensures null { IfNone result (links_of self.new ≡ links_of self.old) }
-        ensures stands { IsStanding L.neighbors L.table self.new }
-        ensures others { OthersStay L.neighbors (L.table (links_of self.old)) (L.table (links_of self.new)) (head_of self.old ∷ []) }
-        ensures frame { KeepsBesideRing L.neighbors L.table self.old self.new (λ s. head_of self.old ∷ s) }
-        ensures same { SameRing self.old self.new }
+        ensures kept { StaysInRing L.neighbors L.table self.old self.new (λ s. head_of self.old ∷ s) }
     {
         if self.at == self.head {
             return None;
@@ -221,10 +212,7 @@ impl<'a, T, L: LinkedListOps> CursorMut<'a, T, L> {
         ensures refused { IfErr result (ByCause ((at_of self.old ≡ head_of self.old) × (links_of self.new ≡ links_of self.old))
             ((at_of self.old ≢ head_of self.old) × L.Refused (links_of self.old) (links_of self.new) object)) }
         ensures unchanged { IfErr result (λ refused. (object_of refused ≡ object) × (at_of self.new ≡ at_of self.old)) }
-        ensures stands { IsStanding L.neighbors L.table self.new }
-        ensures others { OthersStay L.neighbors (L.table (links_of self.old)) (L.table (links_of self.new)) (head_of self.old ∷ []) }
-        ensures frame { KeepsBesideRing L.neighbors L.table self.old self.new (λ s. object ∷ head_of self.old ∷ s) }
-        ensures same { SameRing self.old self.new }
+        ensures kept { StaysInRing L.neighbors L.table self.old self.new (λ s. object ∷ head_of self.old ∷ s) }
     {
         if self.at == self.head {
             return Err(ReplaceError::Null(object));

@@ -12,6 +12,3 @@ returns-clause-removed g c front back held = c.remove_at.ensures.removed (g.O.Va
 
 pub returns-clause-released : goal.returns-clause-released
 returns-clause-released g c = rw c.new.ensures c.remove_at.ensures.released
-
-pub returns-clause-frame : goal.returns-clause-frame
-returns-clause-frame g c s held = c.remove_at.ensures.frame (g.O.Values.values c.args.objects.now) s held

@@ -18,6 +18,3 @@ returns-clause-inserted g c s held =
     on_ok c.insert_at.result held_with
     (c.insert_at.ensures.inserted (g.O.Values.values c.args.objects.now) s (record { front = []; back = k.chain }) held c.requires.placed c.requires.belongs.1
     k.shown refl (c.front-front.ensures ∙ k.shown.head))
-
-pub returns-clause-frame : goal.returns-clause-frame
-returns-clause-frame g c s held = c.insert_at.ensures.frame (g.O.Values.values c.args.objects.now) s held

@@ -25,13 +25,10 @@ returns g c =
         can_remove =
             let k = chain_of c.requires.held.1 c.args.self.at c.requires.belongs.0 in
             let shows = c.in_default.ensures.shows (record { front = []; back = k.chain }) k.shown refl (c.front-front.ensures ∙ k.shown.head) in
-            (rw c.insert_at.ensures.slots c.requires.belongs.0, ([], k.chain, rw member shows, c.of.ensures));
+            (rw c.insert_at.ensures.kept.slots c.requires.belongs.0, ([], k.chain, rw member shows, c.of.ensures));
         acquired = c.in_default.ensures.acquired;
-        adapter = c.insert_at.ensures.adapter;
-        slots = c.insert_at.ensures.slots;
-        buckets = c.insert_at.ensures.buckets;
         borrows = (refl, refl);
-        frame = λ s held. c.insert_at.ensures.frame objects s held;
+        kept = c.insert_at.ensures.kept;
         refused = tt;
         unchanged = tt;
       };

@@ -59,5 +59,14 @@ returns-clause-released g c s shown =
     let i = c.loop-at.invariant in
     all_done (i.each s shown) (all_none (g.B.BucketRow.fronts c.loop-at.self.buckets) (λ j less. i.none j (omega (arith, less, i.count, c.loop-at-test.false))))
 
-pub returns-clause-buckets : goal.returns-clause-buckets
-returns-clause-buckets g c = keeps_buckets g.met.B.BucketRow.rewrites_count c.loop-at.invariant.rewrites
+pub returns-clause-kept : goal.returns-clause-kept
+returns-clause-kept g c =
+    let i = c.loop-at.invariant in
+    record {
+      chains = record {
+        adapter = i.adapter;
+        buckets = keeps_buckets g.met.B.BucketRow.rewrites_count i.rewrites;
+        frame = λ s shown. (i.each s shown).frame;
+      };
+      slots = i.slots;
+    }

@@ -1,10 +1,12 @@
-use Rattle.std.proofs.Common.{◌≡◌, ◌<◌, None, length, ap, subst, ◌∙◌, arith}
+use Rattle.std.proofs.Common.{◌≡◌, ◌<◌, None, length, refl, ap, subst, ◌∙◌, arith}
 use Rattle.ic_hash_table.specs.declared.slots.Slots.{Slots}
 use Rattle.ic_hash_table.specs.HashTable.{number, BelongsIn}
 use Rattle.ic_hash_table.specs.SideBySide.{same_key}
 use Rattle.ic_hash_table.specs.Growth.{belongs_at, IsParted}
 use Rattle.ic_hash_table.specs.Searches.{matches}
 use Rattle.ic_hash_table.specs.Slots.{split_of}
+use Rattle.ic_link_ops.specs.Tables.{KeepsBeside}
+use Rattle.ic_hash_table.proofs.Callers.{shown_is_held}
 use Rattle.ic_hash_table.proofs.FoundMembers.{chain_placed}
 use Rattle.ic_hash_table.proofs.GrownTables.{parted_chain, held_grown, beside_grown}
 use Rattle.ic_hash_table.proofs.HeldTables.{frame_taken}
@@ -66,12 +68,15 @@ returns-clause-beside g c (s, held, side) =
     (keys_alike g.met.A.Key.Eq.laws (g.A.HashAdapter.key_of c.args.self.now.adapter) (g.O.Values.values c.args.objects.now))
     (by_keys c.args.self.now.slots) (by_keys c.grown-slots.result) side
 
-pub returns-clause-frame : goal.returns-clause-frame
-returns-clause-frame g c s held =
+pub returns-clause-kept : goal.returns-clause-kept
+returns-clause-kept g c =
+    let held = c.requires.held.1 in
     let e : c.split-from.result ≡ split_of c.grown-slots.result c.args.self.now.slots.used = c.split-from.ensures ∙ ap (split_of c.grown-slots.result) c.used-to.ensures in
     let room : c.args.self.now.slots.used < length (g.B.BucketRow.fronts c.args.self.now.buckets) = omega (arith, c.used-to.ensures, c.count.ensures, c.if-to-count.false) in
     let k = parted_chain g.L.SinglyLinkedListOps.successor (number g.A.HashAdapter.key_of g.A.HashAdapter.hash_of) g.B.BucketRow.fronts c.grown-slots.result c.grown-slots.ensures.splits room held in
-    frame_taken k k.shown (c.part_chain-stays.ensures.frame k.chain (rw (c.front.ensures, e) k.shown))
-
-pub returns-clause-buckets : goal.returns-clause-buckets
-returns-clause-buckets g c = keeps_buckets g.met.B.BucketRow.rewrites_count (g.met.B.BucketRow.rewrites_on _ _ _ c.set_front.ensures.rewrites c.set_front-2.ensures.rewrites)
+    record {
+      adapter = refl;
+      buckets = keeps_buckets g.met.B.BucketRow.rewrites_count (g.met.B.BucketRow.rewrites_on _ _ _ c.set_front.ensures.rewrites c.set_front-2.ensures.rewrites);
+      frame = λ s shown. subst (KeepsBeside (g.L.LinkOps.table c.args.links.now) (g.L.LinkOps.table c.part_chain-stays.new.links)) (shown_is_held held shown)
+          (frame_taken k k.shown (c.part_chain-stays.ensures.frame k.chain (rw (c.front.ensures, e) k.shown)));
+    }

@@ -5,6 +5,8 @@ use Rattle.ic_hash_table.specs.Chains.{ShowsFrom}
 use Rattle.ic_link_ops.specs.LinkSteps.{acquires}
 use Rattle.ic_link_ops.proofs.Walks.{few_places}
 use Rattle.ic_hash_table.specs.HashTable.{number, BelongsIn}
+use Rattle.ic_link_ops.specs.Tables.{KeepsBeside}
+use Rattle.ic_hash_table.proofs.Callers.{shown_is_held}
 use Rattle.ic_hash_table.proofs.Chains.{chains_free, chain_of_list}
 use Rattle.ic_hash_table.proofs.HeldTables.{held_put, frame_at}
 use Rattle.ic_hash_table.proofs.FoundMembers.{chain_of}
@@ -52,11 +54,17 @@ returns-clause-shows g c gap was after before =
 pub returns-clause-acquired : goal.returns-clause-acquired
 returns-clause-acquired g c = rw (← c.place.ensures) c.if-not-insert_between.ensures.acquired
 
-pub returns-clause-frame : goal.returns-clause-frame
-returns-clause-frame g c objects s held =
+pub returns-clause-kept : goal.returns-clause-kept
+returns-clause-kept g c =
     let k = c.requires.gap in
-    frame_at (chain_of held c.args.at c.requires.within) k.0 k.1
-    (rw c.place.ensures at (c.insert_between.ensures.frame k.0 (rw (c.from_front-chain.ensures, c.front.ensures) k.1) k.2 k.3))
-
-pub returns-clause-buckets : goal.returns-clause-buckets
-returns-clause-buckets g c = keeps_buckets g.met.B.BucketRow.rewrites_count c.set_front.ensures.rewrites
+    let held = c.requires.held.1.1 in
+    record {
+      chains = record {
+        adapter = refl;
+        buckets = keeps_buckets g.met.B.BucketRow.rewrites_count c.set_front.ensures.rewrites;
+        frame = λ s shown. subst (λ l. KeepsBeside (g.L.LinkOps.table c.args.links.now) (g.L.LinkOps.table c.insert_between.new.links) (c.args.object ∷ l)) (shown_is_held held shown)
+            (frame_at (chain_of held c.args.at c.requires.within) k.0 k.1
+            (rw c.place.ensures at (c.insert_between.ensures.frame k.0 (rw (c.from_front-chain.ensures, c.front.ensures) k.1) k.2 k.3)));
+      };
+      slots = refl;
+    }

@@ -35,9 +35,6 @@ returns-clause-beside g c (s, held, side) =
     let belongs = belongs_by_value c.args.self.now.slots (number g.A.HashAdapter.key_of g.A.HashAdapter.hash_of c.args.self.now.adapter) (g.O.Values.values c.args.objects.now) c.args.object c.value.result.now
     (rw c.place.ensures at c.value.ensures) (c.search-at.ensures.slot ∙ ap (λ k. slot_of c.args.self.now.slots (g.A.HashAdapter.hash_of c.args.self.now.adapter k)) c.get_key-key.ensures) in
     on_ok c.insert_at.result
-    (keys_beside g.met.A.Key.Eq.laws g.A.HashAdapter.key_of a (λ v w e. g.met.A.HashAdapter.equal_alike a (g.A.HashAdapter.key_of a v) (g.A.HashAdapter.key_of a w) e) c.insert_at.ensures.adapter
+    (keys_beside g.met.A.Key.Eq.laws g.A.HashAdapter.key_of a (λ v w e. g.met.A.HashAdapter.equal_alike a (g.A.HashAdapter.key_of a v) (g.A.HashAdapter.key_of a w) e) c.insert_at.ensures.kept.chains.adapter
     c.args.object c.value.result.now (rw c.place.ensures at c.value.ensures) c.search-at.result.2 stop held.distinct (rw c.get_key-key.ensures at (c.search-at.ensures.found s held)) side)
     (c.insert_at.ensures.inserted (g.O.Values.values c.args.objects.now) s stop.gap held c.requires.placed belongs (rw stop.whole k.shown) stop.after stop.here)
-
-pub returns-clause-frame : goal.returns-clause-frame
-returns-clause-frame g c s held = c.insert_at.ensures.frame (g.O.Values.values c.args.objects.now) s held

@@ -1,4 +1,5 @@
 use Rattle.std.proofs.Common.{[], refl, ◌∙◌}
+use Rattle.ic_hash_table.proofs.Callers.{held_shown}
 use Rattle.ic_hash_table.proofs.FoundMembers.{chain_of}
 use Rattle.ic_hash_table.proofs.HeldTables.{held_with, on_ok}
 use Rattle.ic_hash_table.proofs.table.HashTable.insert_keyed.Goals as goal
@@ -19,5 +20,7 @@ returns-clause-inserted g c s held =
     (c.insert_at.ensures.inserted (g.L.Values.values c.args.links.now) s (record { front = []; back = k.chain }) held c.requires.placed
     (rw c.place.ensures at c.slot_of_object-at.ensures.belongs) k.shown refl (c.front-front.ensures ∙ k.shown.head))
 
-pub returns-clause-frame : goal.returns-clause-frame
-returns-clause-frame g c s held = c.insert_at.ensures.frame (g.L.Values.values c.args.links.now) s held
+-- the values are part of the extent, which stays
+pub returns-clause-values : goal.returns-clause-values
+returns-clause-values g c =
+    let q = c.requires.held in g.met.L.LinkValues.values_stay _ _ (c.insert_at.ensures.kept.chains.frame q.0 (held_shown q.1)).extent

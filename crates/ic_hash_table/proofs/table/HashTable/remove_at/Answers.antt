@@ -1,5 +1,7 @@
-use Rattle.std.proofs.Common.{◌-◌, ◌++◌, arith}
+use Rattle.std.proofs.Common.{◌-◌, ◌++◌, refl, subst, arith}
 use Rattle.ic_hash_table.specs.HashTable.{number}
+use Rattle.ic_link_ops.specs.Tables.{KeepsBeside}
+use Rattle.ic_hash_table.proofs.Callers.{shown_is_held}
 use Rattle.ic_hash_table.proofs.FoundMembers.{chain_of}
 use Rattle.ic_hash_table.proofs.HeldTables.{held_taken, frame_taken, some_counted}
 use Rattle.ic_hash_table.proofs.KeptBuckets.{front_kept, keeps_buckets}
@@ -22,10 +24,16 @@ returns-clause-removed g c objects front back held =
     held_taken g.L.SinglyLinkedListOps.successor (number g.A.HashAdapter.key_of g.A.HashAdapter.hash_of) g.B.BucketRow.fronts c.args.place c.set_front.new.self (c.args.self.now.len - 1) c.requires.within c.set_front.ensures.fronts
     front back held m.0 m.1 m.2 (c.unlink_behind-front.ensures.removed m.0 m.1 (rw c.front.ensures m.2) m.3) (c.unlink_behind-front.ensures.frame m.0 m.1 (rw c.front.ensures m.2) m.3) (omega (arith, some))
 
-pub returns-clause-frame : goal.returns-clause-frame
-returns-clause-frame g c objects s held =
+pub returns-clause-kept : goal.returns-clause-kept
+returns-clause-kept g c =
     let m = c.requires.member in
-    frame_taken (chain_of held c.args.at c.requires.within) m.2 (c.unlink_behind-front.ensures.frame m.0 m.1 (rw c.front.ensures m.2) m.3)
-
-pub returns-clause-buckets : goal.returns-clause-buckets
-returns-clause-buckets g c = keeps_buckets g.met.B.BucketRow.rewrites_count c.set_front.ensures.rewrites
+    let held = c.requires.held.1.1 in
+    record {
+      chains = record {
+        adapter = refl;
+        buckets = keeps_buckets g.met.B.BucketRow.rewrites_count c.set_front.ensures.rewrites;
+        frame = λ s shown. subst (KeepsBeside (g.L.LinkOps.table c.args.links.now) (g.L.LinkOps.table c.unlink_behind-front.new.links)) (shown_is_held held shown)
+            (frame_taken (chain_of held c.args.at c.requires.within) m.2 (c.unlink_behind-front.ensures.frame m.0 m.1 (rw c.front.ensures m.2) m.3));
+      };
+      slots = refl;
+    }

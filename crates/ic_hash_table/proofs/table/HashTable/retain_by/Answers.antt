@@ -1,4 +1,4 @@
-use Rattle.std.proofs.Common.{◌≡◌, Some, IsSome, List, [], ◌∷◌, ◌++◌, drop, refl, sym, ◌∙◌}
+use Rattle.std.proofs.Common.{◌≡◌, Some, IsSome, List, [], ◌∷◌, ◌++◌, drop, refl, sym, subst, ◌∙◌}
 use denote.Param.Always.{mut_next}
 use Rattle.std.specs.Fn.{CalledAt}
 use Rattle.ic_unsafe_ref.specs.declared.place.Place.{Place}
@@ -9,6 +9,8 @@ use Rattle.ic_link_ops.proofs.SinglyLists.{successors_covered}
 use Rattle.ic_hash_table.specs.HashTable.{number, Holds}
 use Rattle.ic_hash_table.specs.Retained.{TellsAt}
 use Rattle.ic_hash_table.proofs.RetainedMembers.{Retains, retains_none, turn_less, ahead_first, holds_there, holds_behind, retains_kept, retains_gone, retains_all}
+use Rattle.ic_link_ops.specs.Tables.{KeepsBeside}
+use Rattle.ic_hash_table.proofs.Callers.{held_shown, shown_is_held}
 use Rattle.ic_hash_table.proofs.KeptBuckets.{keeps_buckets}
 use Rattle.ic_hash_table.proofs.table.HashTable.retain_by.Goals as goal
 use Rattle.ic_hash_table.proofs.table.HashTable.retain_by.Given.{Over}
@@ -66,7 +68,7 @@ gone g c s held =
     let e = rw c.new.ensures at c.remove.ensures in
     let holds = holds_there r in
     let yes = (e.answer _ holds).1 (split_member r.kept c.in-Some.place (drop 1 r.ahead)) in
-    let more = retains_gone r g.met.L.LinkOps.does_on next goes (e.removed r.kept (drop 1 r.ahead) holds) (rw yes at e.released) (e.frame _ holds) in
+    let more = retains_gone r g.met.L.LinkOps.does_on next goes (e.removed r.kept (drop 1 r.ahead) holds) (rw yes at e.released) (e.kept.chains.frame _ (held_shown holds)) in
     (r, more.0, more.1)
 
 pub loop-at-smaller-then-not-keeps : goal.loop-at-smaller-then-not-keeps
@@ -77,9 +79,9 @@ loop-at-smaller-then-not-keeps g c =
 
 pub loop-at-preserved-then-not-keeps : goal.loop-at-preserved-then-not-keeps
 loop-at-preserved-then-not-keeps g c = record {
-  adapter = c.remove.ensures.adapter ∙ c.loop-at.invariant.adapter;
-  slots = c.remove.ensures.slots ∙ c.loop-at.invariant.slots;
-  rewrites = g.met.B.BucketRow.rewrites_on _ _ _ c.loop-at.invariant.rewrites c.remove.ensures.buckets.rewrites;
+  adapter = c.remove.ensures.kept.chains.adapter ∙ c.loop-at.invariant.adapter;
+  slots = c.remove.ensures.kept.slots ∙ c.loop-at.invariant.slots;
+  rewrites = g.met.B.BucketRow.rewrites_on _ _ _ c.loop-at.invariant.rewrites c.remove.ensures.kept.chains.buckets.rewrites;
   callable = mut_next g.F.FnMut _ _ _ _ _ c.keeps.ensures refl c.loop-at.invariant.callable;
   each = λ s held. (gone g c s held).1;
 }
@@ -102,5 +104,15 @@ loop-at-preserved g c = record {
 pub returns-clause-asked : goal.returns-clause-asked
 returns-clause-asked g c s held = retains_all (rw c.in_default.is at (c.loop-at.invariant.each s held))
 
-pub returns-clause-buckets : goal.returns-clause-buckets
-returns-clause-buckets g c = keeps_buckets g.met.B.BucketRow.rewrites_count c.loop-at.invariant.rewrites
+pub returns-clause-kept : goal.returns-clause-kept
+returns-clause-kept g c =
+    let i = c.loop-at.invariant in
+    let held = c.requires.held.1 in
+    record {
+      chains = record {
+        adapter = i.adapter;
+        buckets = keeps_buckets g.met.B.BucketRow.rewrites_count i.rewrites;
+        frame = λ s shown. subst (KeepsBeside (g.L.LinkOps.table c.args.links.now) (g.L.LinkOps.table c.loop-at.links)) (shown_is_held held shown) (i.each c.requires.held.0 held).frame;
+      };
+      slots = i.slots;
+    }

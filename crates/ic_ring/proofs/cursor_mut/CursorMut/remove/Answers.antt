@@ -13,8 +13,13 @@ pub returns-then-eq-clause-moved : goal.returns-then-eq-clause-moved
 returns-then-eq-clause-moved g c gap shown is =
     null_behind c.args.self.now.head gap.front gap.back shown (tested_same c.args.self.now.at c.args.self.now.head (sym c.eq.ensures ∙ c.if-eq.true)) is
 
-pub returns-then-eq-clause-others : goal.returns-then-eq-clause-others
-returns-then-eq-clause-others g c = others_same (c.args.self.now.head ∷ []) refl
+pub returns-then-eq-clause-kept : goal.returns-then-eq-clause-kept
+returns-then-eq-clause-kept g c = record {
+  stands = c.requires.stands;
+  same = (refl, refl);
+  others = others_same (c.args.self.now.head ∷ []) refl;
+  frame = λ s shown. record { extent = refl; others = λ q out. refl };
+}
 
 pub prev_of-prev-requires : goal.prev_of-prev-requires
 prev_of-prev-requires g c = in_ring (g.L.LinkOps.table c.args.self.now.links.now) c.requires.stands
@@ -45,26 +50,25 @@ returns-clause-moved g c gap shown is =
     let other = tested_other c.args.self.now.at c.args.self.now.head (sym c.eq.ensures ∙ c.if-eq.false) in
     gone_on (g.L.LinkOps.table c.args.self.now.links.now) gap.front gap.back other is shown c.next_of-next.ensures
 
-pub returns-clause-stands : goal.returns-clause-stands
-returns-clause-stands g c =
-    let t = g.L.LinkOps.table c.args.self.now.links.now in
-    let head = c.args.self.now.head in
-    let other = tested_other c.args.self.now.at head (sym c.eq.ensures ∙ c.if-eq.false) in
-    let k = c.requires.stands in
-    let ahead = gap_ahead head k.0.front k.0.back k.2 in
-    let gap = ahead.0 in
-    let shown = subst (Shows g.L.LinkedListOps.neighbors t head) (sym ahead.1) k.1 in
-    stands_ahead (g.L.LinkOps.table c.unlink.new.links) head gap.front (drop 1 gap.back) (taken_out gap.front gap.back other ahead.2 shown c.unlink.ensures.taken)
-    (gone_on t gap.front gap.back other ahead.2 shown c.next_of-next.ensures)
-
-pub returns-clause-others : goal.returns-clause-others
-returns-clause-others g c = others_without (g.L.LinkOps.table c.args.self.now.links.now) c.requires.stands c.unlink.ensures.others
-
-pub returns-clause-frame : goal.returns-clause-frame
-returns-clause-frame g c s shown =
-    let law = neighbors_covered g.L.LinkedListOps.neighbors g.L.LinkOps.table g.met.L.LinkOps.linked_is_covered g.met.L.LinkedListOps.linked_alike in
-    let ring = ring_at (g.L.LinkOps.table c.args.self.now.links.now) c.requires.stands (law c.args.self.now.links.now) s shown in
-    let seen = seen_at ring.0 ring.1 in record {
-      extent = c.unlink.ensures.extent;
-      others = λ q out. ring_frame seen.0 seen.1 c.prev_of-prev.ensures c.next_of-next.ensures c.unlink.ensures.beside q (seen.2 q out);
-    }
+pub returns-clause-kept : goal.returns-clause-kept
+returns-clause-kept g c = record {
+  stands =
+      let t = g.L.LinkOps.table c.args.self.now.links.now in
+      let head = c.args.self.now.head in
+      let other = tested_other c.args.self.now.at head (sym c.eq.ensures ∙ c.if-eq.false) in
+      let k = c.requires.stands in
+      let ahead = gap_ahead head k.0.front k.0.back k.2 in
+      let gap = ahead.0 in
+      let shown = subst (Shows g.L.LinkedListOps.neighbors t head) (sym ahead.1) k.1 in
+      stands_ahead (g.L.LinkOps.table c.unlink.new.links) head gap.front (drop 1 gap.back) (taken_out gap.front gap.back other ahead.2 shown c.unlink.ensures.taken)
+      (gone_on t gap.front gap.back other ahead.2 shown c.next_of-next.ensures);
+  same = (refl, refl);
+  others = others_without (g.L.LinkOps.table c.args.self.now.links.now) c.requires.stands c.unlink.ensures.others;
+  frame = λ s shown.
+      let law = neighbors_covered g.L.LinkedListOps.neighbors g.L.LinkOps.table g.met.L.LinkOps.linked_is_covered g.met.L.LinkedListOps.linked_alike in
+      let ring = ring_at (g.L.LinkOps.table c.args.self.now.links.now) c.requires.stands (law c.args.self.now.links.now) s shown in
+      let seen = seen_at ring.0 ring.1 in record {
+        extent = c.unlink.ensures.extent;
+        others = λ q out. ring_frame seen.0 seen.1 c.prev_of-prev.ensures c.next_of-next.ensures c.unlink.ensures.beside q (seen.2 q out);
+      };
+}

@@ -3,6 +3,7 @@ use Rattle.ic_unsafe_ref.specs.declared.place.Place.{Place}
 use Rattle.ic_hash_table.specs.HashTable.{number, Holds}
 use Rattle.ic_hash_table.specs.SideBySide.{AreSideBySide, same_key}
 use Rattle.ic_hash_table.proofs.SideBySideLemmas.{keys_alike}
+use Rattle.ic_hash_table.proofs.Callers.{held_shown}
 use Rattle.keyed_tests.proofs.HashTables.{removed_beside}
 use Rattle.keyed_tests.proofs.Extents.{places_of}
 use Rattle.keyed_tests.proofs.hash_table.equals.take_beside.Goals as goal
@@ -11,7 +12,7 @@ pub remove-requires-clause-held : goal.remove-requires-clause-held
 remove-requires-clause-held g c = (c.requires.beside.0, c.requires.beside.1)
 
 pub returns-clause-covers : goal.returns-clause-covers
-returns-clause-covers g c = let q = c.requires.beside in places_of (c.remove.ensures.frame q.0 q.1).extent c.requires.covers
+returns-clause-covers g c = let q = c.requires.beside in places_of (c.remove.ensures.kept.chains.frame q.0 (held_shown q.1)).extent c.requires.covers
 
 pub returns-clause-beside : goal.returns-clause-beside
 returns-clause-beside g c =
@@ -20,7 +21,7 @@ returns-clause-beside g c =
     let hash = number g.A.HashAdapter.key_of g.A.HashAdapter.hash_of in
     let key_of = g.A.HashAdapter.key_of c.args.table.now.adapter in
     subst (λ a. (u : List Place) × Holds g.L.SinglyLinkedListOps.successor hash g.B.BucketRow.fronts (g.L.LinkOps.table c.remove.new.links) c.remove.new.self c.args.objects.now u
-    × AreSideBySide (same_key g.A.Key.PartialEq.eq (g.A.HashAdapter.key_of a) c.args.objects.now) u) (sym e.adapter)
+    × AreSideBySide (same_key g.A.Key.PartialEq.eq (g.A.HashAdapter.key_of a) c.args.objects.now) u) (sym e.kept.chains.adapter)
     (removed_beside (same_key g.A.Key.PartialEq.eq key_of c.args.objects.now) (keys_alike g.met.A.Key.Eq.laws key_of c.args.objects.now)
     (Holds g.L.SinglyLinkedListOps.successor hash g.B.BucketRow.fronts (g.L.LinkOps.table c.args.links.now) c.args.table.now c.args.objects.now)
     (Holds g.L.SinglyLinkedListOps.successor hash g.B.BucketRow.fronts (g.L.LinkOps.table c.remove.new.links) c.remove.new.self c.args.objects.now)

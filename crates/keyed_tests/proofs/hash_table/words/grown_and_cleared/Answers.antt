@@ -24,13 +24,13 @@ clear-requires g c =
 
 pub returns-clause-zero : goal.returns-clause-zero
 returns-clause-zero g c =
-    let grown = lent_on place_at word_of c.with_used-table.result.buckets c.put.new.table.buckets c.grow_one-is_grown.new.self.buckets c.put.ensures.buckets.rewrites c.grow_one-is_grown.ensures.buckets.rewrites in
-    let r = lent_on place_at word_of c.with_used-table.result.buckets c.grow_one-is_grown.new.self.buckets c.clear.new.self.buckets grown c.clear.ensures.buckets.rewrites in
+    let grown = lent_on place_at word_of c.with_used-table.result.buckets c.put.new.table.buckets c.grow_one-is_grown.new.self.buckets c.put.ensures.buckets.rewrites c.grow_one-is_grown.ensures.kept.buckets.rewrites in
+    let r = lent_on place_at word_of c.with_used-table.result.buckets c.grow_one-is_grown.new.self.buckets c.clear.new.self.buckets grown c.clear.ensures.kept.chains.buckets.rewrites in
     let was = subst (λ (b : MutBor (List ℕ)). AreRewritten place_at word_of b.now c.clear.new.self.buckets.now) c.with_used-table.ensures.buckets r.1 in
     rw c.into_buckets.ensures (emptied_words _ _ was c.requires.zero c.clear.ensures.empty.none)
 
 pub returns-clause-lent : goal.returns-clause-lent
 returns-clause-lent g c =
-    let grown = lent_on place_at word_of c.with_used-table.result.buckets c.put.new.table.buckets c.grow_one-is_grown.new.self.buckets c.put.ensures.buckets.rewrites c.grow_one-is_grown.ensures.buckets.rewrites in
-    let r = lent_on place_at word_of c.with_used-table.result.buckets c.grow_one-is_grown.new.self.buckets c.clear.new.self.buckets grown c.clear.ensures.buckets.rewrites in
+    let grown = lent_on place_at word_of c.with_used-table.result.buckets c.put.new.table.buckets c.grow_one-is_grown.new.self.buckets c.put.ensures.buckets.rewrites c.grow_one-is_grown.ensures.kept.buckets.rewrites in
+    let r = lent_on place_at word_of c.with_used-table.result.buckets c.grow_one-is_grown.new.self.buckets c.clear.new.self.buckets grown c.clear.ensures.kept.chains.buckets.rewrites in
     ap (λ (b : MutBor (List ℕ)). b.ghost_name) c.into_buckets.ensures ∙ r.0 ∙ ap (λ (b : MutBor (List ℕ)). b.ghost_name) c.with_used-table.ensures.buckets

@@ -14,8 +14,8 @@ returns-in-FirstInsertAfter g c =
     let e = c.insert_after.ensures in
     let head = m.same.0 ∙ k.head in
     let done : TwoRings g.L.LinkedListOps.neighbors (g.L.LinkOps.table c.insert_after.new.self.links.now) c.args.ring.now c.args.other.now =
-    kept_by g.L.LinkedListOps.neighbors (g.L.LinkOps.table c.move_next.new.self.links.now) _ (join e.stands.0) head (e.same.0 ∙ head)
-    (subst (λ l. TwoRings g.L.LinkedListOps.neighbors (g.L.LinkOps.table l) c.args.ring.now c.args.other.now) (sym (m.links ∙ k.borrows.1)) c.requires.two) (e.frame _ m.stands.1).extent e.stands.1 e.others in
+    kept_by g.L.LinkedListOps.neighbors (g.L.LinkOps.table c.move_next.new.self.links.now) _ (join e.kept.stands.0) head (e.kept.same.0 ∙ head)
+    (subst (λ l. TwoRings g.L.LinkedListOps.neighbors (g.L.LinkOps.table l) c.args.ring.now c.args.other.now) (sym (m.links ∙ k.borrows.1)) c.requires.two) (e.kept.frame _ m.stands.1).extent e.kept.stands.1 e.kept.others in
     record { two = search (rules, done) }
 
 pub returns-in-LastInsertBefore : goal.returns-in-LastInsertBefore
@@ -25,8 +25,8 @@ returns-in-LastInsertBefore g c =
     let e = c.insert_before.ensures in
     let head = m.same.0 ∙ k.head in
     let done : TwoRings g.L.LinkedListOps.neighbors (g.L.LinkOps.table c.insert_before.new.self.links.now) c.args.ring.now c.args.other.now =
-    kept_by g.L.LinkedListOps.neighbors (g.L.LinkOps.table c.move_prev.new.self.links.now) _ (join e.stands.0) head (e.same.0 ∙ head)
-    (subst (λ l. TwoRings g.L.LinkedListOps.neighbors (g.L.LinkOps.table l) c.args.ring.now c.args.other.now) (sym (m.links ∙ k.borrows.1)) c.requires.two) (e.frame _ m.stands.1).extent e.stands.1 e.others in
+    kept_by g.L.LinkedListOps.neighbors (g.L.LinkOps.table c.move_prev.new.self.links.now) _ (join e.kept.stands.0) head (e.kept.same.0 ∙ head)
+    (subst (λ l. TwoRings g.L.LinkedListOps.neighbors (g.L.LinkOps.table l) c.args.ring.now c.args.other.now) (sym (m.links ∙ k.borrows.1)) c.requires.two) (e.kept.frame _ m.stands.1).extent e.kept.stands.1 e.kept.others in
     record { two = search (rules, done) }
 
 pub returns-in-FirstRemove : goal.returns-in-FirstRemove
@@ -36,8 +36,8 @@ returns-in-FirstRemove g c =
     let e = c.remove.ensures in
     let head = m.same.0 ∙ k.head in
     let done : TwoRings g.L.LinkedListOps.neighbors (g.L.LinkOps.table c.remove.new.self.links.now) c.args.ring.now c.args.other.now =
-    kept_by g.L.LinkedListOps.neighbors (g.L.LinkOps.table c.move_next-in-FirstRemove.new.self.links.now) _ (join e.stands.0) head (e.same.0 ∙ head)
-    (subst (λ l. TwoRings g.L.LinkedListOps.neighbors (g.L.LinkOps.table l) c.args.ring.now c.args.other.now) (sym (m.links ∙ k.borrows.1)) c.requires.two) (e.frame _ m.stands.1).extent e.stands.1 e.others in
+    kept_by g.L.LinkedListOps.neighbors (g.L.LinkOps.table c.move_next-in-FirstRemove.new.self.links.now) _ (join e.kept.stands.0) head (e.kept.same.0 ∙ head)
+    (subst (λ l. TwoRings g.L.LinkedListOps.neighbors (g.L.LinkOps.table l) c.args.ring.now c.args.other.now) (sym (m.links ∙ k.borrows.1)) c.requires.two) (e.kept.frame _ m.stands.1).extent e.kept.stands.1 e.kept.others in
     record { two = search (rules, done) }
 
 pub returns-in-LastReplaceWith : goal.returns-in-LastReplaceWith
@@ -47,8 +47,8 @@ returns-in-LastReplaceWith g c =
     let e = c.replace_with.ensures in
     let head = m.same.0 ∙ k.head in
     let done : TwoRings g.L.LinkedListOps.neighbors (g.L.LinkOps.table c.replace_with.new.self.links.now) c.args.ring.now c.args.other.now =
-    kept_by g.L.LinkedListOps.neighbors (g.L.LinkOps.table c.move_prev-in-LastReplaceWith.new.self.links.now) _ (join e.stands.0) head (e.same.0 ∙ head)
-    (subst (λ l. TwoRings g.L.LinkedListOps.neighbors (g.L.LinkOps.table l) c.args.ring.now c.args.other.now) (sym (m.links ∙ k.borrows.1)) c.requires.two) (e.frame _ m.stands.1).extent e.stands.1 e.others in
+    kept_by g.L.LinkedListOps.neighbors (g.L.LinkOps.table c.move_prev-in-LastReplaceWith.new.self.links.now) _ (join e.kept.stands.0) head (e.kept.same.0 ∙ head)
+    (subst (λ l. TwoRings g.L.LinkedListOps.neighbors (g.L.LinkOps.table l) c.args.ring.now c.args.other.now) (sym (m.links ∙ k.borrows.1)) c.requires.two) (e.kept.frame _ m.stands.1).extent e.kept.stands.1 e.kept.others in
     record { two = search (rules, done) }
 
 pub returns : goal.returns

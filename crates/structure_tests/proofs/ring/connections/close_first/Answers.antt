@@ -12,5 +12,5 @@ returns-clause-closed g c one s shown =
     let closed = on_first c.args.queue.now _ (m.same.0 ∙ k.head) (one ∷ s) c.remove-closed.result e.answer on shown.distinct.0 in
     let left = holds_there c.remove-closed.result closed (e.removed (record { front = []; back = one ∷ s }) (rw (m.links, k.borrows.1, m.same.0, k.head) shown) on) in
     let next = rw (m.same.0, k.head) at (e.moved (record { front = []; back = one ∷ s }) (rw (m.links, k.borrows.1, m.same.0, k.head) shown) on) in
-    let done : Shows g.L.LinkedListOps.neighbors (g.L.LinkOps.table c.remove-closed.new.self.links.now) c.args.queue.now s = rw (e.same.0, m.same.0, k.head) at left in
-    (closed, search (rules, done), on_first c.args.queue.now _ (e.same.0 ∙ m.same.0 ∙ k.head) s c.get_ptr.result c.get_ptr.ensures next shown.distinct.0.1)
+    let done : Shows g.L.LinkedListOps.neighbors (g.L.LinkOps.table c.remove-closed.new.self.links.now) c.args.queue.now s = rw (e.kept.same.0, m.same.0, k.head) at left in
+    (closed, search (rules, done), on_first c.args.queue.now _ (e.kept.same.0 ∙ m.same.0 ∙ k.head) s c.get_ptr.result c.get_ptr.ensures next shown.distinct.0.1)
