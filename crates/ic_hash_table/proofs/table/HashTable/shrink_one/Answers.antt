@@ -65,12 +65,12 @@ returns-clause-kept g c = record {
   adapter = refl;
   buckets = keeps_buckets g.met.B.BucketRow.rewrites_count (g.met.B.BucketRow.rewrites_on _ _ _ c.set_front.ensures.rewrites c.set_front-2.ensures.rewrites);
   frame = λ s shown.
-          let split = c.shrunk-slots.ensures.splits in
-          let within : c.shrunk-slots.result.used < length (g.B.BucketRow.fronts c.args.self.now.buckets) = omega (arith, split.used, shown.enough) in
-          let l = last_chain g.L.SinglyLinkedListOps.successor (λ i p. ⊤) (λ i p. ⊤) c.shrunk-slots.result.used (split_of c.args.self.now.slots c.shrunk-slots.result.used) split.apart (λ j p n b. tt) (λ p b. tt) _ _ _ shown.distinct shown.chained within in
-          let j = joined_chain g.L.SinglyLinkedListOps.successor (λ i p. ⊤) (λ i p. ⊤) c.shrunk-slots.result.used (split_of c.args.self.now.slots c.shrunk-slots.result.used) split.apart (λ j p n b. tt) (λ p b. tt) _ _ _ shown.distinct shown.chained within in
-          let j_shown = joined_shown g.L.SinglyLinkedListOps.successor (λ i p. ⊤) (λ i p. ⊤) c.shrunk-slots.result.used (split_of c.args.self.now.slots c.shrunk-slots.result.used) split.apart (λ j p n b. tt) (λ p b. tt) _ _ _ shown.distinct shown.chained within in
-          let apart = chains_apart g.L.SinglyLinkedListOps.successor (λ i p. ⊤) (λ i p. ⊤) c.shrunk-slots.result.used (split_of c.args.self.now.slots c.shrunk-slots.result.used) split.apart (λ j p n b. tt) (λ p b. tt) _ _ _ shown.distinct shown.chained within in
-          joined_frame g.L.SinglyLinkedListOps.successor (λ i p. ⊤) (λ i p. ⊤) c.shrunk-slots.result.used (split_of c.args.self.now.slots c.shrunk-slots.result.used) split.apart (λ j p n b. tt) (λ p b. tt) _ _ _ shown.distinct shown.chained within
-          (c.join_chains-front.ensures.frame l.chain j.chain (rw (c.front.ensures, c.used-last.ensures) l.shown) (rw (c.front-2.ensures, c.split-to.ensures, c.used-last.ensures) j_shown) apart);
+      let split = c.shrunk-slots.ensures.splits in
+      let within : c.shrunk-slots.result.used < length (g.B.BucketRow.fronts c.args.self.now.buckets) = omega (arith, split.used, shown.enough) in
+      let l = last_chain g.L.SinglyLinkedListOps.successor (λ i p. ⊤) (λ i p. ⊤) c.shrunk-slots.result.used (split_of c.args.self.now.slots c.shrunk-slots.result.used) split.apart (λ j p n b. tt) (λ p b. tt) _ _ _ shown.distinct shown.chained within in
+      let j = joined_chain g.L.SinglyLinkedListOps.successor (λ i p. ⊤) (λ i p. ⊤) c.shrunk-slots.result.used (split_of c.args.self.now.slots c.shrunk-slots.result.used) split.apart (λ j p n b. tt) (λ p b. tt) _ _ _ shown.distinct shown.chained within in
+      let j_shown = joined_shown g.L.SinglyLinkedListOps.successor (λ i p. ⊤) (λ i p. ⊤) c.shrunk-slots.result.used (split_of c.args.self.now.slots c.shrunk-slots.result.used) split.apart (λ j p n b. tt) (λ p b. tt) _ _ _ shown.distinct shown.chained within in
+      let apart = chains_apart g.L.SinglyLinkedListOps.successor (λ i p. ⊤) (λ i p. ⊤) c.shrunk-slots.result.used (split_of c.args.self.now.slots c.shrunk-slots.result.used) split.apart (λ j p n b. tt) (λ p b. tt) _ _ _ shown.distinct shown.chained within in
+      joined_frame g.L.SinglyLinkedListOps.successor (λ i p. ⊤) (λ i p. ⊤) c.shrunk-slots.result.used (split_of c.args.self.now.slots c.shrunk-slots.result.used) split.apart (λ j p n b. tt) (λ p b. tt) _ _ _ shown.distinct shown.chained within
+      (c.join_chains-front.ensures.frame l.chain j.chain (rw (c.front.ensures, c.used-last.ensures) l.shown) (rw (c.front-2.ensures, c.split-to.ensures, c.used-last.ensures) j_shown) apart);
 }
