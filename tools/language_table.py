@@ -1,4 +1,4 @@
-"""The table of docs/LIBRARY.md that says what each language has: its types, and by which letters its calls are for which families."""
+"""What each language has: the table of docs/LIBRARY.md has its types, and a page of the book says by which letters its calls are for which families."""
 
 import re
 
@@ -130,16 +130,30 @@ def type_rows():
         yield f"| {title} | {' | '.join(ALSO.get(title, '----'))} | {', '.join(f'`{it}`' for it in types)} |"
 
 
+# What the page of the book begins with. Its links lead from a folder of the repository.
+HEAD = """# What each language has
+
+A cell has the letters of the [families](../docs/LIBRARY.md#what-each-language-has) that have this call in that language, and its name if it is another one there. In JavaScript `push_front` is `pushFront`. If a call of Rust or
+Rattle has other forms, whose names end in `_mut`, `_owning` or `_keyed`, one row is for all of them.
+
+"""
+
+
 def table():
-    """The lines of the page."""
-    lines = [f"| | {' | '.join(LANGUAGES)} |", "|---|---|---|---|---|---|", *type_rows()]
+    """The lines of docs/LIBRARY.md: the types."""
+    return "\n".join([f"| | {' | '.join(LANGUAGES)} |", "|---|---|---|---|---|---|", *type_rows()]) + "\n"
+
+
+def page():
+    """The page of the book: the calls."""
+    lines = [f"| | {' | '.join(LANGUAGES)} |", "|---|---|---|---|---|---|"]
     found = rows()
     first = [row for row in found if not row.startswith("cursor: ")]
     for title, names in (("A call", first), ("A call of a cursor, in C++ of an iterator", [row for row in found if row not in first])):
         lines.append(f"| **{title}** | | | | | |")
         shown = sorted(names, key=lambda row: (found[row]["C"] == {}, found[row]["C++"] == {} and found[row]["Rust"] == {}))
         lines += [f"| {label(row)} | {' | '.join(cell(found[row][it]) for it in LANGUAGES)} |" for row in shown]
-    return "\n".join(lines) + "\n"
+    return HEAD + "\n".join(lines) + "\n"
 
 
 def label(row):

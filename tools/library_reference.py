@@ -5,6 +5,7 @@ import re
 
 import call_table
 import call_texts
+import language_table
 from call_handles import function, has_handle, macro, renamed
 from checks import ROOT
 from language_table import canonical
@@ -200,9 +201,14 @@ def rust_page(entries):
     return text
 
 
+def languages_page():
+    """What each language has, call by call."""
+    return language_table.page().replace(".md#", ".html#")
+
+
 def make(book, to_html):
     """Writes the pages into the book."""
-    for name, text in (("index", common_page(book.entries)), ("rust", rust_page(book.entries)),
+    for name, text in (("index", common_page(book.entries)), ("languages", languages_page()), ("rust", rust_page(book.entries)),
                        *((family, family_page(family, book.entries)) for family in FAMILIES)):
         title = re.match(r"# (.*)", text)[1]
         body = re.sub(r"(<table.*?</table>)", r'<div class="wide">\1</div>', to_html(text), flags=re.S)
