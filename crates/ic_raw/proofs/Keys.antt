@@ -1,7 +1,7 @@
 -- Members that searches find.
-use Rattle.std.proofs.Common.{◌≡◌, ◌≢◌, ℕ, ◌+◌, ◌<◌, ◌≤◌, Bool, true, false, cond, Option, Some, None, List, [], ◌∷◌, ◌++◌, length, refl, sym, ap, ◌∙◌, subst, arith}
+use Rattle.std.proofs.Common.{◌≡◌, ◌≢◌, ℕ, ◌+◌, ◌<◌, ◌≤◌, Bool, true, false, not, cond, Option, Some, None, List, [], ◌∷◌, ◌++◌, length, refl, sym, ap, ◌∙◌, subst, arith}
 use Rattle.std.proofs.lemmas.Bool.{ltb-true, lt-ltb, le-ltb}
-use Rattle.std.specs.Ordering.{is_eq}
+use Rattle.std.specs.Ordering.{is_eq, is_lt, is_ge}
 use Rattle.std.specs.declared.cmp.Ordering.{Ordering}
 use Rattle.ic_unsafe_ref.specs.declared.place.Place.{Place}
 use Rattle.ic_unsafe_ref.specs.Objects.{is_placed, at_indexes}
@@ -12,6 +12,7 @@ use Rattle.ic_link_ops.specs.declared.side.Side.TheVariants.{Left, Right}
 use Rattle.ic_link_ops.proofs.SequenceLemmas.{some_same, none_not}
 use Rattle.ic_link_ops.specs.Sequences.{Cut, join, first}
 use Rattle.ic_link_ops.specs.Frames.{child_on}
+use Rattle.ic_link_ops.specs.PlainTables.{entry_at}
 use Rattle.ic_link_ops.specs.Tables.{Table, IsCovered}
 use Rattle.ic_link_ops.specs.RedBlackTree as trees
 use Rattle.ic_link_ops.specs.Trees.{Tree}
@@ -22,19 +23,19 @@ use Rattle.ic_rbtree.specs.Comparing.{goes_left}
 use Rattle.ic_rbtree.specs.Descents.{gap_in, passed, side_of}
 use Rattle.ic_rbtree.specs.declared.keys.descent.Descent.{Descent}
 use Rattle.ic_rbtree.proofs.Gaps.{gap_join, gap_border}
-use Rattle.ic_rbtree.proofs.Sending.{Sent, sent_first, sent_on, sent_ends}
+use Rattle.ic_rbtree.proofs.Sending.{Sent, not_ge, sent_first, sent_on, sent_ends}
 use Rattle.ic_raw.specs.declared.words.RawThree.{RawThree}
 use Rattle.ic_raw.specs.declared.search.Way.{Way}
 use Rattle.ic_raw.specs.declared.search.Target.{Target}
 use Rattle.ic_raw.specs.declared.search.Target.TheVariants.{Equal, AtLeast, AtMost}
 use Rattle.ic_raw.specs.Gaps.{Stands}
-use Rattle.ic_raw.specs.Keys.{keys_fault, at_root, past, EndsIn, IsTarget, LeadsDown, SearchEnds}
+use Rattle.ic_raw.specs.Keys.{keys_fault, at_root, past, EndsIn, HasTurned, IsTarget, LeadsDown, NamesTarget, SearchEnds}
 use Rattle.ic_raw.specs.declared.nodes.Seen.{Seen}
 use Rattle.ic_raw.specs.Seen.{seen, seen_node, has_place}
 use Rattle.ic_raw.specs.declared.table.RawTable.{RawTable}
 use Rattle.ic_raw.specs.Tables.{raw_entries}
 use Rattle.ic_raw.specs.Tree.{Shows, IsHole, lent_table, table_of}
-use Rattle.ic_raw.specs.Words.{is_linked_three}
+use Rattle.ic_raw.specs.Words.{is_linked_three, no_tree_words}
 use Rattle.ic_raw.proofs.Trees.{beside_stands, hole_told, seen_shows}
 
 -- each place of the table has a key
@@ -121,6 +122,29 @@ down_past t at equals {root} {p} {next = next} way goes is below = (
   way.0 ++ p ∷ [],
   down_on t (λ q. goes_left equals (at q)) root way.0 p next way.1 (ap (λ b. child_on (side_of b) (seen_node (t.entry p))) (sym (goes ∙ ap (goes_left equals) is)) ∙ sym below),
 )
+
+-- A WAY FROM THE ROOT has turned nowhere yet, and then past one more member to the side that the test says
+pub turned_nowhere : (left : Place → Bool) {way : Way} → way ≡ at_root → HasTurned left way
+turned_nowhere left is = record {
+  front = λ q e. absurd (none_not q (sym (ap (λ (w : Way). w.front) is) ∙ e));
+  back = λ q e. absurd (none_not q (sym (ap (λ (w : Way). w.back) is) ∙ e));
+}
+
+pub turned_on : (left : Place → Bool) (way : Way) (p : Place) (to_left : Bool) → to_left ≡ left p → HasTurned left way → HasTurned left (past way p to_left)
+turned_on left way p true same was = record { front = was.front; back = λ q e. subst (λ r. left r ≡ true) (some_same e) (sym same) }
+turned_on left way p false same was = record { front = λ q e. subst (λ r. left r ≡ false) (some_same e) (sym same); back = was.back }
+
+-- a key that is not less is at least as great
+pub at_least : (order : Ordering) → is_lt order ≡ false → is_ge order ≡ true
+at_least order e = pick (is_ge order) (sym (not_ge order) ∙ e) where
+  pick : (b : Bool) → not b ≡ false → b ≡ true
+  pick true e = refl
+  pick false e = cc
+
+-- what is searched in the view is so among the words
+pub target_back : {es : List RawThree} (t : RawTable RawThree) (target : Target) (keys : List ℕ) (key number : ℕ) → raw_entries t ≡ es
+    → NamesTarget target keys key (lent_table t) number → NamesTarget target keys key (table_of es) number
+target_back t target keys key number e names = (names.0, ap (λ es. is_linked_three (entry_at no_tree_words es names.0)) (sym e) ∙ names.1, names.2, names.3)
 
 -- what ends in the view ends among the words
 pub ends_back : {es : List RawThree} (t : RawTable RawThree) (target : Target) (keys : List ℕ) (key : ℕ) {root : Option Place} → raw_entries t ≡ es

@@ -1,5 +1,5 @@
 -- What calls of a singly linked list read of what is shown, and of the places that lead to one another.
-use Rattle.std.proofs.Common.{◌≡◌, ◌≢◌, ◌≤◌, Option, Some, None, List, [], ◌∷◌, ◌++◌, length, true, refl, sym, ap, subst, ◌∙◌, arith}
+use Rattle.std.proofs.Common.{◌≡◌, ◌≢◌, ◌↔◌, ◌≤◌, Option, Some, None, List, [], ◌∷◌, ◌++◌, length, true, refl, sym, ap, subst, ◌∙◌, arith}
 use Rattle.ic_unsafe_ref.specs.declared.place.Place.{Place}
 use Rattle.ic_unsafe_ref.specs.Places.{index_of}
 use Rattle.ic_link_ops.specs.Sequences.{Cut, join, first_or, first, last, IsAbsent, IsDistinct, IsAfter}
@@ -8,7 +8,7 @@ use Rattle.ic_link_ops.specs.Tables.{Table, ChangesOnly, IsCovered, IsLinked, Ke
 use Rattle.ic_link_ops.specs.Chains.{IsChain}
 use Rattle.ic_link_ops.specs.EntryLaws.{linked_in_range}
 use Rattle.ic_link_ops.specs.SinglyLinkedList.{Front, IsFollowed, list_from, successor_at}
-use Rattle.ic_link_ops.proofs.SequenceLemmas.{first_of_back, first_or-append, last_of_push, none_not}
+use Rattle.ic_link_ops.proofs.SequenceLemmas.{first_of_back, first_or-append, last_of_push, none_not, some_same}
 use Rattle.ic_link_ops.proofs.Chains.{chain_glue, chain_one}
 use Rattle.ic_link_ops.proofs.ShownLists.{before_gap}
 use Rattle.ic_link_ops.proofs.SinglyLists.{followed_linked, followed_one}
@@ -20,8 +20,8 @@ use Rattle.ic_raw.specs.Gaps.{Stands, gap_of}
 use Rattle.ic_raw.specs.Words.{no_word, is_linked_one}
 use Rattle.ic_raw.specs.Tables.{IsFree, raw_entries}
 use Rattle.ic_raw.specs.Touches.{IsNoneOf, Touches}
-use Rattle.ic_raw.specs.Singly.{LeadsTo, Shows, table_of, lent_table, list_of, successor, next_from}
-use Rattle.ic_raw.proofs.Views.{viewed}
+use Rattle.ic_raw.specs.Singly.{LeadsTo, Shows, ShowsSome, TellsGap, TellsMember, table_of, lent_table, list_of, successor, next_from}
+use Rattle.ic_raw.proofs.Views.{viewed, shown_back}
 use Rattle.ic_raw.proofs.Lists.{kept}
 use Rattle.ic_raw.proofs.Touches.{touches_insert, touches_remove, touches_replace}
 
@@ -55,14 +55,43 @@ behind_told t list {shown} {at} {named} {gap} {q} view same is found stands =
     let back : next_from (table_of (raw_entries t)) (list_of list) named ≡ Some q = subst (λ a. next_from (lent_table t) (list_of list) a ≡ Some q) is there in
     subst (λ es. next_from (table_of es) (list_of list) named ≡ Some q) view back
 
--- and what a view finds linked behind a place is linked by the words
-pub stands_told : (t : RawTable RawOne) {words : List RawOne} {list shown : Front} {at named : Option Place} → raw_entries t ≡ words → shown ≡ list → at ≡ named
-    → Stands is_linked_one (lent_table t) (next_from (lent_table t) shown at) → Stands is_linked_one (table_of words) (next_from (table_of words) list named)
-stands_told t {list} {at = at} {named} view same is stands =
-    let there = subst (λ l. Stands is_linked_one (lent_table t) (next_from (lent_table t) l at)) same stands in
-    let back : Stands is_linked_one (table_of (raw_entries t)) (next_from (table_of (raw_entries t)) list named) =
-    subst (λ a. Stands is_linked_one (lent_table t) (next_from (lent_table t) list a)) is there in
-    subst (λ es. Stands is_linked_one (table_of es) (next_from (table_of es) list named)) view back
+-- WHAT A VIEW TELLS, THE WORDS TELL, and the other way round: of a gap, of a member, and that the places of a list come to an end
+module _ (t : RawTable RawOne) {words : List RawOne} {list shown : Front} (view : raw_entries t ≡ words) (same : shown ≡ list) where
+  pub gap_same : {at named : Option Place} → at ≡ named → TellsGap (lent_table t) shown at ↔ TellsGap (table_of words) list named
+  gap_same {at} {named} is =
+      let seen = TellsGap (lent_table t) shown at in
+      let it : seen ↔ TellsGap (table_of (raw_entries t)) shown at = ((λ x. x), (λ x. x)) in
+      subst (λ es. seen ↔ TellsGap (table_of es) list named) view
+      (subst (λ l. seen ↔ TellsGap (table_of (raw_entries t)) l named) same (subst (λ a. seen ↔ TellsGap (table_of (raw_entries t)) shown a) is it))
+
+  pub member_same : {at named : Option Place} → at ≡ named → TellsMember (lent_table t) shown at ↔ TellsMember (table_of words) list named
+  member_same {at} {named} is =
+      let seen = TellsMember (lent_table t) shown at in
+      let it : seen ↔ TellsMember (table_of (raw_entries t)) shown at = ((λ x. x), (λ x. x)) in
+      subst (λ es. seen ↔ TellsMember (table_of es) list named) view
+      (subst (λ l. seen ↔ TellsMember (table_of (raw_entries t)) l named) same (subst (λ a. seen ↔ TellsMember (table_of (raw_entries t)) shown a) is it))
+
+  pub some_shown : ShowsSome (lent_table t) shown ↔ ShowsSome (table_of words) list
+  some_shown = (
+    (λ x. (x.0, shown_back no_word kept t view (subst (λ l. Shows (lent_table t) l x.0) same x.1))),
+    (λ x. (x.0, viewed no_word kept t view (subst (λ l. Shows (table_of words) l x.0) (sym same) x.1))),
+  )
+
+-- the words tell of a first member, which is linked
+pub member_first : (t : Table RawOne) {list : Front} {p : Place} → list.head ≡ Some p → is_linked_one (t.entry p) ≡ true → TellsMember t list None
+member_first t {p = p} is on = (
+  ((λ q e. absurd (none_not q e)), (λ q e. subst (λ z. is_linked_one (t.entry z) ≡ true) (some_same (sym is ∙ e)) on)),
+  (λ none. none_not p (sym none ∙ is)),
+)
+
+-- and of one after a place, where the gap that is found there has one
+pub member_told : (t : Table RawOne) (list : Front) {at : Option Place} {gap : Gap} {p : Place} → TellsGap t list at → gap ≡ record { before = at; behind = next_from t list at }
+    → gap.behind ≡ Some p → TellsMember t list at
+member_told t list {p = p} told found is = (told, (λ none. none_not p (sym none ∙ sym (ap (λ (g : Gap). g.behind) found) ∙ is)))
+
+-- a list without a first member shows none
+pub shows_none : (t : Table RawOne) (list : Front) → list.head ≡ None → ShowsSome t list
+shows_none t list is = ([], record { distinct = tt; chain = tt; head = is; tail = refl })
 
 -- A CHAIN THAT ENDS COMES TO NO PLACE TWICE: from there it would go on the same way, and end as soon
 module _ (t : Place → RawOne) where

@@ -28,9 +28,9 @@ use Rattle.ic_rbtree.proofs.Removing.{shown_of, shows_of}
 use Rattle.ic_raw.specs.declared.words.RawThree.{RawThree}
 use Rattle.ic_raw.specs.declared.table.RawTable.{RawTable}
 use Rattle.ic_raw.specs.Gaps.{Stands}
-use Rattle.ic_raw.specs.Words.{place_in, HasNumber, no_tree_words, is_linked_three}
+use Rattle.ic_raw.specs.Words.{place_in, no_tree_words, is_linked_three}
 use Rattle.ic_raw.specs.Tables.{raw_entries}
-use Rattle.ic_raw.specs.Tree.{node, Shows, IsHole, NamesLinked, table_of, lent_table}
+use Rattle.ic_raw.specs.Tree.{node, Shows, IsHole, table_of, lent_table}
 use Rattle.ic_raw.specs.Seen.{named_within, seen_node, seen, has_place, IsWithin, KeepsMarks}
 use Rattle.ic_raw.proofs.Seen.{named_itself}
 
@@ -78,10 +78,6 @@ pub hole_viewed : {es : List RawThree} (t : RawTable RawThree) (side : Side) (at
     → IsHole side (lent_table t) at cut
 hole_viewed t side None cut e h = h
 hole_viewed t side (Some q) cut e h = (subst (λ fs. child_on side (node (entry_at no_tree_words fs q)) ≡ None) (sym e) h.0, h.1)
-
--- and the number of a place that is linked there is that of one that is linked among the words
-pub names_back : {es : List RawThree} (t : RawTable RawThree) (number : ℕ) → raw_entries t ≡ es → (q : Place) × IsLinked is_linked_three (lent_table t) q × HasNumber q number → NamesLinked es number
-names_back t number e names = (names.0, ap (λ fs. is_linked_three (entry_at no_tree_words fs names.0)) (sym e) ∙ names.1, names.2)
 
 -- entries that are seen as they were are as they were
 pub frame_told : {t u : Table RawThree} {s : List Place} → KeepsBeside (seen t) (seen u) s → KeepsBeside t u s

@@ -1,5 +1,5 @@
 -- What holds of a view holds of the words that were lent.
-use Rattle.std.proofs.Common.{◌≡◌, Bool, List, [], refl, ap}
+use Rattle.std.proofs.Common.{◌≡◌, ◌↔◌, Bool, Option, List, [], refl, ap, subst}
 use Rattle.std.specs.declared.cmp.Ordering.{Ordering}
 use Rattle.ic_unsafe_ref.specs.declared.place.Place.{Place}
 use Rattle.ic_link_ops.specs.Sequences.{Cut}
@@ -9,6 +9,7 @@ use Rattle.ic_link_ops.specs.Edits.{Inserts, Removes, Replaces, Splices, Splits}
 use Rattle.ic_rbtree.specs.Ordered.{InsertsInOrder}
 use Rattle.ic_raw.specs.declared.table.RawTable.{RawTable}
 use Rattle.ic_raw.specs.Calls.{Clears}
+use Rattle.ic_raw.specs.Gaps.{NamesFree}
 use Rattle.ic_raw.specs.Tables.{raw_entries, raw_table, IsFree}
 
 module _ {W : Type 0} (unlinked : W) where
@@ -21,6 +22,18 @@ module _ {W : Type 0} (unlinked : W) where
       → IsFree is_linked (raw_table unlinked t) p
   free_viewed {is_linked} {es} t {p} e free =
       let same : IsFree is_linked (table_of unlinked (raw_entries t)) p = rw e free in record { covered = same.covered; unlinked = same.unlinked }
+
+  -- and the other way round, if a place is named
+  pub free_same : {is_linked : W → Bool} {es : List W} (t : RawTable W) {place named : Option Place} → raw_entries t ≡ es → place ≡ named
+      → NamesFree is_linked (raw_table unlinked t) place ↔ NamesFree is_linked (table_of unlinked es) named
+  free_same {is_linked} t {place} {named} e is =
+      let seen = NamesFree is_linked (raw_table unlinked t) place in
+      let same : seen ↔ NamesFree is_linked (table_of unlinked (raw_entries t)) place = (
+        (λ x. (x.0, x.1, record { covered = x.2.covered; unlinked = x.2.unlinked })),
+        (λ x. (x.0, x.1, record { covered = x.2.covered; unlinked = x.2.unlinked })),
+      ) in
+      subst (λ es. seen ↔ NamesFree is_linked (table_of unlinked es) named) e
+      (subst (λ at. seen ↔ NamesFree is_linked (table_of unlinked (raw_entries t)) at) is same)
 
   -- `kept`: a sequence stays where no entry changes
   module _ {H : Type 0} {Shows : Table W → H → List Place → Type 0}

@@ -5,6 +5,7 @@ use Rattle.ic_link_ops.specs.Sequences.{Cut, at_front, at_back, first, last, IsA
 use Rattle.ic_link_ops.specs.Tables.{Table, IsLinked}
 use Rattle.ic_link_ops.specs.Chains.{Ends, end_of}
 use Rattle.ic_raw.specs.declared.gap.Gap.{Gap}
+use Rattle.ic_raw.specs.Tables.{IsFree}
 use Rattle.ic_raw.specs.declared.gap.Side.{Side}
 use Rattle.ic_raw.specs.declared.gap.Side.TheVariants.{After, Before}
 
@@ -20,6 +21,14 @@ Stands linked t at = (q : Place) → at ≡ Some q → IsLinked linked t q
 -- both sides of a gap are
 abbrev pub StandBeside : {E : Type 0} → (E → Bool) → Table E → Gap → Type 0
 StandBeside linked t gap = Stands linked t gap.before × Stands linked t gap.behind
+
+-- the place that is to go in is named, and free
+abbrev pub NamesFree : {E : Type 0} → (E → Bool) → Table E → Option Place → Type 0
+NamesFree linked t place = (p : Place) × (place ≡ Some p) × IsFree linked t p
+
+-- two lists begin apart: no place is the first member of both
+abbrev pub BeginApart : (one other : Option Place) → Type 0
+BeginApart one other = (p : Place) → other ≡ Some p → one ≢ Some p
 
 -- the gap between two places, none beyond an end
 abbrev pub gap_between : (before behind : Option Place) → Gap

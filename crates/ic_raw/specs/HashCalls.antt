@@ -10,10 +10,12 @@ use Rattle.ic_raw.specs.declared.status.TheConstants.{OK, NULL}
 use Rattle.ic_raw.specs.declared.words.RawFront.{RawFront}
 use Rattle.ic_raw.specs.declared.words.RawOne.{RawOne}
 use Rattle.ic_raw.specs.Answers.{IsStatus, HandsOut, refusal}
+use Rattle.ic_raw.specs.Gaps.{NamesFree}
 use Rattle.ic_raw.specs.Hash.{slot_of, chain_of, buckets_fault, ChangesOnlyChain, HoldsChains, has_key, NamesKey}
 use Rattle.ic_raw.specs.Keys.{key_of, keys_fault}
 use Rattle.ic_raw.specs.Singly.{ShowsList, FreeIn, StandsIn, IsWritten, LosesFront, table_of, front_of, word_of_front, list_of, fault_at, fault_of, successor}
 use Rattle.ic_raw.specs.Singly.{Inserted, Removed, LeavesChain, Touched}
+use Rattle.ic_raw.specs.Words.{is_linked_one}
 
 -- `old`, `new`: the words of the table before the call and after it. `buckets`, `buckets'`: those of the buckets
 module _ (old new : List RawOne) (buckets buckets' : List RawFront) (status hash : ℕ) where
@@ -24,10 +26,7 @@ module _ (old new : List RawOne) (buckets buckets' : List RawFront) (status hash
     pub others : ChangesOnlyChain buckets buckets' hash
     pub holds : (chains : ℕ → List Place) (p : Place) → 1 ≤ length buckets → place ≡ Some p → FreeIn old p → HoldsChains old buckets chains
         → HoldsChains new buckets' (with_at chains (slot_of buckets hash) (p ∷ chains (slot_of buckets hash)))
-    pub free : (p : Place) → place ≡ Some p → status ≡ OK → FreeIn old p
-    pub no_place : place ≡ None → status ≢ OK
-    pub any : status ≡ OK → 1 ≤ length buckets
-    pub told : status ≡ OK → StandsIn old (front_of (chain_of buckets hash))
+    pub accepted : (status ≡ OK) ↔ (1 ≤ length buckets) × NamesFree is_linked_one (table_of old) place × StandsIn old (front_of (chain_of buckets hash))
     pub own : status ≡ OK → front_of (chain_of buckets' hash) ≡ place
     pub touched : (p : Place) → place ≡ Some p → status ≡ OK → Touched old new (acquires p ∷ []) (Some p ∷ [])
     pub words : status ≡ OK → IsWritten (chain_of buckets' hash)

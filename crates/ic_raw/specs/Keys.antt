@@ -1,16 +1,16 @@
 -- Searches of a tree by keys that stand in an array, one for each place.
 use Rattle.std.specs.Prelude.{◌≡◌, ℕ, Bool, true, false, Option, Some, None, List, [], ◌∷◌, length, cond, nat_lt, slice_index}
-use Rattle.std.specs.Ordering.{nat_cmp}
+use Rattle.std.specs.Ordering.{nat_cmp, is_eq, is_le, is_ge}
 use Rattle.std.specs.declared.cmp.Ordering.{Ordering}
 use Rattle.ic_unsafe_ref.specs.declared.place.Place.{Place}
 use Rattle.ic_unsafe_ref.specs.Objects.{at_indexes}
 use Rattle.ic_unsafe_ref.specs.Places.{index_of}
 use Rattle.ic_link_ops.specs.Frames.{child_on}
 use Rattle.ic_link_ops.specs.Sequences.{Cut, first, last}
-use Rattle.ic_link_ops.specs.Tables.{Table}
+use Rattle.ic_link_ops.specs.Tables.{Table, IsLinked}
 use Rattle.ic_link_ops.specs.declared.side.Side.{Side}
 use Rattle.ic_link_ops.specs.declared.side.Side.TheVariants.{Left, Right}
-use Rattle.ic_rbtree.specs.Borders.{Finds, IsLowerBorder, IsUpperBorder, equal_at}
+use Rattle.ic_rbtree.specs.Borders.{Finds, IsLowerBorder, IsUpperBorder}
 use Rattle.ic_rbtree.specs.Comparing.{compared, goes_left}
 use Rattle.ic_rbtree.specs.Descents.{side_of}
 use Rattle.ic_rbtree.specs.Insertion.{IsHole}
@@ -25,7 +25,7 @@ use Rattle.ic_raw.specs.declared.search.Target.TheVariants.{Equal, AtLeast, AtMo
 use Rattle.ic_raw.specs.Answers.{IsAccepted}
 use Rattle.ic_raw.specs.declared.nodes.Seen.{Seen}
 use Rattle.ic_raw.specs.Seen.{seen, seen_node}
-use Rattle.ic_raw.specs.Words.{HasNumber}
+use Rattle.ic_raw.specs.Words.{HasNumber, is_linked_three}
 use Rattle.ic_raw.specs.Tree.{Shows, ShowsTree, FreeIn, root_in, table_of}
 
 -- how a key stands to that of each place: `Less` where it is less
@@ -54,6 +54,11 @@ pub record EndsIn (t : Table RawThree) (gap : Cut) (way : Way) : Type 0 where
   pub front_is : way.front ≡ last gap.front
   pub back_is : way.back ≡ first gap.back
 
+-- THE WAY HAS TURNED right at the member in front, and left at the one behind, as the test says
+pub record HasTurned (left : Place → Bool) (way : Way) : Type 0 where
+  pub front : (q : Place) → way.front ≡ Some q → left q ≡ false
+  pub back : (q : Place) → way.back ≡ Some q → left q ≡ true
+
 -- a way from the place `from` down to `to`, none at an end: past these places, at each on the side to which the search goes
 abbrev pub LeadsDown : Table Seen → (Place → Bool) → Option Place → List Place → Option Place → Type 0
 LeadsDown t left from [] to = from ≡ to
@@ -79,9 +84,15 @@ IsTarget Equal at s position = Finds at s position
 IsTarget AtLeast at s position = IsLowerBorder (Included at) s position
 IsTarget AtMost at s position = IsUpperBorder (Included at) s position
 
--- the number is that of a place with this key
-abbrev pub NamesKey : List ℕ → ℕ → ℕ → Type 0
-NamesKey keys key number = (q : Place) × (equal_at (against key keys) q ≡ true) × HasNumber q number
+-- A MEMBER TO WHICH THE KEY STANDS SO MEETS THE TARGET: its own key is this one, or is at least that, or is at most that
+abbrev pub Meets : Target → Ordering → Type 0
+Meets Equal order = is_eq order ≡ true
+Meets AtLeast order = is_le order ≡ true
+Meets AtMost order = is_ge order ≡ true
+
+-- the number is that of a linked place that meets the target
+abbrev pub NamesTarget : Target → List ℕ → ℕ → Table RawThree → ℕ → Type 0
+NamesTarget target keys key t number = (q : Place) × IsLinked is_linked_three t q × HasNumber q number × Meets target (against key keys q)
 
 -- p, which is free, is inserted behind all members with no greater key than its own
 abbrev pub InsertedInOrder : (keys : List ℕ) (old new : List RawThree) (tree tree' : RawRoot) (status : ℕ) → List Place → Place → Type 0

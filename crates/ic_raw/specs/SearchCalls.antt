@@ -3,15 +3,14 @@ use Rattle.std.specs.Prelude.{◌≡◌, ◌≢◌, ◌≤◌, ◌⊎◌, ◌∷
 use Rattle.ic_unsafe_ref.specs.declared.place.Place.{Place}
 use Rattle.ic_link_ops.specs.Tables.{LinksAlso}
 use Rattle.ic_raw.specs.declared.search.Target.{Target}
-use Rattle.ic_raw.specs.declared.search.Target.TheVariants.{Equal}
 use Rattle.ic_raw.specs.declared.status.TheConstants.{OK, NULL}
 use Rattle.ic_raw.specs.declared.words.RawRoot.{RawRoot}
 use Rattle.ic_raw.specs.declared.words.RawThree.{RawThree}
 use Rattle.ic_raw.specs.Answers.{IsStatus, HandsOut, refusal}
-use Rattle.ic_raw.specs.Keys.{against, keys_fault, IsTarget, InsertedInOrder, NamesKey, SearchEnds}
+use Rattle.ic_raw.specs.Keys.{against, keys_fault, IsTarget, InsertedInOrder, NamesTarget, SearchEnds}
 use Rattle.ic_raw.specs.Seen.{StaysWithin, HandsOutReached}
 use Rattle.ic_raw.specs.Words.{is_linked_three}
-use Rattle.ic_raw.specs.Tree.{ShowsTree, FreeIn, StandsIn, IsWritten, NamesLinked, root_in, fault_of, table_of}
+use Rattle.ic_raw.specs.Tree.{ShowsTree, FreeIn, StandsIn, IsWritten, root_in, fault_of, table_of}
 
 -- the words of the table before the call and after it
 module _ (keys : List ℕ) (old new : List RawThree) (status : ℕ) where
@@ -32,9 +31,8 @@ module _ (keys : List ℕ) (old new : List RawThree) (status : ℕ) where
   -- THE MEMBER THAT IS SEARCHED FOR A KEY IS HANDED OUT, in words that said `was`
   pub record FindCall (tree : RawRoot) (key : ℕ) (target : Target) (was number : ℕ) : Type 0 where
     pub found : (s : List Place) → length old ≤ length keys → ShowsTree old tree s → HandsOut (IsTarget target (against key keys) s) status number
-    pub linked : status ≡ OK → NamesLinked old number
     pub reached : status ≡ OK → HandsOutReached (table_of old) (root_in tree) [] number
-    pub equal : target ≡ Equal → status ≡ OK → NamesKey keys key number
+    pub bounded : status ≡ OK → NamesTarget target keys key (table_of old) number
     pub ended : status ≡ NULL → SearchEnds target keys key (table_of old) (root_in tree)
     pub refused : status ≢ OK → number ≡ was
     pub same : new ≡ old

@@ -16,6 +16,7 @@ use Rattle.ic_raw.specs.Words.{place_in, no_word, is_linked_one, next_of_one}
 use Rattle.ic_raw.specs.Tables.{raw_table, successor_of}
 use Rattle.ic_raw.specs.Calls as calls
 use Rattle.ic_raw.specs.Fills as fills
+use Rattle.ic_raw.specs.Gaps.{Stands}
 use Rattle.ic_raw.specs.Touches.{Touches}
 
 -- the words of a table, and those that are lent, as clauses see them
@@ -32,6 +33,10 @@ successor = successor_of next_of_one is_linked_one
 -- THE TABLE SHOWS s for the list with this front
 abbrev pub Shows : Table RawOne → Front → List Place → Type 0
 Shows = singly.Shows successor
+
+-- THE TABLE SHOWS A SEQUENCE for the list: its places lead to an end
+abbrev pub ShowsSome : Table RawOne → Front → Type 0
+ShowsSome = singly.ShowsSome successor
 
 -- the front of a list by its word
 abbrev pub front_of : RawFront → Option Place
@@ -53,6 +58,14 @@ list_of l = list_from (front_of l)
 abbrev pub next_from : Table RawOne → Front → Option Place → Option Place
 next_from t list None = list.head
 next_from t list (Some p) = (successor_at successor t p).next
+
+-- THE WORDS TELL OF A GAP after a place, at none before all members: what stands on both sides of it is none or linked
+abbrev pub TellsGap : Table RawOne → Front → (at : Option Place) → Type 0
+TellsGap t list at = Stands is_linked_one t at × Stands is_linked_one t (next_from t list at)
+
+-- and of a member there
+abbrev pub TellsMember : Table RawOne → Front → (at : Option Place) → Type 0
+TellsMember t list at = TellsGap t list at × (next_from t list at ≢ None)
 
 -- THE PLACES FROM `front` ON LEAD TO `at`: each of `walked` is linked, with the next one behind it, and `at` stands behind the last
 pub record LeadsTo (t : Table RawOne) (front at : Place) : Type 0 where

@@ -10,9 +10,10 @@ use Rattle.ic_raw.specs.declared.words.RawFront.{RawFront}
 use Rattle.ic_raw.specs.declared.words.RawOne.{RawOne}
 use Rattle.ic_raw.specs.Answers.{IsStatus, refusal}
 use Rattle.ic_raw.specs.Fills.{run_faults}
-use Rattle.ic_raw.specs.Singly.{ShowsList, FreeIn, StandsIn, IsWritten, IsFreeRunIn, table_of, front_of, word_of_front, list_of, next_from, fault_at, fault_of}
+use Rattle.ic_raw.specs.Gaps.{BeginApart, NamesFree}
+use Rattle.ic_raw.specs.Singly.{ShowsList, ShowsSome, StandsIn, TellsGap, TellsMember, IsWritten, IsFreeRunIn, table_of, front_of, word_of_front, list_of, next_from, fault_at, fault_of}
 use Rattle.ic_raw.specs.Singly.{Inserted, Popped, Exchanged, Spliced, Split, Cleared, Filled, Touched, TouchedRun}
-use Rattle.ic_raw.specs.Words.{HasNumber, place_of}
+use Rattle.ic_raw.specs.Words.{HasNumber, is_linked_one, place_of}
 
 -- `old`, `new`: the words of the table before the call and after it. `list`, `list'`: that of the list. `status`: what the call returns
 module _ (old new : List RawOne) (list list' : RawFront) (status : ℕ) where
@@ -23,10 +24,7 @@ module _ (old new : List RawOne) (list list' : RawFront) (status : ℕ) where
   -- A PLACE GOES IN BEHIND THE MEMBER `at`, at none in front of all
   pub record InsertCall (at place : Option Place) : Type 0 where
     pub inserted : (cut : Cut) (p : Place) → IsAfter cut at → place ≡ Some p → Inserted old new list list' status cut p
-    pub free : (p : Place) → place ≡ Some p → status ≡ OK → FreeIn old p
-    pub no_place : place ≡ None → status ≢ OK
-    pub stands : status ≡ OK → StandsIn old at
-    pub told : status ≡ OK → StandsIn old (behind at)
+    pub accepted : (status ≡ OK) ↔ NamesFree is_linked_one (table_of old) place × TellsGap (table_of old) (list_of list) at
     pub own : status ≡ OK → front_of list' ≡ end_of at place (front_of list)
     pub touched : (p : Place) → place ≡ Some p → status ≡ OK → Touched old new (acquires p ∷ []) (Some p ∷ at ∷ [])
     pub words : status ≡ OK → IsWritten list'
@@ -39,7 +37,7 @@ module _ (old new : List RawOne) (list list' : RawFront) (status : ℕ) where
     pub taken : (s : List Place) (p : Place) → Popped old new list list' status popped p [] s
     pub handed : (p : Place) → front_of list ≡ Some p → status ≡ OK → HasNumber p popped
     pub null : (status ≡ NULL) ↔ (front_of list ≡ None)
-    pub stands : status ≡ OK → StandsIn old (front_of list)
+    pub accepted : (status ≡ OK) ↔ TellsMember (table_of old) (list_of list) None
     pub own : status ≡ OK → front_of list' ≡ behind (front_of list)
     pub touched : (p : Place) → front_of list ≡ Some p → status ≡ OK → Touched old new (releases p ∷ []) (Some p ∷ [])
     pub words : status ≡ OK → IsWritten list'
@@ -53,8 +51,7 @@ module _ (old new : List RawOne) (list list' : RawFront) (status : ℕ) where
     pub handed : (p : Place) → behind at ≡ Some p → status ≡ OK → HasNumber p removed
     pub nothing : (s : List Place) → ShowsList old list s → at ≡ last s → status ≡ NULL
     pub null : (status ≡ NULL) ↔ (fault_at old at ≡ OK) × (behind at ≡ None)
-    pub stands : status ≡ OK → StandsIn old at
-    pub told : status ≡ OK → StandsIn old (behind at)
+    pub accepted : (status ≡ OK) ↔ TellsMember (table_of old) (list_of list) at
     pub own : status ≡ OK → front_of list' ≡ end_of at (behind (behind at)) (front_of list)
     pub touched : (p : Place) → behind at ≡ Some p → status ≡ OK → Touched old new (releases p ∷ []) (Some p ∷ at ∷ [])
     pub words : status ≡ OK → IsWritten list'
@@ -66,12 +63,9 @@ module _ (old new : List RawOne) (list list' : RawFront) (status : ℕ) where
   pub record ReplaceCall (at place : Option Place) (was out : ℕ) : Type 0 where
     pub replaced : (front back : List Place) (q p : Place) → at ≡ last front → place ≡ Some p → Exchanged old new list list' status out q front back p
     pub handed : (q : Place) → behind at ≡ Some q → status ≡ OK → HasNumber q out
-    pub free : (p : Place) → place ≡ Some p → status ≡ OK → FreeIn old p
-    pub no_place : place ≡ None → status ≢ OK
     pub nothing : (s : List Place) → ShowsList old list s → at ≡ last s → status ≡ NULL
     pub null : (status ≡ NULL) ↔ (fault_at old at ≡ OK) × (behind at ≡ None)
-    pub stands : status ≡ OK → StandsIn old at
-    pub told : status ≡ OK → StandsIn old (behind at)
+    pub accepted : (status ≡ OK) ↔ NamesFree is_linked_one (table_of old) place × TellsMember (table_of old) (list_of list) at
     pub own : status ≡ OK → front_of list' ≡ end_of at place (front_of list)
     pub touched : (q p : Place) → behind at ≡ Some q → place ≡ Some p → status ≡ OK
         → Touched old new (acquires p ∷ releases q ∷ []) (Some p ∷ Some q ∷ at ∷ [])
@@ -84,10 +78,8 @@ module _ (old new : List RawOne) (list list' : RawFront) (status : ℕ) where
   pub record SpliceCall (at : Option Place) (given given' : RawFront) : Type 0 where
     pub spliced : (cut : Cut) (t : List Place) → IsAfter cut at → Spliced old new list list' status given cut t
     pub emptied : status ≡ OK → given' ≡ word_of_front None
-    pub stands : status ≡ OK → StandsIn old at
-    pub told : status ≡ OK → StandsIn old (behind at)
-    pub apart : status ≡ OK → (p : Place) → front_of given ≡ Some p → front_of list ≢ Some p
-    pub ended : status ≡ OK → (t : List Place) × ShowsList old given t
+    pub accepted : (status ≡ OK) ↔ TellsGap (table_of old) (list_of list) at × BeginApart (front_of list) (front_of given)
+        × ShowsSome (table_of old) (list_of given)
     pub own : status ≡ OK → front_of given ≢ None → front_of list' ≡ end_of at (front_of given) (front_of list)
     pub nothing : status ≡ OK → front_of given ≡ None → (new ≡ old) × (front_of list' ≡ front_of list)
     pub touched : (t : List Place) → ShowsList old given t → status ≡ OK → Touched old new [] (at ∷ last t ∷ [])
@@ -100,9 +92,7 @@ module _ (old new : List RawOne) (list list' : RawFront) (status : ℕ) where
   -- `rest`, `rest'`: that word
   pub record SplitCall (at : Option Place) (rest rest' : RawFront) : Type 0 where
     pub split : (cut : Cut) → IsAfter cut at → front_of rest ≡ None → Split old new list list' status rest' cut
-    pub empty : status ≡ OK → front_of rest ≡ None
-    pub stands : status ≡ OK → StandsIn old at
-    pub told : status ≡ OK → StandsIn old (behind at)
+    pub accepted : (status ≡ OK) ↔ (front_of rest ≡ None) × TellsGap (table_of old) (list_of list) at
     pub own : status ≡ OK → (front_of list' ≡ end_of at None (front_of list)) × (front_of rest' ≡ behind at)
     pub touched : status ≡ OK → Touched old new [] (at ∷ [])
     pub words : status ≡ OK → IsWritten list'
@@ -114,9 +104,8 @@ module _ (old new : List RawOne) (list list' : RawFront) (status : ℕ) where
   -- A RUN OF `count` PLACES GOES IN IN FRONT OF ALL MEMBERS
   pub record FillCall (first count : ℕ) : Type 0 where
     pub filled : (s : List Place) → Filled old new list list' status (at_front s) first count
-    pub free : status ≡ OK → IsFreeRunIn old first count
     pub nothing : count ≡ 0 → (status ≡ OK) × (new ≡ old) × (list' ≡ list)
-    pub told : status ≡ OK → count ≢ 0 → StandsIn old (front_of list)
+    pub accepted : count ≢ 0 → (status ≡ OK) ↔ IsFreeRunIn old first count × StandsIn old (front_of list)
     pub own : status ≡ OK → count ≢ 0 → front_of list' ≡ place_of first
     pub touched : status ≡ OK → (free : IsFreeRunIn old first count) → TouchedRun old new free.run None
     pub words : status ≡ OK → count ≢ 0 → IsWritten list'

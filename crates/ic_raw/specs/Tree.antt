@@ -4,7 +4,7 @@ use Rattle.ic_unsafe_ref.specs.declared.place.Place.{Place}
 use Rattle.ic_unsafe_ref.specs.Places.{word_of}
 use Rattle.ic_link_ops.specs.declared.side.Side.{Side}
 use Rattle.ic_link_ops.specs.Sequences.{Cut}
-use Rattle.ic_link_ops.specs.Tables.{Table, IsLinked}
+use Rattle.ic_link_ops.specs.Tables.{Table}
 use Rattle.ic_link_ops.specs.Frames.{child_on}
 use Rattle.ic_link_ops.specs.RedBlackTree as trees
 use Rattle.ic_link_ops.specs.RedBlackTree.{Node}
@@ -13,7 +13,7 @@ use Rattle.ic_rbtree.specs.Insertion as holes
 use Rattle.ic_raw.specs.declared.words.RawThree.{RawThree}
 use Rattle.ic_raw.specs.declared.words.RawRoot.{RawRoot}
 use Rattle.ic_raw.specs.declared.table.RawTable.{RawTable}
-use Rattle.ic_raw.specs.Words.{place_in, HasNumber, no_tree_words, is_linked_three, color_of}
+use Rattle.ic_raw.specs.Words.{place_in, no_tree_words, is_linked_three, color_of}
 use Rattle.ic_raw.specs.Tables.{raw_table}
 use Rattle.ic_raw.specs.Calls as calls
 
@@ -52,10 +52,6 @@ IsHole side t at cut = holes.IsHole node t at side cut
 abbrev pub TellsHole : Side → Table RawThree → (root : Option Place) → Option Place → Type 0
 TellsHole side t root None = root ≡ None
 TellsHole side t root (Some p) = child_on side (node (t.entry p)) ≡ None
-
--- the number is that of a linked place
-abbrev pub NamesLinked : List RawThree → ℕ → Type 0
-NamesLinked words number = (q : Place) × IsLinked is_linked_three (table_of words) q × HasNumber q number
 
 -- what a call does to such words
 abbrev pub ShowsTree : List RawThree → RawRoot → List Place → Type 0

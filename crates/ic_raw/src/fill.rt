@@ -95,6 +95,7 @@ pub(crate) fn fill<'a, W: Words, K: ForwardLinks<RawTable<'a, W>>>(
         → (cut : Cut) (free : IsFreeRun W.is_linked (raw_table W.unlinked links.old) first count)
         → ShowsChain K.Between K.kept (raw_table W.unlinked links.old) list.old (join cut) → gap ≡ Some (gap_of cut)
         → (result ≡ OK) × Splices (ShowsChain K.Between K.kept) (raw_table W.unlinked links.old) (raw_table W.unlinked links.new) list.new cut free.run }
+    ensures accepted { IsFreeRun W.is_linked (raw_table W.unlinked links.old) first count → gap ≢ None → result ≡ OK }
     ensures free { result ≡ OK → IsFreeRun W.is_linked (raw_table W.unlinked links.old) first count }
     ensures gap { result ≡ OK → (g : Gap) × (gap ≡ Some g) }
     ensures ends { result ≡ OK → count ≢ 0 → (g : Gap) → gap ≡ Some g

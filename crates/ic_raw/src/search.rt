@@ -8,9 +8,8 @@ ghost use Rattle.std.specs.Prelude.{◌≡◌, ◌≢◌, ◌⊎◌, ◌≤◌, 
 ghost use Rattle.ic_unsafe_ref.specs.declared.place.Place.{Place};
 ghost use Rattle.ic_unsafe_ref.specs.Objects.{is_placed, at_indexes};
 ghost use Rattle.ic_link_ops.specs.Sequences.{Cut, join};
-ghost use Rattle.ic_link_ops.specs.Tables.{IsLinked, LinksAlso};
+ghost use Rattle.ic_link_ops.specs.Tables.{LinksAlso};
 ghost use Rattle.ic_link_ops.specs.RedBlackTree as trees;
-ghost use Rattle.ic_rbtree.specs.Borders.{equal_at};
 ghost use Rattle.ic_rbtree.specs.Closed.{IsIn, AreIn, IsClosed};
 ghost use Rattle.ic_rbtree.specs.Comparing.{goes_left};
 ghost use Rattle.ic_rbtree.specs.Descents.{gap_in};
@@ -19,13 +18,12 @@ ghost use Rattle.ic_rbtree.specs.Tree.{root_of};
 ghost use Rattle.ic_raw.specs.declared.status.TheConstants.{OK, NULL};
 ghost use Rattle.ic_raw.specs.Answers.{HandsOut, refusal};
 ghost use Rattle.ic_raw.specs.Gaps.{Stands};
-ghost use Rattle.ic_raw.specs.declared.search.Target.TheVariants.{Equal};
 ghost use Rattle.ic_raw.specs.declared.search.Way.{Way};
-ghost use Rattle.ic_raw.specs.Keys.{against, key_of, keys_fault, at_root, past, EndsIn, EndsBelow, IsTarget, NamesKey, equals_of, SearchEnds};
+ghost use Rattle.ic_raw.specs.Keys.{against, key_of, keys_fault, at_root, past, EndsIn, EndsBelow, HasTurned, IsTarget, Meets, NamesTarget, equals_of, SearchEnds};
 ghost use Rattle.ic_raw.specs.Seen.{seen, seen_node, has_place, StaysWithin, HandsOutReached};
 ghost use Rattle.ic_raw.specs.Tables.{IsFree, place_fault};
 ghost use Rattle.ic_raw.specs.Tree.{Shows, IsHole, lent_table};
-ghost use Rattle.ic_raw.specs.Words.{is_linked_three, place_of, HasNumber};
+ghost use Rattle.ic_raw.specs.Words.{is_linked_three, place_of};
 
 use crate::status::{BROKEN, NONE, OUT_OF_RANGE};
 use crate::table::RawTable;
@@ -182,6 +180,7 @@ fn descend(
         → (way : Way) × (result ≡ Some way) × EndsIn (lent_table links.now) (gap_in (λ p. goes_left equals (against key keys.now p)) h.tree) way }
     ensures down { result ≢ None
         → EndsBelow (seen (lent_table links.now)) (λ p. goes_left equals (against key keys.now p)) (root_of tree.now) }
+    ensures turned { IfSome result (λ way. HasTurned (λ p. goes_left equals (against key keys.now p)) way) }
     ensures within { (S : Place → Bool) → IsClosed seen_node (seen (lent_table links.now)) (root_of tree.now) S
         → IfSome result (λ way. AreIn S (way.parent ∷ way.front ∷ way.back ∷ [])) }
 {
@@ -234,7 +233,7 @@ pub(crate) fn find(
     ensures found { (s : List Place) → Shows (lent_table links.now) (root_of tree.now) s
         → (member : Option Place) × (result ≡ Some member) × IsTarget target (against key keys.now) s member }
     ensures ended { result ≢ None → SearchEnds target keys.now key (lent_table links.now) (root_of tree.now) }
-    ensures equal { target ≡ Equal → (q : Place) → result ≡ Some (Some q) → equal_at (against key keys.now) q ≡ true }
+    ensures bounded { (q : Place) → result ≡ Some (Some q) → Meets target (against key keys.now q) }
     ensures within { (S : Place → Bool) → IsClosed seen_node (seen (lent_table links.now)) (root_of tree.now) S → IfSome result (λ member. IsIn S member) }
 {
     let Some(way) = descend(links, tree, keys, key, equals_of(target)) else {
@@ -268,9 +267,8 @@ pub(crate) fn look(
 ) -> u32
     ensures found { (s : List Place) → Shows (lent_table links.now) (root_of tree.now) s
         → (lent_table links.now).extent.places ≤ length keys.now → HandsOut (IsTarget target (against key keys.now) s) result found.new }
-    ensures linked { result ≡ OK → (q : Place) × IsLinked is_linked_three (lent_table links.now) q × HasNumber q found.new }
     ensures reached { result ≡ OK → HandsOutReached (lent_table links.now) (root_of tree.now) [] found.new }
-    ensures key { target ≡ Equal → result ≡ OK → NamesKey keys.now key found.new }
+    ensures bounded { result ≡ OK → NamesTarget target keys.now key (lent_table links.now) found.new }
     ensures ended { result ≡ NULL → SearchEnds target keys.now key (lent_table links.now) (root_of tree.now) }
     ensures refused { result ≢ OK → found.new ≡ found.old }
     ensures looked { (result ≡ OK) ⊎ (result ≡ NULL) → ((lent_table links.now).extent.places ≤ length keys.now)

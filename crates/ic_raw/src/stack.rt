@@ -4,7 +4,7 @@
 //! let made = insert(&mut links, &mut stack, at, place);
 //! ```
 
-ghost use Rattle.std.specs.Prelude.{◌≡◌, ◌≢◌, ◌++◌, ◌∷◌, [], List, Some, None, true, false};
+ghost use Rattle.std.specs.Prelude.{◌≡◌, ◌≢◌, ◌↔◌, ◌++◌, ◌∷◌, [], List, Some, None, true, false};
 ghost use Rattle.ic_unsafe_ref.specs.declared.place.Place.{Place};
 ghost use Rattle.ic_link_ops.specs.Sequences.{Cut, join, last, IsDisjoint, IsAfter};
 ghost use Rattle.ic_link_ops.specs.LinkSteps.{acquires, releases};
@@ -13,11 +13,11 @@ ghost use Rattle.ic_link_ops.specs.Chains.{end_of};
 ghost use Rattle.ic_link_ops.specs.Edits.{Inserts, Removes, Replaces, Splices, Splits};
 ghost use Rattle.ic_link_ops.specs.SinglyLinkedList.{list_from};
 ghost use Rattle.ic_raw.specs.declared.gap.Gap.{Gap};
-ghost use Rattle.ic_raw.specs.Gaps.{Stands, before, gap_of};
+ghost use Rattle.ic_raw.specs.Gaps.{BeginApart, NamesFree, Stands, before, gap_of};
 ghost use Rattle.ic_raw.specs.Tables.{IsFree};
 ghost use Rattle.ic_raw.specs.Touches.{Touches};
 ghost use Rattle.ic_raw.specs.Words.{is_linked_one};
-ghost use Rattle.ic_raw.specs.Singly.{Shows, lent_table, next_from};
+ghost use Rattle.ic_raw.specs.Singly.{Shows, ShowsSome, TellsGap, lent_table, next_from};
 
 use crate::gap::{Gap, begin_alike};
 use crate::table::RawTable;
@@ -49,13 +49,10 @@ pub(crate) fn gap_after(
     list: &Stack,
     at: Option<Place>,
 ) -> Option<Gap>
-    ensures at { (gap : Gap) → result ≡ Some gap → Stands is_linked_one (lent_table links.now) at }
-    ensures told { (gap : Gap) → result ≡ Some gap
-        → Stands is_linked_one (lent_table links.now) (next_from (lent_table links.now) list.now at) }
+    ensures told { (gap : Gap) → result ≡ Some gap → TellsGap (lent_table links.now) list.now at }
     ensures is { (gap : Gap) → result ≡ Some gap
         → gap ≡ record { before = at; behind = next_from (lent_table links.now) list.now at } }
-    ensures found { Stands is_linked_one (lent_table links.now) at
-        → Stands is_linked_one (lent_table links.now) (next_from (lent_table links.now) list.now at)
+    ensures found { TellsGap (lent_table links.now) list.now at
         → result ≡ Some (record { before = at; behind = next_from (lent_table links.now) list.now at }) }
     ensures shown { (cut : Cut) → Shows (lent_table links.now) list.now (join cut) → IsAfter cut at → result ≡ Some (gap_of cut) }
 {
@@ -80,9 +77,7 @@ pub(crate) fn insert(
     ensures inserted { (cut : Cut) (p : Place) → Shows (lent_table links.old) list.old (join cut) → IsAfter cut at → place ≡ Some p
         → IsFree is_linked_one (lent_table links.old) p
         → (result ≡ true) × Inserts Shows (lent_table links.old) (lent_table links.new) list.new cut p }
-    ensures free { result ≡ true → (p : Place) × (place ≡ Some p) × IsFree is_linked_one (lent_table links.old) p }
-    ensures stands { result ≡ true → Stands is_linked_one (lent_table links.old) at }
-    ensures told { result ≡ true → Stands is_linked_one (lent_table links.old) (next_from (lent_table links.old) list.old at) }
+    ensures accepted { (result ≡ true) ↔ NamesFree is_linked_one (lent_table links.old) place × TellsGap (lent_table links.old) list.old at }
     ensures own { result ≡ true → list.new.head ≡ end_of at place list.old.head }
     ensures touched { (p : Place) → place ≡ Some p → result ≡ true
         → Touches is_linked_one (lent_table links.old) (lent_table links.new) (acquires p ∷ []) (Some p ∷ at ∷ []) }
@@ -137,7 +132,7 @@ pub(crate) fn replace(
         → at ≡ last front → place ≡ Some p → IsFree is_linked_one (lent_table links.old) p
         → (result ≡ true) × Replaces Shows (lent_table links.old) (lent_table links.new) list.new (before member front back) p
         × IsUnlinked is_linked_one (lent_table links.new) member }
-    ensures free { result ≡ true → (p : Place) × (place ≡ Some p) × IsFree is_linked_one (lent_table links.old) p }
+    ensures accepted { (result ≡ true) ↔ NamesFree is_linked_one (lent_table links.old) place }
     ensures own { result ≡ true → list.new.head ≡ end_of at place list.old.head }
     ensures touched { (p : Place) → place ≡ Some p → result ≡ true → Touches is_linked_one (lent_table links.old) (lent_table links.new)
         (acquires p ∷ releases member ∷ []) (Some p ∷ Some member ∷ at ∷ []) }
@@ -185,10 +180,8 @@ pub(crate) fn splice(
     ensures spliced { (cut : Cut) (t : List Place) → Shows (lent_table links.old) list.old (join cut) → IsAfter cut at
         → Shows (lent_table links.old) given t → IsDisjoint t (join cut)
         → (result ≡ true) × Splices Shows (lent_table links.old) (lent_table links.new) list.new cut t }
-    ensures stands { result ≡ true → Stands is_linked_one (lent_table links.old) at }
-    ensures told { result ≡ true → Stands is_linked_one (lent_table links.old) (next_from (lent_table links.old) list.old at) }
-    ensures apart { result ≡ true → (p : Place) → given.head ≡ Some p → list.old.head ≢ Some p }
-    ensures ended { result ≡ true → (t : List Place) × Shows (lent_table links.old) given t }
+    ensures accepted { (result ≡ true) ↔ TellsGap (lent_table links.old) list.old at × BeginApart list.old.head given.head
+        × ShowsSome (lent_table links.old) given }
     ensures own { result ≡ true → given.head ≢ None → list.new.head ≡ end_of at given.head list.old.head }
     ensures nothing { result ≡ true → given.head ≡ None → (links.new ≡ links.old) × (list.new ≡ list.old) }
     ensures touched { (t : List Place) → Shows (lent_table links.old) given t → result ≡ true
@@ -222,8 +215,7 @@ pub(crate) fn split(
 ) -> bool
     ensures split { (cut : Cut) → Shows (lent_table links.old) list.old (join cut) → IsAfter cut at
         → (result ≡ true) × Splits Shows (lent_table links.old) (lent_table links.new) list.new rest.new cut.front cut.back }
-    ensures stands { result ≡ true → Stands is_linked_one (lent_table links.old) at }
-    ensures told { result ≡ true → Stands is_linked_one (lent_table links.old) (next_from (lent_table links.old) list.old at) }
+    ensures accepted { (result ≡ true) ↔ TellsGap (lent_table links.old) list.old at }
     ensures own { result ≡ true → list.new.head ≡ end_of at None list.old.head }
     ensures rest { result ≡ true → rest.new.head ≡ next_from (lent_table links.old) list.old at }
     ensures touched { result ≡ true → Touches is_linked_one (lent_table links.old) (lent_table links.new) [] (at ∷ []) }

@@ -303,7 +303,6 @@ pub(crate) fn hand_out(
 ) -> u32
     requires { IsIn (has_place (lent_table links.now)) member }
     ensures found { Stands is_linked_three (lent_table links.now) member → IsFound member result found.new }
-    ensures linked { result ≡ OK → (q : Place) × IsLinked is_linked_three (lent_table links.now) q × HasNumber q found.new }
     ensures refused { result ≢ OK → found.new ≡ found.old }
     ensures told { result ≡ OK → (q : Place) × (member ≡ Some q) × IsLinked is_linked_three (lent_table links.now) q × HasNumber q found.new }
     ensures null { (result ≡ NULL) ↔ (member ≡ None) }

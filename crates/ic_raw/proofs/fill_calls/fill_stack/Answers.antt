@@ -1,23 +1,21 @@
-use Rattle.std.proofs.Common.{refl, ap, subst, ◌∙◌, rules}
+use Rattle.std.proofs.Common.{None, refl, sym, ap, ◌∙◌, rules}
 use Rattle.ic_link_ops.specs.Sequences.{at_front}
 use Rattle.ic_raw.specs.Words.{no_word, is_linked_one, place_of}
-use Rattle.ic_raw.specs.Singly.{Shows, lent_table, table_of, front_of}
+use Rattle.ic_raw.specs.Singly.{Shows, lent_table}
 use Rattle.ic_raw.specs.declared.gap.Gap.{Gap}
-use Rattle.ic_raw.specs.Gaps.{Stands}
 use Rattle.ic_link_ops.specs.Chains.{end_of}
-use Rattle.ic_link_ops.specs.SinglyLinkedList.{Front}
+use Rattle.ic_link_ops.proofs.SequenceLemmas.{none_not}
 use Rattle.ic_raw.proofs.Views.{viewed, spliced_back}
 use Rattle.ic_raw.proofs.Lists.{kept}
-use Rattle.ic_raw.proofs.Singly.{law}
-use Rattle.ic_raw.proofs.Runs.{free_none, none_left, splices_none, touches_no_run, run_touched, run_viewed, run_back, why_back}
+use Rattle.ic_raw.proofs.Singly.{gap_same, law}
+use Rattle.ic_raw.proofs.Runs.{none_left, splices_none, touches_no_run, run_touched, run_viewed, run_back, why_back}
 use Rattle.ic_raw.proofs.fill_calls.fill_stack.Goals as goal
 
 pub returns-then-count-eq0 : goal.returns-then-count-eq0
 returns-then-count-eq0 c = record {
   filled = λ s shown free. record { accepted = refl; done = splices_none (at_front s) shown (none_left is_linked_one _ c.args.first c.args.count free c.if-count-eq0.true) };
-  free = λ made. free_none c.if-count-eq0.true;
   nothing = search rules;
-  told = search rules;
+  accepted = λ some. absurd (some c.if-count-eq0.true);
   own = search rules;
   touched = λ made free. touches_no_run c.if-count-eq0.true free;
   words = search rules;
@@ -33,9 +31,15 @@ returns-then-status-ne-OK c = record {
       let seen : Shows (lent_table c.new-links.result) c.stack_of-edited.result s = rw c.stack_of-edited.ensures (viewed no_word kept c.new-links.result view shown) in
       let gap = c.gap_after-gap.ensures.shown (at_front s) seen refl in
       absurd (c.if-status-ne-OK.true (c.fill-status.ensures.filled law (at_front s) (run_viewed is_linked_one no_word c.new-links.result view free) seen gap).0);
-  free = search rules;
   nothing = search rules;
-  told = search rules;
+  accepted = λ some. (
+    (λ ok. absurd (c.if-status-ne-OK.true ok)),
+    (λ told.
+        let view = c.new-links.ensures.1 in
+        let gap = (gap_same c.new-links.result view c.stack_of-edited.ensures {at = None} refl).1 ((λ q e. absurd (none_not q e)), told.1) in
+        absurd (c.if-status-ne-OK.true (c.fill-status.ensures.accepted (run_viewed is_linked_one no_word c.new-links.result view told.0)
+            (λ none. none_not _ (sym none ∙ c.gap_after-gap.ensures.found gap))))),
+  );
   own = search rules;
   touched = search rules;
   words = search rules;
@@ -53,13 +57,12 @@ returns c = record {
       let gap = c.gap_after-gap.ensures.shown (at_front s) seen refl in
       let done = (c.fill-status.ensures.filled law (at_front s) (run_viewed is_linked_one no_word c.new-links.result view free) seen gap).1 in
       record { accepted = refl; done = spliced_back no_word kept c.new-links.result c.fill-status.new.links view (search rules) (search rules) done };
-  free = λ made. run_back is_linked_one no_word c.new-links.result c.new-links.ensures.1 (c.fill-status.ensures.free c.if-status-ne-OK.false);
   nothing = search rules;
-  told = λ made some.
+  accepted = λ some.
       let gap = c.fill-status.ensures.gap c.if-status-ne-OK.false in
-      let there : Stands is_linked_one (lent_table c.new-links.result) (front_of c.args.list.now) =
-      subst (λ (list : Front). Stands is_linked_one (lent_table c.new-links.result) list.head) c.stack_of-edited.ensures (c.gap_after-gap.ensures.told gap.0 gap.1) in
-      subst (λ es. Stands is_linked_one (table_of es) (front_of c.args.list.now)) c.new-links.ensures.1 there;
+      let told = (gap_same c.new-links.result c.new-links.ensures.1 c.stack_of-edited.ensures {at = None} refl).0 (c.gap_after-gap.ensures.told gap.0 gap.1) in
+      let free = run_back is_linked_one no_word c.new-links.result c.new-links.ensures.1 (c.fill-status.ensures.free c.if-status-ne-OK.false) in
+      ((λ ok. (free, told.1)), (λ told. refl));
   own = λ made some.
       let gap = c.fill-status.ensures.gap c.if-status-ne-OK.false in
       let front = c.gap_after-gap.ensures.is gap.0 gap.1 in

@@ -1,8 +1,9 @@
-use Rattle.std.proofs.Common.{◌<◌, Some, [], ◌∷◌, length, refl, subst, rules, arith}
+use Rattle.std.proofs.Common.{◌<◌, Some, [], ◌∷◌, length, refl, sym, subst, rules, arith}
 use Rattle.std.proofs.lemmas.Grind.{common_steps}
 use Rattle.ic_link_ops.specs.Sequences.{at_front}
+use Rattle.ic_link_ops.proofs.SequenceLemmas.{none_not}
 use Rattle.ic_raw.specs.Hash.{slot_of}
-use Rattle.ic_raw.specs.Singly.{ShowsList}
+use Rattle.ic_raw.specs.Singly.{ShowsList, StandsIn, front_of}
 use Rattle.ic_raw.proofs.HashTables.{chain_read, chain_written, changes_chain, holds_inserted}
 use Rattle.ic_raw.proofs.Singly.{touches_places}
 use Rattle.ic_raw.proofs.hash_calls.insert.Goals as goal
@@ -22,10 +23,15 @@ returns c = record {
       let put = (c.push_front.ensures.inserted (at_front (chains at)) p refl is seen free).done in
       holds_inserted holds c.args.hash within (changes_chain c.args.buckets.now c.args.hash c.in-Some.at slot.0 c.push_front.new.list) p free
       (rw (chain_written c.args.buckets.now c.args.hash c.in-Some.at slot.0 c.push_front.new.list slot.1) put.shows) put.frame;
-  free = search rules;
-  no_place = search rules;
-  any = search rules;
-  told = search rules;
+  accepted =
+      let slot = c.slot.ensures.slot c.in-Some.at c.in-Some.is in
+      let chain = chain_read c.args.buckets.now c.args.hash c.in-Some.at slot.0 _ slot.1 in
+      (
+        (λ ok.
+            let told = c.push_front.ensures.accepted.0 ok in
+            (omega (arith, slot.1), told.0, subst (λ w. StandsIn c.args.table.now (front_of w)) (sym chain) told.1.1)),
+        (λ told. c.push_front.ensures.accepted.1 (told.1, ((λ q e. absurd (none_not q e)), subst (λ w. StandsIn c.args.table.now (front_of w)) chain told.2))),
+      );
   own = search rules;
   touched = λ p is made. touches_places (Some p ∷ []) (c.push_front.ensures.touched p is made);
   words = search rules;

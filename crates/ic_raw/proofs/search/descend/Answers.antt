@@ -1,6 +1,7 @@
-use Rattle.std.proofs.Common.{◌≡◌, Some, None, [], refl, sym, ◌∙◌, arith}
+use Rattle.std.proofs.Common.{◌≡◌, Some, None, [], refl, sym, ap, ◌∙◌, arith}
 use Rattle.ic_link_ops.specs.Frames.{child_on}
 use Rattle.ic_link_ops.proofs.SequenceLemmas.{none_not}
+use Rattle.ic_rbtree.specs.Comparing.{goes_left}
 use Rattle.ic_rbtree.specs.Descents.{side_of}
 use Rattle.ic_rbtree.proofs.Closed.{in_there}
 use Rattle.ic_rbtree.proofs.Closed as sets
@@ -8,7 +9,7 @@ use Rattle.ic_rbtree.proofs.Sending.{sent_over}
 use Rattle.ic_raw.specs.Keys.{against}
 use Rattle.ic_raw.specs.Seen.{seen, seen_node, has_place}
 use Rattle.ic_raw.specs.Tree.{lent_table}
-use Rattle.ic_raw.proofs.Keys.{keyed, comes_first, comes_on, comes_to_end, past_within, down_past}
+use Rattle.ic_raw.proofs.Keys.{keyed, comes_first, comes_on, comes_to_end, past_within, down_past, turned_nowhere, turned_on}
 use Rattle.ic_raw.proofs.Trees.{in_range, has, child_in}
 use Rattle.ic_raw.proofs.search.descend.Goals as goal
 use Rattle.ic_raw.proofs.search.descend.Goals.{then-left+in-Some-left, else-left+in-Some-right}
@@ -20,6 +21,7 @@ loop-init c =
     record {
       each = λ s h. comes_first t c.new-way.ensures top h;
       down = ([], sym top);
+      turned = turned_nowhere _ c.new-way.ensures;
       here = has t (in_range c.args.links.now) c.in-Some.root (c.requires.root c.in-Some.root (sym top));
       inside = λ S h. (in_there S h.starts (sym top), rw c.new-way.ensures (tt, (tt, (tt, tt))));
     }
@@ -59,6 +61,7 @@ loop-preserved c =
     record {
       each = λ s h. comes_on t (c.loop.invariant.each s h) c.goes_left-left.result c.pass.ensures c.compare_at.ensures c.goes_left-left.ensures next refl;
       down = down_past (seen t) (against c.args.key c.args.keys.now) c.args.equals c.loop.invariant.down c.goes_left-left.ensures c.compare_at.ensures next;
+      turned = rw c.pass.ensures (turned_on _ c.loop.way c.loop.place c.goes_left-left.result (c.goes_left-left.ensures ∙ ap (goes_left c.args.equals) c.compare_at.ensures) c.loop.invariant.turned);
       here = in_there (has_place t) (child_in t (side_of c.goes_left-left.result) c.loop.place) (sym next);
       inside = λ S h.
           let was = c.loop.invariant.inside S h in (
@@ -82,3 +85,14 @@ returns-in_default-left-clause-within c S h =
 pub returns-in_default-right-clause-within : goal.returns-in_default-right-clause-within
 returns-in_default-right-clause-within c S h =
     let was = c.loop.invariant.inside S h in rw c.pass.ensures (past_within S c.loop.way c.loop.place c.goes_left-left.result was.0 was.1)
+
+pub returns-in_default-clause-turned : goal.returns-in_default-clause-turned
+returns-in_default-clause-turned c = turned_nowhere _ c.new-way.ensures
+
+pub returns-in_default-left-clause-turned : goal.returns-in_default-left-clause-turned
+returns-in_default-left-clause-turned c =
+    rw c.pass.ensures (turned_on _ c.loop.way c.loop.place c.goes_left-left.result (c.goes_left-left.ensures ∙ ap (goes_left c.args.equals) c.compare_at.ensures) c.loop.invariant.turned)
+
+pub returns-in_default-right-clause-turned : goal.returns-in_default-right-clause-turned
+returns-in_default-right-clause-turned c =
+    rw c.pass.ensures (turned_on _ c.loop.way c.loop.place c.goes_left-left.result (c.goes_left-left.ensures ∙ ap (goes_left c.args.equals) c.compare_at.ensures) c.loop.invariant.turned)

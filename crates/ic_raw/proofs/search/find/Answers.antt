@@ -3,7 +3,7 @@ use Rattle.std.specs.Ordering.{is_eq, is_lt}
 use Rattle.ic_link_ops.proofs.SequenceLemmas.{some_same}
 use Rattle.ic_link_ops.specs.Sequences.{Cut, last}
 use Rattle.ic_rbtree.specs.Borders.{if_passes, equal_at}
-use Rattle.ic_rbtree.specs.Comparing.{is_beyond}
+use Rattle.ic_rbtree.specs.Comparing.{goes_left, is_beyond}
 use Rattle.ic_rbtree.specs.declared.keys.key_adapter.Bound.TheVariants.{Included}
 use Rattle.ic_rbtree.proofs.Closed.{in_there, read_in}
 use Rattle.ic_rbtree.proofs.Gaps.{gap_same}
@@ -11,7 +11,7 @@ use Rattle.ic_rbtree.proofs.Sending.{lower_border, upper_border, not_ge}
 use Rattle.ic_raw.specs.Keys.{against, equals_of}
 use Rattle.ic_raw.specs.Seen.{seen_node, has_place}
 use Rattle.ic_raw.specs.Tree.{lent_table}
-use Rattle.ic_raw.proofs.Keys.{keyed, finds, ends_at, is_some}
+use Rattle.ic_raw.proofs.Keys.{keyed, finds, ends_at, is_some, at_least}
 use Rattle.ic_raw.proofs.Trees.{in_range, end_in, closed, seen_shows}
 use Rattle.ic_raw.proofs.search.find.Goals as goal
 
@@ -88,9 +88,21 @@ returns-in-AtLeast-clause-ended c _ = rw c.equals_of.ensures at (c.descend.ensur
 pub returns-in-AtMost-clause-ended : goal.returns-in-AtMost-clause-ended
 returns-in-AtMost-clause-ended c _ = rw c.equals_of.ensures at (c.descend.ensures.down (is_some c.in-Some.is))
 
-pub returns-then-is_eq-clause-equal : goal.returns-then-is_eq-clause-equal
-returns-then-is_eq-clause-equal c _ q is =
-    rw (← some_same (some_same is)) (ap is_eq (sym c.compare_at.ensures) ∙ sym c.is_eq.ensures ∙ c.if-is_eq.true)
+pub returns-then-is_eq-clause-bounded : goal.returns-then-is_eq-clause-bounded
+returns-then-is_eq-clause-bounded c q is =
+    rw (c.in-Equal.is, ← some_same (some_same is)) (ap is_eq (sym c.compare_at.ensures) ∙ sym c.is_eq.ensures ∙ c.if-is_eq.true)
+
+pub returns-in-AtLeast-clause-bounded : goal.returns-in-AtLeast-clause-bounded
+returns-in-AtLeast-clause-bounded c q is =
+    let turned = rw c.in-Some.is at c.descend.ensures.turned in
+    rw c.in-AtLeast.is (sym (ap (λ side. goes_left side (against c.args.key c.args.keys.now q)) (c.equals_of.ensures ∙ ap equals_of c.in-AtLeast.is))
+        ∙ turned.back q (sym c.get-in-AtLeast.ensures ∙ some_same is))
+
+pub returns-in-AtMost-clause-bounded : goal.returns-in-AtMost-clause-bounded
+returns-in-AtMost-clause-bounded c q is =
+    let turned = rw c.in-Some.is at c.descend.ensures.turned in
+    rw c.in-AtMost.is (at_least _ (sym (ap (λ side. goes_left side (against c.args.key c.args.keys.now q)) (c.equals_of.ensures ∙ ap equals_of c.in-AtMost.is))
+        ∙ turned.front q (sym c.get-in-AtMost.ensures ∙ some_same is)))
 
 pub returns-then-is_eq-clause-within : goal.returns-then-is_eq-clause-within
 returns-then-is_eq-clause-within c S h =

@@ -30,10 +30,10 @@ returns-clause-found c s shown enough =
     let is = subst (IsTarget c.args.target at s) (some_same (sym found.1 ∙ c.in-Some.is)) found.2 in
     (c.in-Some.member, is, c.hand_out.ensures.found (target_stands c.args.target at shown is))
 
-pub returns-clause-key : goal.returns-clause-key
-returns-clause-key c equal ok =
+pub returns-clause-bounded : goal.returns-clause-bounded
+returns-clause-bounded c ok =
     let told = c.hand_out.ensures.told ok in
-    (told.0, c.find.ensures.equal equal told.0 (c.in-Some.is ∙ ap Some told.1), told.3)
+    (told.0, told.2, told.3, c.find.ensures.bounded told.0 (c.in-Some.is ∙ ap Some told.1))
 
 pub returns-clause-why : goal.returns-clause-why
 returns-clause-why c made found =

@@ -1,9 +1,9 @@
 use Rattle.std.proofs.Common.{[], ◌≤◌, length, sym, subst, rules}
 use Rattle.ic_raw.specs.Words.{no_tree_words}
 use Rattle.ic_raw.proofs.Views.{viewed}
-use Rattle.ic_raw.proofs.Trees.{kept, names_back}
+use Rattle.ic_raw.proofs.Trees.{kept}
 use Rattle.ic_raw.proofs.TreeSets.{reached_back}
-use Rattle.ic_raw.proofs.Keys.{ends_back}
+use Rattle.ic_raw.proofs.Keys.{ends_back, target_back}
 use Rattle.ic_raw.proofs.search_calls.look_for.Goals as goal
 
 pub returns : goal.returns
@@ -11,9 +11,8 @@ returns c = record {
   found = λ s enough shown.
       let view = c.new-links.ensures.1 in
       c.look.ensures.found s (rw c.tree_of.ensures (viewed no_tree_words kept c.new-links.result view shown)) (subst (λ es. length es ≤ length c.args.keys.now) (sym view) enough);
-  linked = λ ok. names_back c.new-links.result _ c.new-links.ensures.1 (c.look.ensures.linked ok);
   reached = λ ok. reached_back c.new-links.result [] _ c.new-links.ensures.1 (rw c.tree_of.ensures at (c.look.ensures.reached ok));
-  equal = c.look.ensures.key;
+  bounded = λ ok. target_back c.new-links.result c.args.target c.args.keys.now c.args.key _ c.new-links.ensures.1 (c.look.ensures.bounded ok);
   ended = λ null. ends_back c.new-links.result c.args.target c.args.keys.now c.args.key c.new-links.ensures.1 (rw c.tree_of.ensures at (c.look.ensures.ended null));
   refused = search rules;
   same = search rules;

@@ -1,5 +1,6 @@
 use Rattle.std.proofs.Common.{◌≡◌, refl, sym, ap, ◌∙◌}
-use Rattle.ic_link_ops.proofs.SequenceLemmas.{some_same}
+use Rattle.ic_link_ops.proofs.SequenceLemmas.{none_not, some_same}
+use Rattle.ic_raw.proofs.Gaps.{never}
 use Rattle.ic_raw.proofs.Singly.{law, touches_put}
 use Rattle.ic_raw.proofs.Lists.{inserted}
 use Rattle.ic_raw.proofs.stack.insert.Goals as goal
@@ -15,11 +16,20 @@ returns-clause-inserted c cut p shown after is free =
           (c.acquire.ensures.frame c.in-Some-acquire.place c.in-Some-acquire.is) put.shows put.extent put.others,
     )
 
-pub returns-clause-free : goal.returns-clause-free
-returns-clause-free c made =
+pub returns-in_default-clause-accepted : goal.returns-in_default-clause-accepted
+returns-in_default-clause-accepted c = ((λ e. absurd (never refl e)), (λ told. absurd (none_not _ (sym c.in_default.is ∙ c.gap_after.ensures.found told.1))))
+
+pub returns-in_default-acquire-clause-accepted : goal.returns-in_default-acquire-clause-accepted
+returns-in_default-acquire-clause-accepted c = (
+  (λ e. absurd (never refl e)),
+  (λ told. let free = told.0 in absurd (none_not _ (sym c.in_default-acquire.is ∙ c.acquire.ensures.accepted free.0 free.1 free.2))),
+)
+
+pub returns-clause-accepted : goal.returns-clause-accepted
+returns-clause-accepted c =
     let place = c.in-Some-acquire.place in
     let is = c.in-Some-acquire.is in
-    (place, c.acquire.ensures.same place is, c.acquire.ensures.free place is)
+    ((λ made. ((place, c.acquire.ensures.same place is, c.acquire.ensures.free place is), c.gap_after.ensures.told _ c.in-Some.is)), (λ told. refl))
 
 pub returns-clause-own : goal.returns-clause-own
 returns-clause-own c made =

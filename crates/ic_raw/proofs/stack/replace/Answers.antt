@@ -1,6 +1,7 @@
 use Rattle.std.proofs.Common.{◌≡◌, refl, sym, ◌∙◌}
-use Rattle.ic_link_ops.proofs.SequenceLemmas.{some_same}
+use Rattle.ic_link_ops.proofs.SequenceLemmas.{none_not, some_same}
 use Rattle.ic_link_ops.proofs.ShownLists.{shows_middle}
+use Rattle.ic_raw.proofs.Gaps.{never}
 use Rattle.ic_raw.proofs.Singly.{law, touches_exchanged}
 use Rattle.ic_raw.proofs.Lists.{replaced}
 use Rattle.ic_raw.proofs.stack.replace.Goals as goal
@@ -18,9 +19,17 @@ returns-clause-replaced c front back p shown after is free =
       released.released.is,
     )
 
-pub returns-clause-free : goal.returns-clause-free
-returns-clause-free c made =
-    (c.in-Some.place, c.acquire.ensures.same c.in-Some.place c.in-Some.is, c.acquire.ensures.free c.in-Some.place c.in-Some.is)
+pub returns-in_default-clause-accepted : goal.returns-in_default-clause-accepted
+returns-in_default-clause-accepted c = (
+  (λ e. absurd (never refl e)),
+  (λ free. absurd (none_not _ (sym c.in_default.is ∙ c.acquire.ensures.accepted free.0 free.1 free.2))),
+)
+
+pub returns-clause-accepted : goal.returns-clause-accepted
+returns-clause-accepted c = (
+  (λ made. (c.in-Some.place, c.acquire.ensures.same c.in-Some.place c.in-Some.is, c.acquire.ensures.free c.in-Some.place c.in-Some.is)),
+  (λ free. refl),
+)
 
 pub returns-clause-own : goal.returns-clause-own
 returns-clause-own c made = rw (c.acquire.ensures.same _ c.in-Some.is) c.replace_linked.ensures.ends.head

@@ -1,11 +1,12 @@
-use Rattle.std.proofs.Common.{Some, refl, sym, ap, ◌∙◌}
+use Rattle.std.proofs.Common.{Some, refl, sym, ap, subst, ◌∙◌}
 use Rattle.ic_link_ops.specs.Sequences.{first, join}
 use Rattle.ic_link_ops.specs.SinglyLinkedList.{list_from}
 use Rattle.ic_link_ops.proofs.SequenceLemmas.{none_not, nothing_last}
 use Rattle.ic_link_ops.proofs.ShownLists.{last_linked}
 use Rattle.ic_raw.specs.Singly.{Shows, lent_table}
+use Rattle.ic_raw.proofs.Gaps.{never}
 use Rattle.ic_raw.proofs.Lists.{begin_apart}
-use Rattle.ic_raw.proofs.Singly.{law}
+use Rattle.ic_raw.proofs.Singly.{law, shows_none}
 use Rattle.ic_raw.proofs.stack.splice.Goals as goal
 
 pub returns-then-begin_alike-clause-spliced : goal.returns-then-begin_alike-clause-spliced
@@ -40,3 +41,34 @@ pub returns-clause-own : goal.returns-clause-own
 returns-clause-own c made some =
     let first = sym c.first.ensures ∙ c.in-Some-first.is in
     rw (first, ← ap (λ g. g.before) (c.gap_after.ensures.is _ c.in-Some.is)) (c.splice_between.ensures.ends c.in-Some-first.front first).head
+
+pub returns-then-begin_alike-clause-accepted : goal.returns-then-begin_alike-clause-accepted
+returns-then-begin_alike-clause-accepted c =
+    let alike = c.begin_alike.ensures.alike c.if-begin_alike.true in
+    ((λ e. absurd (never refl e)), (λ told. absurd (told.1 alike.0 alike.1 alike.2)))
+
+pub returns-in_default-clause-accepted : goal.returns-in_default-clause-accepted
+returns-in_default-clause-accepted c = ((λ e. absurd (never refl e)), (λ told. absurd (none_not _ (sym c.in_default.is ∙ c.gap_after.ensures.found told.0))))
+
+pub returns-in_default-first-clause-accepted : goal.returns-in_default-first-clause-accepted
+returns-in_default-first-clause-accepted c = (
+  (λ made. (c.gap_after.ensures.told _ c.in-Some.is, c.begin_alike.ensures.apart c.if-begin_alike.false, shows_none (lent_table c.args.links.now) c.args.given (sym c.first.ensures ∙ c.in_default-first.is))),
+  (λ told. refl),
+)
+
+pub returns-in_default-last_from-clause-accepted : goal.returns-in_default-last_from-clause-accepted
+returns-in_default-last_from-clause-accepted c = (
+  (λ e. absurd (never refl e)),
+  (λ told.
+      let shown = told.2 in
+      let whole : Shows (lent_table c.args.links.now) (list_from (Some c.in-Some-first.front)) shown.0 = rw (sym c.first.ensures ∙ c.in-Some-first.is) at shown.1 in
+      let nothing = nothing_last shown.0 (sym c.in_default-last_from.is ∙ c.last_from.ensures.shown shown.0 whole) in
+      absurd (none_not c.in-Some-first.front (sym (whole.head ∙ ap first nothing)))),
+)
+
+pub returns-clause-accepted : goal.returns-clause-accepted
+returns-clause-accepted c =
+    let t = lent_table c.args.links.now in
+    let walked = c.last_from.ensures.ended c.in-Some-last_from.back c.in-Some-last_from.is in
+    let whole = subst (λ o. Shows t (list_from o) walked.0) (sym c.in-Some-first.is ∙ c.first.ensures) walked.1 in
+    ((λ made. (c.gap_after.ensures.told _ c.in-Some.is, c.begin_alike.ensures.apart c.if-begin_alike.false, (walked.0, whole))), (λ told. refl))

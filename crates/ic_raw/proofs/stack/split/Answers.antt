@@ -1,4 +1,6 @@
-use Rattle.std.proofs.Common.{ap, ◌∙◌}
+use Rattle.std.proofs.Common.{refl, sym, ap, ◌∙◌}
+use Rattle.ic_link_ops.proofs.SequenceLemmas.{none_not}
+use Rattle.ic_raw.proofs.Gaps.{never}
 use Rattle.ic_raw.proofs.stack.split.Goals as goal
 
 pub returns-clause-touched : goal.returns-clause-touched
@@ -11,3 +13,9 @@ returns-clause-own c made = rw (← ap (λ g. g.before) (c.gap_after.ensures.is 
 
 pub returns-clause-rest : goal.returns-clause-rest
 returns-clause-rest c made = c.split_between.ensures.ends.rest_head ∙ ap (λ g. g.behind) (c.gap_after.ensures.is _ c.in-Some.is)
+
+pub returns-in_default-clause-accepted : goal.returns-in_default-clause-accepted
+returns-in_default-clause-accepted c = ((λ e. absurd (never refl e)), (λ told. absurd (none_not _ (sym c.in_default.is ∙ c.gap_after.ensures.found told))))
+
+pub returns-clause-accepted : goal.returns-clause-accepted
+returns-clause-accepted c = ((λ made. c.gap_after.ensures.told _ c.in-Some.is), (λ told. refl))

@@ -7,7 +7,7 @@ use Rattle.ic_raw.specs.Singly.{Shows, lent_table}
 use Rattle.ic_raw.proofs.Views.{viewed, removed_back, unlinked_back}
 use Rattle.ic_raw.proofs.Lists.{kept}
 use Rattle.ic_raw.proofs.Own.{front_left}
-use Rattle.ic_raw.proofs.Singly.{touches_places}
+use Rattle.ic_raw.proofs.Singly.{member_first, member_same, touches_places}
 use Rattle.ic_raw.proofs.Touches.{touched_back}
 use Rattle.ic_raw.proofs.stack_calls.pop_front.Goals as goal
 
@@ -31,7 +31,9 @@ returns-then-is_linked c = record {
       let first = sym c.in-Some.is ∙ c.first.ensures ∙ ap (λ (l : Front). l.head) c.stack_of-edited.ensures in
       subst (λ q. HasNumber q c.number_of.result) (some_same (first ∙ is)) c.number_of.ensures;
   null = search rules;
-  stands = search rules;
+  accepted =
+      let first = member_first (lent_table c.new-links.result) (sym c.first.ensures ∙ c.in-Some.is) (sym c.is_linked.ensures ∙ c.if-is_linked.true) in
+      ((λ ok. (member_same c.new-links.result c.new-links.ensures.1 c.stack_of-edited.ensures refl).0 first), (λ told. refl));
   own = λ made.
       let first = sym c.in-Some.is ∙ c.first.ensures ∙ ap (λ (l : Front). l.head) c.stack_of-edited.ensures in
       let front : ◌≡◌ {A = Option Place} None None = refl in

@@ -8,7 +8,7 @@ returns c = record {
   taken = λ s p shown. c.remove_after.ensures.taken [] s p none_named shown;
   handed = λ p is made. (rw none_named at c.remove_after.ensures.handed) p is made;
   null = let null = rw none_named at c.remove_after.ensures.null in ((λ e. (null.0 e).1), (λ e. null.1 (refl, e)));
-  stands = λ made. rw none_named at (c.remove_after.ensures.told made);
+  accepted = rw none_named at c.remove_after.ensures.accepted;
   own = λ made. rw none_named at (c.remove_after.ensures.own made);
   touched = λ p is made. touches_places (Some p ∷ []) ((rw none_named at c.remove_after.ensures.touched) p is made);
   words = search rules;

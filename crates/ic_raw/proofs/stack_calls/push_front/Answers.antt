@@ -2,9 +2,10 @@ use Rattle.std.proofs.Common.{refl, ◌∙◌, rules}
 use Rattle.ic_link_ops.specs.Sequences.{join}
 use Rattle.ic_raw.specs.Words.{no_word}
 use Rattle.ic_raw.specs.Singly.{Shows, lent_table}
-use Rattle.ic_raw.proofs.Views.{viewed, free_viewed, inserted_back}
+use Rattle.ic_raw.proofs.Views.{viewed, free_same, free_viewed, inserted_back}
 use Rattle.ic_raw.proofs.Lists.{kept}
-use Rattle.ic_raw.proofs.Gaps.{never}
+use Rattle.ic_raw.proofs.Gaps.{accepts, both, never, refuses}
+use Rattle.ic_raw.proofs.Singly.{gap_same}
 use Rattle.ic_raw.proofs.Touches.{touched_back}
 use Rattle.ic_raw.proofs.stack_calls.push_front.Goals as goal
 
@@ -14,10 +15,7 @@ returns-then-not-insert c = record {
       let view = c.new-links.ensures.1 in
       let seen : Shows (lent_table c.new-links.result) c.stack_of-edited.result (join cut) = rw c.stack_of-edited.ensures (viewed no_word kept c.new-links.result view shown) in
       absurd (never c.if-not-insert.true (c.insert.ensures.inserted cut p seen after (c.place_of.ensures ∙ is) (free_viewed no_word c.new-links.result view free)).0);
-  free = search rules;
-  no_place = search rules;
-  stands = search rules;
-  told = search rules;
+  accepted = refuses c.insert.ensures.accepted (both (free_same no_word c.new-links.result c.new-links.ensures.1 c.place_of.ensures) (gap_same c.new-links.result c.new-links.ensures.1 c.stack_of-edited.ensures refl)) c.if-not-insert.true c.refusal_at_end.ensures.refused.0;
   own = search rules;
   touched = search rules;
   words = search rules;
@@ -33,10 +31,7 @@ returns c = record {
       let seen : Shows (lent_table c.new-links.result) c.stack_of-edited.result (join cut) = rw c.stack_of-edited.ensures (viewed no_word kept c.new-links.result view shown) in
       let put = c.insert.ensures.inserted cut p seen after (c.place_of.ensures ∙ is) (free_viewed no_word c.new-links.result view free) in
       record { accepted = refl; done = inserted_back no_word kept c.new-links.result c.insert.new.links view (search rules) (search rules) put.1 };
-  free = search rules;
-  no_place = search rules;
-  stands = search rules;
-  told = search rules;
+  accepted = accepts c.insert.ensures.accepted (both (free_same no_word c.new-links.result c.new-links.ensures.1 c.place_of.ensures) (gap_same c.new-links.result c.new-links.ensures.1 c.stack_of-edited.ensures refl)) c.if-not-insert.false refl;
   own = search rules;
   touched = λ p is made.
       touched_back no_word c.new-links.result c.insert.new.links c.new-links.ensures.1 (search rules) refl

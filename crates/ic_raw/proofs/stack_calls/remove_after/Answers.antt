@@ -1,12 +1,13 @@
 use Rattle.std.proofs.Common.{◌≡◌, ◌∷◌, ◌++◌, append-nil, refl, sym, ap, subst, ◌∙◌, rules}
 use Rattle.ic_link_ops.specs.Sequences.{at_back}
 use Rattle.ic_link_ops.proofs.SequenceLemmas.{some_same, none_not}
+use Rattle.ic_raw.specs.declared.gap.Gap.{Gap}
 use Rattle.ic_raw.specs.Gaps.{before}
 use Rattle.ic_raw.specs.Words.{no_word, is_linked_one, HasNumber}
 use Rattle.ic_raw.specs.Singly.{Shows, lent_table}
 use Rattle.ic_raw.proofs.Views.{viewed, removed_back, unlinked_back}
 use Rattle.ic_raw.proofs.Lists.{kept}
-use Rattle.ic_raw.proofs.Singly.{behind_told, gap_viewed}
+use Rattle.ic_raw.proofs.Singly.{behind_told, gap_viewed, member_same, member_told}
 use Rattle.ic_raw.proofs.Own.{front_left}
 use Rattle.ic_raw.proofs.Touches.{touched_back}
 use Rattle.ic_raw.proofs.stack_calls.remove_after.Goals as goal
@@ -23,8 +24,10 @@ returns-in_default c = record {
       let gap = finds (at_back s) (rw append-nil shown) after in
       absurd (none_not _ (sym c.in_default.is ∙ gap));
   null = search rules;
-  stands = search rules;
-  told = search rules;
+  accepted = (
+    (λ ok. absurd (c.refusal_at.ensures.refused.0 ok)),
+    (λ told. absurd (none_not _ (sym c.in_default.is ∙ c.gap_after.ensures.found ((member_same c.new-links.result c.new-links.ensures.1 c.stack_of-edited.ensures c.place_of.ensures).1 told).0))),
+  );
   own = search rules;
   touched = search rules;
   words = search rules;
@@ -42,8 +45,10 @@ returns-in_default-behind c = record {
   handed = search rules;
   nothing = search rules;
   null = search rules;
-  stands = search rules;
-  told = search rules;
+  accepted = (
+    (λ ok. cc),
+    (λ told. absurd (((member_same c.new-links.result c.new-links.ensures.1 c.stack_of-edited.ensures c.place_of.ensures).1 told).1 (sym (ap (λ (g : Gap). g.behind) (c.gap_after.ensures.is _ c.in-Some.is)) ∙ c.in_default-behind.is))),
+  );
   own = search rules;
   touched = search rules;
   words = search rules;
@@ -77,8 +82,10 @@ returns c = record {
       let gap = finds (at_back s) (rw append-nil shown) after in
       absurd (none_not _ (sym (ap (λ g. g.behind) (some_same (sym c.in-Some.is ∙ gap))) ∙ c.in-Some-behind.is));
   null = search rules;
-  stands = search rules;
-  told = search rules;
+  accepted = (
+    (λ ok. (member_same c.new-links.result c.new-links.ensures.1 c.stack_of-edited.ensures c.place_of.ensures).0 (member_told (lent_table c.new-links.result) c.stack_of-edited.result (c.gap_after.ensures.told _ c.in-Some.is) (c.gap_after.ensures.is _ c.in-Some.is) c.in-Some-behind.is)),
+    (λ told. refl),
+  );
   own = λ made.
       let view = c.new-links.ensures.1 in
       let there = behind_told c.new-links.result c.args.list.now view c.stack_of-edited.ensures c.place_of.ensures (c.gap_after.ensures.is _ c.in-Some.is) c.in-Some-behind.is in

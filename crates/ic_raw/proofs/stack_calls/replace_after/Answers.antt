@@ -1,13 +1,14 @@
 use Rattle.std.proofs.Common.{◌≡◌, ◌∷◌, ◌++◌, append-nil, refl, sym, ap, subst, ◌∙◌, rules}
 use Rattle.ic_link_ops.specs.Sequences.{at_back}
 use Rattle.ic_link_ops.proofs.SequenceLemmas.{some_same, none_not}
+use Rattle.ic_raw.specs.declared.gap.Gap.{Gap}
 use Rattle.ic_raw.specs.Gaps.{before}
 use Rattle.ic_raw.specs.Words.{no_word, is_linked_one, HasNumber}
 use Rattle.ic_raw.specs.Singly.{Shows, lent_table}
 use Rattle.ic_raw.proofs.Gaps.{never}
-use Rattle.ic_raw.proofs.Views.{free_viewed, viewed, replaced_back, unlinked_back}
+use Rattle.ic_raw.proofs.Views.{free_same, free_viewed, viewed, replaced_back, unlinked_back}
 use Rattle.ic_raw.proofs.Lists.{kept}
-use Rattle.ic_raw.proofs.Singly.{behind_told, gap_viewed, stands_told}
+use Rattle.ic_raw.proofs.Singly.{behind_told, gap_viewed, member_same, member_told}
 use Rattle.ic_raw.proofs.Own.{front_put}
 use Rattle.ic_raw.proofs.Touches.{touched_back}
 use Rattle.ic_raw.proofs.stack_calls.replace_after.Goals as goal
@@ -19,15 +20,15 @@ returns-in_default c = record {
       let gap = finds (before out front back) shown after in
       absurd (none_not _ (sym c.in_default.is ∙ gap));
   handed = search rules;
-  free = search rules;
-  no_place = search rules;
   nothing = λ s shown after.
       let finds = gap_viewed c.new-links.result c.new-links.ensures.1 c.stack_of-edited.ensures c.place_of.ensures c.gap_after.ensures.shown in
       let gap = finds (at_back s) (rw append-nil shown) after in
       absurd (none_not _ (sym c.in_default.is ∙ gap));
   null = search rules;
-  stands = search rules;
-  told = search rules;
+  accepted = (
+    (λ ok. absurd (c.refusal.ensures.refused.0 ok)),
+    (λ told. absurd (none_not _ (sym c.in_default.is ∙ c.gap_after.ensures.found ((member_same c.new-links.result c.new-links.ensures.1 c.stack_of-edited.ensures c.place_of.ensures).1 told.1).0))),
+  );
   own = search rules;
   touched = search rules;
   words = search rules;
@@ -43,12 +44,12 @@ returns-in_default-behind c = record {
       let gap = finds (before out front back) shown after in
       absurd (none_not out (sym c.in_default-behind.is ∙ ap (λ g. g.behind) (some_same (sym c.in-Some.is ∙ gap))));
   handed = search rules;
-  free = search rules;
-  no_place = search rules;
   nothing = search rules;
   null = search rules;
-  stands = search rules;
-  told = search rules;
+  accepted = (
+    (λ ok. cc),
+    (λ told. absurd (((member_same c.new-links.result c.new-links.ensures.1 c.stack_of-edited.ensures c.place_of.ensures).1 told.1).1 (sym (ap (λ (g : Gap). g.behind) (c.gap_after.ensures.is _ c.in-Some.is)) ∙ c.in_default-behind.is))),
+  );
   own = search rules;
   touched = search rules;
   words = search rules;
@@ -69,15 +70,15 @@ returns-then-not-replace c = record {
       (free_viewed no_word c.new-links.result view free) in
       absurd (never c.if-not-replace.true put.0);
   handed = search rules;
-  free = search rules;
-  no_place = search rules;
   nothing = λ s shown after.
       let finds = gap_viewed c.new-links.result c.new-links.ensures.1 c.stack_of-edited.ensures c.place_of.ensures c.gap_after.ensures.shown in
       let gap = finds (at_back s) (rw append-nil shown) after in
       absurd (none_not _ (sym (ap (λ g. g.behind) (some_same (sym c.in-Some.is ∙ gap))) ∙ c.in-Some-behind.is));
   null = search rules;
-  stands = search rules;
-  told = search rules;
+  accepted = (
+    (λ ok. absurd (c.refusal-then-not-replace.ensures.refused.0 ok)),
+    (λ told. absurd (never c.if-not-replace.true (c.replace.ensures.accepted.1 ((free_same no_word c.new-links.result c.new-links.ensures.1 c.place_of-2.ensures).1 told.0)))),
+  );
   own = search rules;
   touched = search rules;
   words = search rules;
@@ -107,15 +108,18 @@ returns c = record {
   handed = λ p is made.
       let there = behind_told c.new-links.result c.args.list.now c.new-links.ensures.1 c.stack_of-edited.ensures c.place_of.ensures (c.gap_after.ensures.is _ c.in-Some.is) c.in-Some-behind.is in
       subst (λ q. HasNumber q c.number_of.result) (some_same (sym there ∙ is)) c.number_of.ensures;
-  free = search rules;
-  no_place = search rules;
   nothing = λ s shown after.
       let finds = gap_viewed c.new-links.result c.new-links.ensures.1 c.stack_of-edited.ensures c.place_of.ensures c.gap_after.ensures.shown in
       let gap = finds (at_back s) (rw append-nil shown) after in
       absurd (none_not _ (sym (ap (λ g. g.behind) (some_same (sym c.in-Some.is ∙ gap))) ∙ c.in-Some-behind.is));
   null = search rules;
-  stands = search rules;
-  told = λ made. stands_told c.new-links.result c.new-links.ensures.1 c.stack_of-edited.ensures c.place_of.ensures (c.gap_after.ensures.told _ c.in-Some.is);
+  accepted = (
+    (λ ok. (
+        (free_same no_word c.new-links.result c.new-links.ensures.1 c.place_of-2.ensures).0 (c.replace.ensures.accepted.0 c.if-not-replace.false),
+        (member_same c.new-links.result c.new-links.ensures.1 c.stack_of-edited.ensures c.place_of.ensures).0 (member_told (lent_table c.new-links.result) c.stack_of-edited.result (c.gap_after.ensures.told _ c.in-Some.is) (c.gap_after.ensures.is _ c.in-Some.is) c.in-Some-behind.is),
+      )),
+    (λ told. refl),
+  );
   own = λ made.
       let at = ap (λ g. g.before) (c.gap_after.ensures.is _ c.in-Some.is) ∙ c.place_of.ensures in
       front_put c.new-links.result c.args.list.now c.write_back.new.words c.new-links.ensures.1 c.stack_of-edited.ensures c.write_back.ensures.set at c.place_of-2.ensures (c.replace.ensures.own c.if-not-replace.false);
