@@ -16,7 +16,7 @@ use Rattle.ic_raw.specs.declared.words.RawOne.{RawOne}
 use Rattle.ic_raw.specs.declared.words.RawFront.{RawFront}
 use Rattle.ic_raw.specs.declared.table.RawTable.{RawTable}
 use Rattle.ic_raw.specs.declared.gap.Gap.{Gap}
-use Rattle.ic_raw.specs.Gaps.{Stands, gap_of}
+use Rattle.ic_raw.specs.Gaps.{gap_of}
 use Rattle.ic_raw.specs.Words.{no_word, is_linked_one}
 use Rattle.ic_raw.specs.Tables.{IsFree, raw_entries}
 use Rattle.ic_raw.specs.Touches.{IsNoneOf, Touches}
