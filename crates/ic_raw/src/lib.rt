@@ -44,6 +44,7 @@ pub mod xor_calls;
 mod xor_list;
 
 pub use gap::{Gap, Side};
+pub use marked_tree::MarkedTree;
 pub use number::{number_of, place_in, place_of};
 pub use search::Target;
 pub use status::{BROKEN, LINKED, NONE, NOT_LINKED, NULL, OK, OUT_OF_RANGE};

@@ -1,4 +1,5 @@
-//! The words of a tree as they are, for a check: a place is linked where it has the mark, and each number names its place.
+//! The words of a tree as they are, for a check and for an edit of a tree that a check has found: a place is linked if it has the mark,
+//! and each number names its place.
 //!
 //! ```text
 //! let links = MarkedTree::new(words);
@@ -16,10 +17,11 @@ use ic_link_ops::rbtree::RBTreeOps;
 use ic_link_ops::{Color, LinkOps, Words};
 use ic_unsafe_ref::Place;
 
-/// A view of a tree's words as they are. [`RawTable`](crate::RawTable) sees every place of the table as linked, for edits and searches.
+/// A view of a tree's words as they are. [`RawTable`](crate::RawTable) sees every place of the table as linked, for edits and searches of words
+/// that may show no tree.
 ///
-/// It is for checks: it links no place.
-pub(crate) struct MarkedTree<'a> {
+/// It is for checks, and for edits of a tree that a check has found.
+pub struct MarkedTree<'a> {
     entries: &'a mut [RawThree],
 }
 
@@ -32,9 +34,9 @@ impl Drop for MarkedTree<'_> {
 }
 
 impl<'a> MarkedTree<'a> {
-    // A view of these words.
+    /// A view of these words. O(1).
     #[inline]
-    pub(crate) fn new(words: &'a mut [RawThree]) -> MarkedTree<'a>
+    pub fn new(words: &'a mut [RawThree]) -> MarkedTree<'a>
         ensures name { result.entries.ghost_name ≡ words.entry.ghost_name }
         ensures words { result.entries.now ≡ words.entry.now }
     {
@@ -68,6 +70,7 @@ impl LinkOps for MarkedTree<'_> {
     ghost use Rattle.ic_link_ops.specs.EntryLaws.{linked_in_range};
     ghost use Rattle.ic_link_ops.specs.LinkSteps.{Replays};
     ghost use Rattle.ic_link_ops.specs.StepLaws.{replays_on};
+    ghost use Rattle.ic_link_ops.specs.Tables.{IsLinked};
     ghost use Rattle.ic_raw.specs.MarkedTree.{marked_entries};
     ghost use Rattle.ic_raw.specs.Words.{no_tree_words, is_linked_three};
     ghost use Rattle.std.specs.Prelude.{⊤};
@@ -82,14 +85,17 @@ impl LinkOps for MarkedTree<'_> {
 
     ghost Does = { λ old new s. Replays is_linked_three (marked_table old) (marked_table new) s };
 
-    ghost Refused = { λ old new p. new ≡ old };
+    ghost Refused = { λ old new p. IsLinked is_linked_three (marked_table old) p × (new ≡ old) };
 
-    // It links no place.
     #[inline]
     fn acquire_link(&mut self, place: Place) -> bool {
-        let _ = &*self;
-        let _ = place;
-        false
+        let index = place.index();
+        if self.entries[index].is_linked() {
+            return false;
+        }
+        let words = &mut self.entries[index];
+        words.link();
+        true
     }
 
     #[inline]
@@ -108,7 +114,7 @@ impl LinkOps for MarkedTree<'_> {
 
     ghost does_replay = { λ old new s h. h };
 
-    ghost refused_keeps = { λ old new p h. ap marked_table h };
+    ghost refused_keeps = { λ old new p h. ap marked_table h.1 };
 }
 
 impl RBTreeOps for MarkedTree<'_> {
