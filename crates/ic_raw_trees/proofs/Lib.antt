@@ -1,0 +1,3 @@
+pub mod TwoTrees
+pub mod Checks
+pub mod MarkedViews

@@ -1,0 +1,90 @@
+//! What the calls do that make one red-black tree of two, and two of one. All members stay linked.
+//!
+//! ```text
+//! append(table, tree, given)  // OK: the members of `given` come after those of `tree`, and `given` is empty
+//! join(table, tree, 7, given) // OK: so does 7, between both
+//! split(table, tree, 7, rest) // OK: `tree` has the members before 7, and `rest` has 7 and all after it
+//! ```
+
+ghost use Rattle.ic_raw.specs.Words.{place_of};
+ghost use Rattle.ic_raw_trees.specs.TreeMoveCalls.{AppendCall, JoinCall, SplitCall};
+
+use crate::faults::{member_fault, place_fault};
+use crate::shown::{has_member, shows_both, tree_of, write_back};
+use ic_raw::{BROKEN, MarkedTree, NULL, OK, OUT_OF_RANGE, RawRoot, RawThree, place_of};
+use ic_unsafe_ref::UnsafeRef;
+
+/// Moves all members of `given` after those of `tree`, in their order, and leaves `given` empty. O(n): it checks both trees first. In Rattle, where
+/// types vouch for the links, it takes O(log n).
+///
+/// It looks at no key. If the words do not show two trees that share no member, it returns [`BROKEN`](ic_raw::BROKEN).
+pub fn append(table: &mut [RawThree], tree: &mut RawRoot, given: &mut RawRoot) -> u32
+    ensures { AppendCall table.old table.new tree.old tree.new result given.old given.new }
+{
+    let mut links = MarkedTree::new(table);
+    let mut edited = tree_of(&*tree);
+    let mut moved = tree_of(&*given);
+    if !shows_both(&links, &edited, &moved) {
+        return BROKEN;
+    }
+    edited.append(&mut links, &mut moved);
+    write_back(tree, &edited);
+    write_back(given, &moved);
+    OK
+}
+
+/// Inserts a place after all members of `tree`, and moves all of `given` after it. `given` is empty then. O(n): it checks both trees first. In Rattle,
+/// where types vouch for the links, it takes O(log n).
+///
+/// It looks at no key. The place has to be one of the table, and not linked. If the words do not show two trees that share no member, it
+/// returns [`BROKEN`](ic_raw::BROKEN).
+pub fn join(table: &mut [RawThree], tree: &mut RawRoot, place: u32, given: &mut RawRoot) -> u32
+    ensures { JoinCall table.old table.new tree.old tree.new result (place_of place) given.old given.new }
+{
+    let Some(object) = place_of(place) else {
+        return OUT_OF_RANGE;
+    };
+    let fault = place_fault(table, object);
+    if fault != OK {
+        return fault;
+    }
+    let mut links = MarkedTree::new(table);
+    let mut edited = tree_of(&*tree);
+    let mut moved = tree_of(&*given);
+    if !shows_both(&links, &edited, &moved) {
+        return BROKEN;
+    }
+    let _ = edited.join(&mut links, UnsafeRef::new(object), &mut moved); // proved: it is not linked
+    write_back(tree, &edited);
+    write_back(given, &moved);
+    OK
+}
+
+/// Keeps the members before the member `at`, and moves `at` and all after it to `rest`, which has to be empty. At [`NONE`](ic_raw::NONE) it returns
+/// [`NULL`](ic_raw::NULL). O(n): it checks the tree first. In Rattle, where types vouch for the links, it takes O(log n).
+///
+/// It looks at no key. If the words do not show a tree of which `at` is a member, or if `rest` has a root, it returns
+/// [`BROKEN`](ic_raw::BROKEN).
+pub fn split(table: &mut [RawThree], tree: &mut RawRoot, at: u32, rest: &mut RawRoot) -> u32
+    ensures { SplitCall table.old table.new tree.old tree.new result (place_of at) rest.old rest.new }
+{
+    let Some(member) = place_of(at) else {
+        return NULL;
+    };
+    let fault = member_fault(table, member);
+    if fault != OK {
+        return fault;
+    }
+    let mut links = MarkedTree::new(table);
+    let mut edited = tree_of(&*tree);
+    if tree_of(&*rest).root().is_some() {
+        return BROKEN;
+    }
+    if !has_member(&links, &edited, member) {
+        return BROKEN;
+    }
+    let handed = edited.split_off(&mut links, &UnsafeRef::new(member));
+    write_back(tree, &edited);
+    write_back(rest, &handed);
+    OK
+}
