@@ -1417,11 +1417,32 @@ uint32_t ic_tree_remove(struct ic_link3 *table, ic_length places, struct ic_tree
 IC_NODISCARD
 uint32_t ic_tree_replace(struct ic_link3 *table, ic_length places, struct ic_tree *tree, uint32_t at, uint32_t place);
 
+/* Moves all members of `given`, in their order, after those of this tree, and leaves `given` empty, in O(n). The call compares nothing, so
+ * hand in trees of which all keys of the one come before those of the other. It checks both trees first. In Rattle, where types vouch for
+ * the links, it takes O(log n).
+ * IC_BROKEN: the links form no red-black tree from one of the two roots on, or both trees have the same root. */
+IC_NODISCARD
+uint32_t ic_tree_append(struct ic_link3 *table, ic_length places, struct ic_tree *tree, struct ic_tree *given);
+
+/* Inserts `place` after all members of this tree, moves all members of `given`, in their order, after the place, and leaves `given` empty,
+ * in O(n). The call compares nothing, and checks both trees first. In Rattle, where types vouch for the links, it takes O(log n).
+ * IC_OUT_OF_RANGE: `place` is not below `places`. IC_LINKED: `place` is linked already. IC_BROKEN: the links form no red-black tree from
+ * one of the two roots on, or both trees have the same root. */
+IC_NODISCARD
+uint32_t ic_tree_join(struct ic_link3 *table, ic_length places, struct ic_tree *tree, uint32_t place, struct ic_tree *given);
+
 /* Removes all members, in O(n).
  * IC_BROKEN: the root does not belong to this table, or the steps from the first member on come to a place that is not linked, or to no end
  * within as many steps as the table has places. */
 IC_NODISCARD
 uint32_t ic_tree_clear(struct ic_link3 *table, ic_length places, struct ic_tree *tree);
+
+/* Moves the member `at` and all members after it to `rest`, which has to be empty, in O(n). The call checks the tree first. In Rattle,
+ * where types vouch for the links, it takes O(log n).
+ * IC_NULL: the place `at` is IC_NONE. IC_OUT_OF_RANGE: the place `at` is not below `places`. IC_NOT_LINKED: the place `at` is not linked.
+ * IC_BROKEN: the links form no red-black tree from the root on, or `at` is no member of it, or `rest` has members. */
+IC_NODISCARD
+uint32_t ic_tree_split(struct ic_link3 *table, ic_length places, struct ic_tree *tree, uint32_t at, struct ic_tree *rest);
 
 /* Counts the members, and sets *members to how many there are, in O(n). Call it if the words come from a file, or from memory that others
  * write. If the status is IC_OK, each call does what it says of a tree that the table holds. The check reads no keys, and calls itself, at

@@ -1189,6 +1189,16 @@ public:
     /// Removes the last member, and returns it. It returns std::nullopt where pop_front() does.
     [[nodiscard]] std::optional<std::uint32_t> pop_back() const noexcept { return popped(*rbegin()); }
 
+    /// Moves all members of `given` after those of this tree, and leaves `given` empty, in O(n). This and the next two compare nothing, and check
+    /// the trees first: they return ic::status::broken, and change nothing, if these are no trees of this table, or are one.
+    status append(tree_view given) const noexcept { return edit_both(given, ic_tree_append, given.head_); }
+
+    /// Inserts a place after all members, and moves all members of `given` after it, in O(n).
+    status join(std::uint32_t place, tree_view given) const noexcept { return edit_both(given, ic_tree_join, place, given.head_); }
+
+    /// Moves the member and all members after it to `rest`, which has to be empty, in O(n).
+    status split(std::uint32_t at, tree_view rest) const noexcept { return edit_both(rest, ic_tree_split, at, rest.head_); }
+
     /// Removes all members. It returns ic::status::broken, and changes nothing, if they are no tree of this table.
     status clear() const noexcept { return edit(ic_tree_clear); }
 

@@ -792,8 +792,29 @@ static inline uint32_t ic_tree_in_replace(struct ic_tree_in in, uint32_t at, uin
 }
 
 IC_NODISCARD
+static inline uint32_t ic_tree_in_append(struct ic_tree_in in, struct ic_tree_in given) {
+    if (given.table != in.table || given.tree == in.tree)
+        return IC_BROKEN;
+    return ic_tree_append(in.table, in.places, in.tree, given.tree);
+}
+
+IC_NODISCARD
+static inline uint32_t ic_tree_in_join(struct ic_tree_in in, uint32_t place, struct ic_tree_in given) {
+    if (given.table != in.table || given.tree == in.tree)
+        return IC_BROKEN;
+    return ic_tree_join(in.table, in.places, in.tree, place, given.tree);
+}
+
+IC_NODISCARD
 static inline uint32_t ic_tree_in_clear(struct ic_tree_in in) {
     return ic_tree_clear(in.table, in.places, in.tree);
+}
+
+IC_NODISCARD
+static inline uint32_t ic_tree_in_split(struct ic_tree_in in, uint32_t at, struct ic_tree_in rest) {
+    if (rest.table != in.table || rest.tree == in.tree)
+        return IC_BROKEN;
+    return ic_tree_split(in.table, in.places, in.tree, at, rest.tree);
 }
 
 IC_NODISCARD

@@ -20,6 +20,11 @@ def renamed(name):
     return re.sub(r"^((?:ic|IC)_[A-Za-z]+_)", lambda it: it[1] + ("in_" if it[1].islower() else "IN_"), name)
 
 
+def whole(family):
+    """What a handle calls the list or the tree."""
+    return "tree" if family == "tree" else "list"
+
+
 def handed(family, arguments):
     """The parameters of a function over a handle, and what it hands to the call: `keys` are an argument of their own, unless the handle has them, and so
     are `hashes`."""
@@ -29,7 +34,7 @@ def handed(family, arguments):
         kind, name = re.match(r"(.*?[ *])(\w+)$", argument).groups()
         if name in OTHERS and "*" in kind:
             params.append(f"struct ic_{family}_in {name}")
-            words.append(f"{name}.list")
+            words.append(f"{name}.{whole(family)}")
         elif name in own:
             params.append(f"struct ic_keys {name}")
             words += [f"{name}.keys", f"{name}.count"]
@@ -52,7 +57,7 @@ def function(family, item, is_refused):
     lines = textwrap.wrap(", ".join(params), WIDTH - len(head) - 3)
     text = "IC_NODISCARD\n" * is_refused + head + ("\n" + " " * len(head)).join(lines) + ") {\n"
     if other:
-        text += f"    if ({other}.table != in.table || {other}.list == in.list)\n        return IC_BROKEN;\n"
+        text += f"    if ({other}.table != in.table || {other}.{whole(family)} == in.{whole(family)})\n        return IC_BROKEN;\n"
     return text + f"    return {name}({', '.join(words)});\n}}\n"
 
 

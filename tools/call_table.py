@@ -7,7 +7,7 @@ from checks import ROOT
 
 CRATE = ROOT / "crates/ic_ffi"
 # The crates whose specs have the records that are contracts.
-HOMES = ("ic_raw", "ic_raw_lists", "ic_raw_keyed")
+HOMES = ("ic_raw", "ic_raw_lists", "ic_raw_keyed", "ic_raw_trees")
 TABLE = CRATE / "calls.txt"
 HEADER = ROOT / "include/ic.h"
 CASES = ROOT / "tests/library/reads.txt"

@@ -19,11 +19,19 @@ SELF = ("list", "tree")
 KEEP_KEYS = ("hash", "tree")
 ERRORS = {"NULL": "Null", "OUT_OF_RANGE": "OutOfRange", "LINKED": "Linked", "NOT_LINKED": "NotLinked", "BROKEN": "Broken"}
 # What the bindings have in place of the table's words in braces.
-BOUND = {"self": "this list", "rest": "a new list, which it returns", "rest_has": "", "accepted": "it returns a number"}
+BOUND = {"self": "this list", "rest_has": "", "accepted": "it returns a number"}
+# What a list is called that a call hands out.
+NEW = {"tree": "a new tree, which it returns"}
 RETURNED = {"members": "returns how many there are", "replaced": "returns the removed member"}
 # How many columns a line of comments, of C and of Rust has at most.
 COMMENT, C_LINE, RUST_LINE = 140, 142, 120
 SAFETY = "// SAFETY: each pointer comes from a reference, with the length of its slice, and no mutable reference overlaps another one."
+
+
+def bound_words(call, none):
+    """What the bindings have in place of the words in braces."""
+    rest = NEW.get(call.family, "a new list, which it returns")
+    return {**BOUND, "none": none, "rest": rest, "out": RETURNED.get(outcome(call), "returns it")}
 
 
 def sentences(call, words):
@@ -100,7 +108,7 @@ def extern(call):
 
 def rust_comment(call, indent):
     out = outcome(call)
-    words = {**BOUND, "none": "`None`", "out": RETURNED.get(out, "returns it")}
+    words = bound_words(call, "`None`")
     of, text = broken(call, words), sentences(call, words)
     said = refusals(of, "`u32::MAX`", "the table's length")
     if out in ("popped", "removed", "found"):
@@ -255,7 +263,7 @@ def script(call):
     """The method of ic.mjs. A constructor of Ring calls ic_ring_init."""
     if call.name == "ic_ring_init":
         return ""
-    begin = {"rest": "return this.split((rest) => ", "members": "return this.counted(", None: "this.done("}.get(outcome(call), "return this.member(")
+    begin = {"rest": "return this.parted((rest) => ", "members": "return this.counted(", None: "this.done("}.get(outcome(call), "return this.member(")
     begin += f"this.calls.{call.name}("
     head, words = f"  {script_name(call)}({', '.join(arg.name for arg in script_parameters(call))}) {{", list(script_words(call))
     line = f"{begin}{', '.join(words)}));"
@@ -276,7 +284,7 @@ def types(call):
     kind = lambda arg: kinds.get(arg.name) or ("Gap" if call.roles.get(arg.name) == "gap" else "Place")
     parameters = [f"{arg.name}: {kind(arg)}" for arg in script_parameters(call)]
     result = {"rest": own, "members": "number", None: "void"}.get(out, "Gap")
-    words = {**BOUND, "none": "null", "out": RETURNED.get(out, "returns it")}
+    words = bound_words(call, "null")
     said, text = refusals(broken(call, words), "null", "the table's length"), sentences(call, words)
     if out in ("popped", "removed", "replaced", "found"):
         text += f" It returns null if {said.pop('NULL')}."

@@ -350,7 +350,16 @@ extern "C" {
     pub fn ic_tree_insert_right(table: *mut ic_link3, places: usize, tree: *mut ic_tree, at: u32, place: u32) -> u32;
     pub fn ic_tree_remove(table: *mut ic_link3, places: usize, tree: *mut ic_tree, at: u32) -> u32;
     pub fn ic_tree_replace(table: *mut ic_link3, places: usize, tree: *mut ic_tree, at: u32, place: u32) -> u32;
+    pub fn ic_tree_append(table: *mut ic_link3, places: usize, tree: *mut ic_tree, given: *mut ic_tree) -> u32;
+    pub fn ic_tree_join(
+        table: *mut ic_link3,
+        places: usize,
+        tree: *mut ic_tree,
+        place: u32,
+        given: *mut ic_tree,
+    ) -> u32;
     pub fn ic_tree_clear(table: *mut ic_link3, places: usize, tree: *mut ic_tree) -> u32;
+    pub fn ic_tree_split(table: *mut ic_link3, places: usize, tree: *mut ic_tree, at: u32, rest: *mut ic_tree) -> u32;
     pub fn ic_tree_check(table: *const ic_link3, places: usize, tree: *const ic_tree, members: *mut u64) -> u32;
     pub fn ic_tree_insert(
         table: *mut ic_link3,

@@ -297,13 +297,15 @@ class Collection extends Calls {
   get isEmpty() {
     return (this.ends.half(0) >>> 3 | this.ends.half(1) & 15) === 0;
   }
+  another() { return new this.constructor(this.links); }
   /** Another collection of this table, whose members move to this one. */
   given(other) {
     if (other.self === this.self || other.links !== this.links || other.ends.isFreed) throw new TypeError("what is given is another list of the same table");
     return other.self;
   }
-  split(call) {
-    const rest = new this.constructor(this.links);
+  // What a call hands out, as another collection of this table.
+  parted(call) {
+    const rest = this.another();
     try {
       this.done(call(rest.self));
     } catch (error) {
@@ -363,10 +365,10 @@ export class List extends Collection {
   fill(first, count) { this.done(this.calls.ic_list_fill(this.table, this.places, this.self, u32(first, "first"), u32(count, "count"))); }
   clear() { this.done(this.calls.ic_list_clear(this.table, this.places, this.self)); }
   splitAfter(at) {
-    return this.split((rest) => this.calls.ic_list_split_after(this.table, this.places, this.self, placeNumber(at, "at"), rest));
+    return this.parted((rest) => this.calls.ic_list_split_after(this.table, this.places, this.self, placeNumber(at, "at"), rest));
   }
   splitBefore(at) {
-    return this.split((rest) => this.calls.ic_list_split_before(this.table, this.places, this.self, placeNumber(at, "at"), rest));
+    return this.parted((rest) => this.calls.ic_list_split_before(this.table, this.places, this.self, placeNumber(at, "at"), rest));
   }
   check() { return this.counted(this.calls.ic_list_check(this.table, this.places, this.self, this.out)); }
   sort(keys) { this.done(this.calls.ic_list_sort(this.table, this.places, ...keyParts(keys, this.links), this.self)); }
@@ -467,7 +469,7 @@ export class Stack extends Collection {
     this.done(this.calls.ic_stack_splice_after(this.table, this.places, this.self, placeNumber(at, "at"), this.given(given)));
   }
   splitAfter(at) {
-    return this.split((rest) => this.calls.ic_stack_split_after(this.table, this.places, this.self, placeNumber(at, "at"), rest));
+    return this.parted((rest) => this.calls.ic_stack_split_after(this.table, this.places, this.self, placeNumber(at, "at"), rest));
   }
   fill(first, count) { this.done(this.calls.ic_stack_fill(this.table, this.places, this.self, u32(first, "first"), u32(count, "count"))); }
   clear() { this.done(this.calls.ic_stack_clear(this.table, this.places, this.self)); }
@@ -595,7 +597,7 @@ export class XorList extends Collection {
   fill(first, count) { this.done(this.calls.ic_xor_fill(this.table, this.places, this.self, u32(first, "first"), u32(count, "count"))); }
   clear() { this.done(this.calls.ic_xor_clear(this.table, this.places, this.self)); }
   splitBetween(before, after) {
-    return this.split((rest) => this.calls.ic_xor_split_between(
+    return this.parted((rest) => this.calls.ic_xor_split_between(
       this.table, this.places, this.self, placeNumber(before, "before"), placeNumber(after, "after"), rest,
     ));
   }
@@ -610,6 +612,7 @@ export class Tree extends Collection {
     super(links, 1, 3);
     Object.assign(this, { keys, keysAt, keyCount });
   }
+  another() { return new this.constructor(this.links, this.keys); }
   get root() { return this.ends.place(0, 0); }
   left(at) { return this.links.beside(at, 0); }
   right(at) { return this.links.beside(at, 1); }
@@ -626,7 +629,12 @@ export class Tree extends Collection {
   replace(at, place) {
     this.done(this.calls.ic_tree_replace(this.table, this.places, this.self, placeNumber(at, "at"), placeNumber(place, "place")));
   }
+  append(given) { this.done(this.calls.ic_tree_append(this.table, this.places, this.self, this.given(given))); }
+  join(place, given) {
+    this.done(this.calls.ic_tree_join(this.table, this.places, this.self, placeNumber(place, "place"), this.given(given)));
+  }
   clear() { this.done(this.calls.ic_tree_clear(this.table, this.places, this.self)); }
+  split(at) { return this.parted((rest) => this.calls.ic_tree_split(this.table, this.places, this.self, placeNumber(at, "at"), rest)); }
   check() { return this.counted(this.calls.ic_tree_check(this.table, this.places, this.self, this.out)); }
   insert(place) {
     this.done(this.calls.ic_tree_insert(this.table, this.places, this.keysAt, this.keyCount, this.self, placeNumber(place, "place")));
@@ -689,6 +697,13 @@ export class Tree extends Collection {
   }
 }
 
+// Writes the first and the last member of each tree that keeps them, after a call that has not.
+function findEnds(...trees) {
+  for (const tree of trees.filter((it) => it instanceof TreeWithEnds)) {
+    tree.both.words.set([tree.next(null), tree.prev(null)].map(wordOf));
+  }
+}
+
 /** A red-black tree that keeps its first and its last member, which its edits renew. */
 export class TreeWithEnds extends Tree {
   constructor(links, keys = null) {
@@ -710,6 +725,19 @@ export class TreeWithEnds extends Tree {
   clear() {
     super.clear();
     this.both.words.fill(0n);
+  }
+  append(given) {
+    super.append(given);
+    findEnds(this, given);
+  }
+  join(place, given) {
+    super.join(place, given);
+    findEnds(this, given);
+  }
+  split(at) {
+    const rest = super.split(at);
+    findEnds(this, rest);
+    return rest;
   }
   // tools/c-calls --write writes from here: tree-ends
   insert(place) {

@@ -10,7 +10,7 @@
 //! ic_tree_insert(nodes, 64, keys, 64, &tree, 7);  // in the order of keys[0 .. 63]
 //! ```
 //!
-//! Here each has its C name alone: what it does is in the module of `ic_raw` or `ic_raw_lists` of the same name.
+//! Here each has its C name alone: what it does is in the module of the same name of `ic_raw`, `ic_raw_lists`, `ic_raw_keyed` or `ic_raw_trees`.
 //!
 //! No call requires anything of its arguments. Each tests what it reads and writes by, returns a status, and leaves all as it was
 //! where the status is not [`OK`]. It is that of the first fault: of the members that are named, in their order, of the keys, of the
@@ -33,6 +33,7 @@ mod stack_calls;
 mod stack_sort_calls;
 mod transfer_calls;
 mod tree_calls;
+mod tree_move_calls;
 mod xor_calls;
 
 pub use ic_raw::{

@@ -195,6 +195,35 @@ impl Tree {
         done(unsafe { ic_tree_replace(links, places, &mut self.0, at, place) })
     }
 
+    /// Moves all members of `given`, in their order, after those of this tree, and leaves `given` empty, in O(n). The call compares
+    /// nothing, so hand in trees of which all keys of the one come before those of the other. It checks both trees first. In Rattle, where
+    /// types vouch for the links, it takes O(log n).
+    ///
+    /// # Errors
+    ///
+    /// [`Error::Broken`] if the links form no red-black tree from one of the two roots on, or both trees have the same root.
+    #[inline]
+    pub fn append(&mut self, table: &mut [Link3], given: &mut Tree) -> Result<(), Error> {
+        let (links, places) = Link3::parts(table);
+        // SAFETY: each pointer comes from a reference, with the length of its slice, and no mutable reference overlaps another one.
+        done(unsafe { ic_tree_append(links, places, &mut self.0, &mut given.0) })
+    }
+
+    /// Inserts `place` after all members of this tree, moves all members of `given`, in their order, after the place, and leaves `given`
+    /// empty, in O(n). The call compares nothing, and checks both trees first. In Rattle, where types vouch for the links, it takes O(log
+    /// n).
+    ///
+    /// # Errors
+    ///
+    /// [`Error::OutOfRange`] if `place` is not below the table's length. [`Error::Linked`] if `place` is linked already. [`Error::Broken`]
+    /// if the links form no red-black tree from one of the two roots on, or both trees have the same root.
+    #[inline]
+    pub fn join(&mut self, table: &mut [Link3], place: u32, given: &mut Tree) -> Result<(), Error> {
+        let (links, places) = Link3::parts(table);
+        // SAFETY: each pointer comes from a reference, with the length of its slice, and no mutable reference overlaps another one.
+        done(unsafe { ic_tree_join(links, places, &mut self.0, place, &mut given.0) })
+    }
+
     /// Removes all members, in O(n).
     ///
     /// # Errors
@@ -206,6 +235,22 @@ impl Tree {
         let (links, places) = Link3::parts(table);
         // SAFETY: each pointer comes from a reference, with the length of its slice, and no mutable reference overlaps another one.
         done(unsafe { ic_tree_clear(links, places, &mut self.0) })
+    }
+
+    /// Moves the member `at` and all members after it to a new tree, which it returns, in O(n). The call checks the tree first. In Rattle,
+    /// where types vouch for the links, it takes O(log n).
+    ///
+    /// # Errors
+    ///
+    /// [`Error::Null`] if the place `at` is `u32::MAX`. [`Error::OutOfRange`] if the place `at` is not below the table's length.
+    /// [`Error::NotLinked`] if the place `at` is not linked. [`Error::Broken`] if the links form no red-black tree from the root on, or
+    /// `at` is no member of it.
+    #[inline]
+    pub fn split(&mut self, table: &mut [Link3], at: u32) -> Result<Tree, Error> {
+        let ((links, places), mut rest) = (Link3::parts(table), Tree::new());
+        // SAFETY: each pointer comes from a reference, with the length of its slice, and no mutable reference overlaps another one.
+        done(unsafe { ic_tree_split(links, places, &mut self.0, at, &mut rest.0) })?;
+        Ok(rest)
     }
 
     /// Counts the members, and returns how many there are, in O(n). Call it if the words come from a file, or from memory that others

@@ -1,0 +1,64 @@
+//! The calls that make one red-black tree of two, and two of one.
+//!
+//! ```text
+//! struct ic_link3 links[64] = {0};
+//! struct ic_tree tree = {0}, given = {0}, rest = {0};
+//! ic_tree_join(links, 64, &tree, 7, &given);  // IC_OK: the only member
+//! ic_tree_append(links, 64, &tree, &given);   // IC_OK: `given` has no members
+//! ic_tree_split(links, 64, &tree, 7, &rest);  // IC_OK: 7 is the only member of `rest`, and `tree` is empty
+//! ```
+
+ghost use Rattle.ic_raw.specs.Words.{place_of};
+ghost use Rattle.ic_raw_trees.specs.TreeMoveCalls.{AppendCall, JoinCall, SplitCall};
+
+use ic_raw::{RawRoot, RawThree};
+use ic_raw_trees::tree_move_calls;
+
+/// Moves all members of `given` after those of `tree`, in their order, and leaves `given` empty. O(n): it checks both trees first. In Rattle,
+/// where types vouch for the links, it takes O(log n).
+///
+/// It looks at no key. If the words do not show two trees that share no member, it returns [`BROKEN`](crate::BROKEN).
+#[unsafe(no_mangle)]
+pub extern "C" fn ic_tree_append(
+    table: &mut [RawThree],
+    tree: &mut RawRoot,
+    given: &mut RawRoot,
+) -> u32
+    ensures { AppendCall table.old table.new tree.old tree.new result given.old given.new }
+{
+    tree_move_calls::append(table, tree, given)
+}
+
+/// Inserts a place after all members of `tree`, and moves all of `given` after it. `given` is empty then. O(n): it checks both trees first. In
+/// Rattle, where types vouch for the links, it takes O(log n).
+///
+/// It looks at no key. The place has to be one of the table, and not linked. If the words do not show two trees that share no member, it
+/// returns [`BROKEN`](crate::BROKEN).
+#[unsafe(no_mangle)]
+pub extern "C" fn ic_tree_join(
+    table: &mut [RawThree],
+    tree: &mut RawRoot,
+    place: u32,
+    given: &mut RawRoot,
+) -> u32
+    ensures { JoinCall table.old table.new tree.old tree.new result (place_of place) given.old given.new }
+{
+    tree_move_calls::join(table, tree, place, given)
+}
+
+/// Keeps the members before the member `at`, and moves `at` and all after it to `rest`, which has to be empty. At [`NONE`](crate::NONE) it
+/// returns [`NULL`](crate::NULL). O(n): it checks the tree first. In Rattle, where types vouch for the links, it takes O(log n).
+///
+/// It looks at no key. If the words do not show a tree of which `at` is a member, or if `rest` has members, it returns
+/// [`BROKEN`](crate::BROKEN).
+#[unsafe(no_mangle)]
+pub extern "C" fn ic_tree_split(
+    table: &mut [RawThree],
+    tree: &mut RawRoot,
+    at: u32,
+    rest: &mut RawRoot,
+) -> u32
+    ensures { SplitCall table.old table.new tree.old tree.new result (place_of at) rest.old rest.new }
+{
+    tree_move_calls::split(table, tree, at, rest)
+}
