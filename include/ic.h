@@ -1344,7 +1344,7 @@ uint32_t ic_xor_reverse(struct ic_xor_list *list);
 
 /* to here */
 
-/* ---- Red-black trees: 24 bytes a place, calls O(log n) except ic_tree_clear and ic_tree_check ---------------------------------------
+/* ---- Red-black trees: 24 bytes a place, calls O(log n) except those that clear, check, append, join and split -----------------------
  *
  * Take them for timers, priorities and indices, which are objects in order that you insert and remove anywhere, and search for. You order them
  * in one of two ways:
@@ -1356,7 +1356,8 @@ uint32_t ic_xor_reverse(struct ic_xor_list *list);
  *         IC_TREE_INSERT_BY(status, at, links, 100, &tree, place, strcmp(names[place], names[at]));
  *         IC_TREE_FIND_BY(at, links, 100, &tree, strcmp("oak", names[at]));
  *
- * The calls that remove a member, and those that step to the next member and back, compare nothing.
+ * The calls that remove a member, and those that step to the next member and back, compare nothing. Those that make one tree of two, and two
+ * of one, compare nothing either, and check first whether the links form the trees, which takes O(n).
  */
 
 /* Returns whether a place is in a tree of the table. */
@@ -1677,7 +1678,8 @@ static inline uint32_t ic_tree_before(const struct ic_link3 *table, ic_length pl
  *
  * These calls keep both in two more words, so that the first one, such as the next timer, is found at once. {0} is right for an empty tree. Edit
  * such a tree by these calls alone, since the others leave the ends as they are. A loop that removes calls ic_tree_ends_remove. After
- * ic_tree_clear set the ends to zero.
+ * ic_tree_clear set the ends to zero. After ic_tree_append, ic_tree_join or ic_tree_split write those of each tree that keeps them:
+ * ends.first = ic_word(what ic_tree_next finds from IC_NONE), and ends.last that of ic_tree_prev, which are 0 if the tree is empty.
  *
  *     struct ic_tree_ends ends = {0};
  *     status = ic_tree_ends_insert(links, 100, keys, 100, &tree, &ends, 7);

@@ -108,7 +108,7 @@ def handle_call(call):
     """The call of ic_in.h, whose arguments are those of the line."""
     at, types = arguments(call), {arg.name: arg.type for arg in call.args}
     kind = next((STRUCTS[arg.type] for arg in call.args if arg.name == "rest"), "")
-    rest = f"((struct ic_{call.family}_in){{{', '.join(c_links(call.family))}, &rest}})"
+    rest = f"((struct ic_{call.family}_in){{{', '.join(c_links(call.family))}, &rest{', {0, 0}' if call.family == 'tree' else ''}}})"
     keys = "((struct ic_keys){keys, key_count(n[0])})"
     fixed = {"members": "&out.members", "ends": "&tree_ends[n[0]]", "rest": rest * bool(kind), "keys": keys * (call.family not in KEEP_KEYS), "hashes": keys,
              "chain": f"&{chain(call)}"}

@@ -10,6 +10,7 @@
     X(tree_ends_insert_left) X(tree_ends_insert_right) X(tree_ends_insert)                 \
     X(tree_ends_remove) X(tree_ends_replace) X(tree_ends_pop_first)                        \
     X(tree_insert_left) X(tree_insert_right) X(tree_remove) X(tree_replace) X(tree_clear)  \
+    X(tree_append) X(tree_join) X(tree_split)                                              \
     X(tree_insert) X(tree_insert_unique) X(tree_insert_by) X(tree_insert_unique_by)        \
     X(tree_find) X(tree_lower_bound) X(tree_upper_bound)                                   \
     X(tree_find_by) X(tree_lower_bound_by) X(tree_upper_bound_by)                          \
@@ -262,6 +263,98 @@ static void step_clear(int t) {
     check_others(t, IC_NONE, IC_NONE);
 }
 
+/* Two trees are tested after a call, of which one place may have come in. All else is as it was. */
+static void check_both(int t, int other, uint32_t in) {
+    for (uint32_t at = 0; at < PLACES; at++)
+        if (owner[at] == t || owner[at] == other)
+            table_was[at] = table[at];
+    trees_were[other] = trees[other];
+    check(other);
+    check_others(t, in, in);
+}
+
+/* The members of one tree from `from` on come after those of the other one. */
+static void move_members(int to, int from_tree, uint32_t from) {
+    struct sequence *plain = &sequences[to], *given = &sequences[from_tree];
+    const uint32_t count = given->count - from;
+    for (uint32_t i = from; i < given->count; i++)
+        owner[given->members[i]] = to;
+    insert(plain, plain->count, &given->members[from], count);
+    take(given, from, count);
+}
+
+/* The keys of a tree's members rise to the last key of the other one, so that both in turn are in order. */
+static void raise_keys(int to, int given) {
+    const uint32_t last = before(&sequences[to], sequences[to].count);
+    for (uint32_t i = 0; last != IC_NONE && i < sequences[given].count; i++)
+        if (keys[sequences[given].members[i]] < keys[last])
+            keys[sequences[given].members[i]] = keys[last];
+}
+
+/* Now and then one member of a tree has another color, so that the tree is none. Returns the member, or IC_NONE. */
+static uint32_t color_another(int t) {
+    const uint32_t at = below(8) ? IC_NONE : member(&sequences[t], below(sequences[t].count + 1));
+    if (at != IC_NONE)
+        table[at].parent ^= 1;
+    fault(at != IC_NONE, IC_BROKEN);
+    return at;
+}
+
+static void color_back(uint32_t at) {
+    if (at != IC_NONE)
+        table[at].parent ^= 1;
+}
+
+/* All of the other tree goes after this one, or a place and then all of it. Now and then the other tree is this one by another name. */
+static void step_append(int t) {
+    const int given = (t + 1) % TREES, is_join = now == CALL_tree_join, is_twin = below(16) == 0;
+    struct ic_tree twin = trees[t], *named = is_twin ? &twin : &trees[given];
+    const uint32_t place = is_join ? to_link() : IC_NONE;
+    raise_keys(t, given);
+    if (is_join)
+        give_key(place, before(&sequences[t], sequences[t].count), member(&sequences[given], 0));
+    fault(is_twin && sequences[t].count, IC_BROKEN);
+    const uint32_t colored = color_another(below(2) || is_twin ? t : given);
+    const int is_made = made(is_join ? ic_tree_join(table, PLACES, &trees[t], place, named) : ic_tree_append(table, PLACES, &trees[t], named));
+    color_back(colored);
+    if (!is_made)
+        return;
+    expect(ic_tree_is_empty(named), "left members in the tree that was given");
+    if (is_join) {
+        insert(&sequences[t], sequences[t].count, &place, 1);
+        owner[place] = t;
+    }
+    if (!is_twin)
+        move_members(t, given, 0);
+    check_both(t, given, place);
+}
+
+/* A member and all after it go to the other tree, which has to be empty. Mostly it is emptied first. */
+static void step_split(int t, uint32_t i) {
+    const int rest = (t + 1) % TREES;
+    uint32_t at = member(&sequences[t], i), named = at == IC_NONE ? at : or_root(t, or_none(at));
+    if (below(4) && !faults && sequences[rest].count) {
+        raise_keys(t, rest);
+        expect(ic_tree_append(table, PLACES, &trees[t], &trees[rest]) == IC_OK, "is not tested, since two trees were not appended");
+        move_members(t, rest, 0);
+        check(t);
+        memcpy(table_was, table, sizeof table);
+        memcpy(trees_were, trees, sizeof trees);
+        named = at = member(&sequences[t], i = below(sequences[t].count + 1));
+    }
+    fault(at == IC_NONE, IC_NULL);
+    fault(at != IC_NONE && sequences[rest].count, IC_BROKEN);
+    const uint32_t colored = color_another(t);
+    if (named == IC_NONE)
+        faults = 1u << IC_NULL;
+    const int is_made = made(ic_tree_split(table, PLACES, &trees[t], named, &trees[rest]));
+    color_back(colored);
+    if (is_made) {
+        move_members(rest, t, i);
+        check_both(t, rest, IC_NONE);
+    }
+}
+
 /* What a call that reads gave is a member, and nothing if it refused. */
 static void check_found(uint32_t status, uint32_t found, uint32_t expected) {
     expect(found == (made(status) ? expected : UNSET), "gave another member");
@@ -354,6 +447,9 @@ static void step(void) {
     case CALL_tree_ends_replace:
     case CALL_tree_replace: step_replace(t, i); break;
     case CALL_tree_clear: step_clear(t); break;
+    case CALL_tree_append:
+    case CALL_tree_join: step_append(t); break;
+    case CALL_tree_split: step_split(t, i); break;
     case CALL_tree_ends_insert:
     case CALL_tree_insert: step_insert(t); break;
     case CALL_tree_insert_unique:
@@ -384,7 +480,7 @@ static enum call choose(void) {
     int removes = call == CALL_tree_remove || call == CALL_tree_ends_remove || call == CALL_tree_ends_pop_first;
     if (!below(512))
         is_growing = !is_growing;
-    int is_rare = call == CALL_tree_clear && below(64);
+    int is_rare = (call == CALL_tree_clear && below(64)) || (call >= CALL_tree_append && call <= CALL_tree_split && below(8));
     return is_rare || ((is_growing ? removes : inserts) && below(8)) ? choose() : call;
 }
 

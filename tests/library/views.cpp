@@ -454,6 +454,37 @@ void sweep(trees &it, int which) {
             ++member;
 }
 
+/// Cuts a tree before a member, or moves all of the other tree after it, with or without a place between them.
+void move_all(trees &it, int which, std::multimap<std::uint64_t, std::uint32_t>::iterator member) {
+    const ic::tree_view view = it.view(which), other = it.view(1 - which);
+    auto &plain = it.plain[which], &given = it.plain[1 - which];
+    if (below(2)) {
+        const bool is_end = member == plain.end();
+        if (made(view.split(is_end ? ic::none : member->second, other), is_end ? ic::status::null : given.empty() ? ic::status::ok : ic::status::broken)) {
+            given.insert(member, plain.end());
+            plain.erase(member, plain.end());
+        }
+        return;
+    }
+    const std::uint64_t last = plain.empty() ? 0 : std::prev(plain.end())->first;
+    std::multimap<std::uint64_t, std::uint32_t> raised;
+    for (const auto &[key, place] : given)
+        raised.emplace(it.keys[place] = std::max(key, last), place);
+    given = raised;
+    expect(view.append(view) == ic::status::broken, "append takes the tree itself");
+    if (below(2)) {
+        const std::uint32_t place = below(places + 1);
+        const ic::status linking = to_link(view, place);
+        if (!made(view.join(place, other), linking))
+            return;
+        plain.emplace(it.keys[place] = last, place);
+    } else {
+        made(view.append(other), ic::status::ok);
+    }
+    plain.insert(given.begin(), given.end());
+    given.clear();
+}
+
 void step(trees &it) {
     const int which = static_cast<int>(below(2));
     const ic::tree_view view = it.view(which);
@@ -482,7 +513,9 @@ void step(trees &it) {
         break;
     case 4: replace(it, which, member); break;
     case 5:
-        if (below(8) == 0 && made(view.clear(), ic::status::ok))
+        if (below(8))
+            move_all(it, which, member);
+        else if (made(view.clear(), ic::status::ok))
             plain.clear();
         break;
     case 6: insert_unique(it, which); break;

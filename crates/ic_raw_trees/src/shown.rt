@@ -20,8 +20,8 @@ ghost use Rattle.ic_raw.specs.Words.{is_linked_three};
 
 use ic_check::{TellsLinks, check_tree};
 use ic_link_ops::rbtree::RBTreeOps;
-use ic_rbtree::{KeyAdapter, RBTree};
 use ic_raw::{MarkedTree, RawRoot, place_in};
+use ic_rbtree::{KeyAdapter, RBTree};
 use ic_unsafe_ref::Place;
 
 // No path down a tree has more members: a path of v in a tree of n members has 2^v <= (n + 1)^2, and there are fewer than 2^33 places.

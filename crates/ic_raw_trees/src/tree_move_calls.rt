@@ -50,13 +50,13 @@ pub fn join(table: &mut [RawThree], tree: &mut RawRoot, place: u32, given: &mut 
     }
     let mut links = MarkedTree::new(table);
     let mut edited = tree_of(&*tree);
-    let mut moved = tree_of(&*given);
-    if !shows_both(&links, &edited, &moved) {
+    let mut later = tree_of(&*given);
+    if !shows_both(&links, &edited, &later) {
         return BROKEN;
     }
-    let _ = edited.join(&mut links, UnsafeRef::new(object), &mut moved); // proved: it is not linked
+    let _ = edited.join(&mut links, UnsafeRef::new(object), &mut later); // proved: it is not linked
     write_back(tree, &edited);
-    write_back(given, &moved);
+    write_back(given, &later);
     OK
 }
 

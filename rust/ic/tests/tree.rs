@@ -36,6 +36,24 @@ fn tree_edits() {
 }
 
 #[test]
+fn trees_are_joined_and_split() {
+    let mut links = [Link3::UNLINKED; 8];
+    let (mut tree, mut given) = (by_keys(&mut links, [5, 1, 3]), by_keys(&mut links, [6, 2]));
+    tree.join(&mut links, 0, &mut given).unwrap();
+    assert!(given.is_empty() && tree.iter(&links).eq([5, 1, 3, 0, 6, 2]));
+    let mut rest = tree.split(&mut links, 3).unwrap();
+    assert!(tree.iter(&links).eq([5, 1]) && rest.iter(&links).eq([3, 0, 6, 2]));
+    assert_eq!(tree.split(&mut links, 3).err(), Some(Error::Broken));
+    tree.append(&mut links, &mut rest).unwrap();
+    assert!(rest.is_empty() && tree.iter(&links).eq([5, 1, 3, 0, 6, 2]));
+    assert_eq!(tree.join(&mut links, 3, &mut rest), Err(Error::Linked));
+    assert_eq!(tree.split(&mut links, 4).err(), Some(Error::NotLinked));
+    assert_eq!(tree.split(&mut links, 8).err(), Some(Error::OutOfRange));
+    assert_eq!(tree.split(&mut links, u32::MAX).err(), Some(Error::Null));
+    assert_eq!(tree.check(&links), Some(6));
+}
+
+#[test]
 fn trees_keep_their_ends() {
     let (mut links, mut tree, mut ends) = ([Link3::UNLINKED; 8], Tree::new(), TreeEnds::new());
     assert_eq!(

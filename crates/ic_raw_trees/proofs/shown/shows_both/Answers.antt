@@ -14,8 +14,7 @@ returns c = (
   λ yes.
       let one = c.if-not-is_tree.ensures.0 refl in
       let other = c.is_tree-2.ensures.0 yes in
-      let apart = rw (c.root.ensures, c.root-2.ensures) at (c.if-not-are_apart.ensures.0 refl) in
-      (
+      let apart = rw (c.root.ensures, c.root-2.ensures) at (c.if-not-are_apart.ensures.0 refl) in (
         record { front = one.0; back = other.0 },
         record { front = one.1; back = other.1; distinct = distinct_apart node one.1 other.1 apart },
       ),

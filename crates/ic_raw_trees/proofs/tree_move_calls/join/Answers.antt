@@ -16,13 +16,13 @@ returns c =
       joined = λ gap p at both free.
           let one : p ≡ c.in-Some.object = some_same (sym at ∙ (sym c.place_of.ensures ∙ c.in-Some.is)) in
           let parts = parts_viewed c.new-links.result same both in
-          let made = accepted _ c.join.result off refused' (c.join.ensures.joined gap (rw (c.tree_of-edited.ensures, c.tree_of-moved.ensures) parts)) in
+          let made = accepted _ c.join.result off refused' (c.join.ensures.joined gap (rw (c.tree_of-edited.ensures, c.tree_of-later.ensures) parts)) in
           record {
             accepted = refl;
             done = rw one (inserts_back c.new-links.result c.join.new.links same (search rules) c.write_back.ensures.set (rw c.new.ensures at made));
           };
       shown = λ ok.
-          let both = rw (c.tree_of-edited.ensures, c.tree_of-moved.ensures) at (c.shows_both.ensures.0 c.if-not-shows_both.false) in
+          let both = rw (c.tree_of-edited.ensures, c.tree_of-later.ensures) at (c.shows_both.ensures.0 c.if-not-shows_both.false) in
           (both.0, parts_back c.new-links.result same both.1);
       free = λ p at ok.
           let one : p ≡ c.in-Some.object = some_same (sym at ∙ (sym c.place_of.ensures ∙ c.in-Some.is)) in

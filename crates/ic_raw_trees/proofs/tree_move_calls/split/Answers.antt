@@ -25,26 +25,26 @@ returns-then-fault-ne-OK c = record {
 
 pub returns : goal.returns
 returns c =
-  let same = c.new-links.ensures.words ∙ c.member_fault-fault.ensures.kept in record {
-  split = λ front back p at shown empty.
-      let one : p ≡ c.in-Some.member = some_same (sym at ∙ (sym c.place_of.ensures ∙ c.in-Some.is)) in
-      let whole = rw one at (viewed c.new-links.result same shown) in
-      let made = c.split_off-handed.ensures.split front back (rw (c.tree_of-edited.ensures, c.new.ensures) whole) in
-      record {
-        accepted = refl;
-        done = rw one (splits_back c.new-links.result c.split_off-handed.new.links same (search rules) c.write_back.ensures.set c.write_back-2.ensures.set
-        (rw c.new.ensures at made));
-      };
-  member = λ p at ok.
-      let one : p ≡ c.in-Some.member = some_same (sym at ∙ (sym c.place_of.ensures ∙ c.in-Some.is)) in
-      let has = rw c.tree_of-edited.ensures at (c.has_member.ensures.0 c.if-not-has_member.false) in
-      rw one (member_back c.new-links.result same has);
-  null = search rules;
-  empty = λ ok. sym c.tree_of.ensures ∙ (sym c.root.ensures ∙ none_of c.root.result (sym c.is_some.ensures ∙ c.if-is_some.false));
-  linked = steps_back c.new-links.result c.split_off-handed.new.links same (search rules) [] c.split_off-handed.ensures.no_step;
-  words = search rules;
-  rest_words = search rules;
-  refused = search rules;
-  why = search rules;
-  is_status = search rules;
-}
+    let same = c.new-links.ensures.words ∙ c.member_fault-fault.ensures.kept in record {
+      split = λ front back p at shown empty.
+          let one : p ≡ c.in-Some.member = some_same (sym at ∙ (sym c.place_of.ensures ∙ c.in-Some.is)) in
+          let whole = rw one at (viewed c.new-links.result same shown) in
+          let made = c.split_off-handed.ensures.split front back (rw (c.tree_of-edited.ensures, c.new.ensures) whole) in
+          record {
+            accepted = refl;
+            done = rw one (splits_back c.new-links.result c.split_off-handed.new.links same (search rules) c.write_back.ensures.set c.write_back-2.ensures.set
+                (rw c.new.ensures at made));
+          };
+      member = λ p at ok.
+          let one : p ≡ c.in-Some.member = some_same (sym at ∙ (sym c.place_of.ensures ∙ c.in-Some.is)) in
+          let has = rw c.tree_of-edited.ensures at (c.has_member.ensures.0 c.if-not-has_member.false) in
+          rw one (member_back c.new-links.result same has);
+      null = search rules;
+      empty = λ ok. sym c.tree_of.ensures ∙ (sym c.root.ensures ∙ none_of c.root.result (sym c.is_some.ensures ∙ c.if-is_some.false));
+      linked = steps_back c.new-links.result c.split_off-handed.new.links same (search rules) [] c.split_off-handed.ensures.no_step;
+      words = search rules;
+      rest_words = search rules;
+      refused = search rules;
+      why = search rules;
+      is_status = search rules;
+    }
