@@ -129,6 +129,11 @@ struct ic_link2 {
     uint64_t next, prev;
 };
 
+/* Each place of a ring with words of 4 bytes has such a link. */
+struct ic_link2_32 {
+    uint32_t next, prev;
+};
+
 /* Each place of a tree has such a link, which names both children and the parent. */
 struct ic_link3 {
     uint64_t left, right, parent;
@@ -546,24 +551,26 @@ uint32_t ic_list_transfer_before(struct ic_link2 *table, ic_length places, struc
  * and the call treats it as one of a ring, which does no harm. No call can tell whether two places are in one ring or in two.
  */
 
+/* ---- Rings: what both widths have ---- */
+
 /* Returns whether a place is in a ring or a list of the table. */
 static inline int ic_ring_is_linked(const struct ic_link2 *table, ic_length places, uint32_t place) {
-    return ic_list_is_linked(table, places, place);
+    return place < ic_bound(places) && (table[place].next & 1);
 }
 
 /* Returns the place after the place `at` of a ring, or IC_NONE. After a head comes the first member, and after the last member the head. */
 static inline uint32_t ic_ring_next(const struct ic_link2 *table, ic_length places, uint32_t at) {
-    return ic_list_next(table, places, at);
+    return ic_ring_is_linked(table, places, at) ? ic_place_within(places, table[at].next) : IC_NONE;
 }
 
 /* Returns the place before the place `at` of a ring, or IC_NONE. */
 static inline uint32_t ic_ring_prev(const struct ic_link2 *table, ic_length places, uint32_t at) {
-    return ic_list_prev(table, places, at);
+    return ic_ring_is_linked(table, places, at) ? ic_place_within(places, table[at].prev) : IC_NONE;
 }
 
 /* Returns whether a head is that of a ring with no members. */
 static inline int ic_ring_is_empty(const struct ic_link2 *table, ic_length places, uint32_t head) {
-    return ic_list_is_linked(table, places, head) && ic_list_next(table, places, head) == head;
+    return ic_ring_is_linked(table, places, head) && ic_ring_next(table, places, head) == head;
 }
 
 /* Returns the first member of a head, or IC_NONE if there is none or if it is no linked place of the table. */
@@ -793,6 +800,8 @@ static inline uint32_t ic_ring_move_range_before(struct ic_link2 *table, ic_leng
     return ic_ring_move_range_after(table, places, at == first ? last : before_at, first, last);
 }
 
+/* ---- Rings: to here ---- */
+
 /* ---- Rings by keys ----
  *
  * The keys are as for lists: numbers, of which the least comes first, and one for each place. Both calls check their rings first, so they are
@@ -814,6 +823,266 @@ uint32_t ic_ring_sort(struct ic_link2 *table, ic_length places, const uint64_t *
  * it, each to the next place and back, or both are in one ring. */
 IC_NODISCARD
 uint32_t ic_ring_merge(struct ic_link2 *table, ic_length places, const uint64_t *keys, ic_length key_count, uint32_t head, uint32_t given);
+
+/* to here */
+
+/* ---- Rings with words of 4 bytes: 8 bytes a place, calls O(1) ----------------------------------------------------------------------------
+ *
+ * These are rings with half the memory. A word is the one of a wide link, cut to 4 bytes, so it has room for the places below 536,870,911. Other
+ * places are out of range. Each call, read and loop does what the one of rings does whose name lacks the number.
+ *
+ *     struct ic_link2_32 links[65] = {0};             // 64 objects, and a head at 64
+ *     status = ic_ring32_init(links, 65, 64);         // a ring with no members
+ *     status = ic_ring32_push_back(links, 65, 64, 7);
+ *     status = ic_ring32_remove(links, 65, 7);        // from whichever ring it is in
+ */
+
+/* Returns how many places a table of such links has, which is `places`, but at most 536,870,911. */
+static inline ic_length ic_places_32(ic_length places) {
+    return places < 536870911 ? places : 536870911;
+}
+
+/* tools/c-calls --write writes from here: ring32 */
+
+/* Makes `head` the head of a ring with no members, as INIT_LIST_HEAD of Linux does, in O(1).
+ * IC_OUT_OF_RANGE: `head` is not below `places`, or is 536,870,911 or more. IC_LINKED: `head` is linked already. */
+IC_NODISCARD
+uint32_t ic_ring32_init(struct ic_link2_32 *table, ic_length places, uint32_t head);
+
+/* Inserts `place` after the place `at` of a ring, as list_add of Linux does, in O(1). If `at` is a head, `place` becomes the first member.
+ * IC_NULL: the place `at` is IC_NONE. IC_OUT_OF_RANGE: `at` or `place` is not below `places`, or is 536,870,911 or more. IC_LINKED: `place`
+ * is linked already, also where `at` and `place` are the same. IC_NOT_LINKED: the place `at` is not linked. IC_BROKEN: `at` is in no ring. */
+IC_NODISCARD
+uint32_t ic_ring32_insert_after(struct ic_link2_32 *table, ic_length places, uint32_t at, uint32_t place);
+
+/* Inserts `place` before the place `at` of a ring, as list_add_tail of Linux does, in O(1). If `at` is a head, `place` becomes the last
+ * member.
+ * IC_NULL: the place `at` is IC_NONE. IC_OUT_OF_RANGE: `at` or `place` is not below `places`, or is 536,870,911 or more. IC_LINKED: `place`
+ * is linked already, also where `at` and `place` are the same. IC_NOT_LINKED: the place `at` is not linked. IC_BROKEN: `at` is in no ring. */
+IC_NODISCARD
+uint32_t ic_ring32_insert_before(struct ic_link2_32 *table, ic_length places, uint32_t at, uint32_t place);
+
+/* Removes `place` from its ring, whichever that is, as list_del of Linux does, in O(1). If `place` is a head without members, its ring is
+ * gone then.
+ * IC_NULL: `place` is IC_NONE. IC_OUT_OF_RANGE: `place` is not below `places`, or is 536,870,911 or more. IC_NOT_LINKED: `place` is not
+ * linked. IC_BROKEN: `place` is in no ring. */
+IC_NODISCARD
+uint32_t ic_ring32_remove(struct ic_link2_32 *table, ic_length places, uint32_t place);
+
+/* Exchanges the places after `one` and after `other`, which are in rings, in O(1). If `one` and `other` are in two rings, the call joins
+ * the rings. If they are different places of one ring, it splits that ring into two. If you repeat the call, you undo it. If `one` is the
+ * last member of a ring and `other` the head of another one, all members of the second ring, and then its head, come after `one`.
+ * IC_NULL: `one` or `other` is IC_NONE. IC_OUT_OF_RANGE: `one` or `other` is not below `places`, or is 536,870,911 or more. IC_NOT_LINKED:
+ * `one` or `other` is not linked. IC_BROKEN: `one` or `other` is in no ring. */
+IC_NODISCARD
+uint32_t ic_ring32_exchange(struct ic_link2_32 *table, ic_length places, uint32_t one, uint32_t other);
+
+/* Removes the first member of the head `head`, and sets *popped to it, in O(1).
+ * IC_NULL: `head` is IC_NONE, or `head` has no members. IC_OUT_OF_RANGE: `head` is not below `places`, or is 536,870,911 or more.
+ * IC_NOT_LINKED: `head` is not linked. IC_BROKEN: `head` or its first member is in no ring. */
+IC_NODISCARD
+uint32_t ic_ring32_pop_front(struct ic_link2_32 *table, ic_length places, uint32_t head, uint32_t *popped);
+
+/* Removes the last member of the head `head`, and sets *popped to it, in O(1).
+ * IC_NULL: `head` is IC_NONE, or `head` has no members. IC_OUT_OF_RANGE: `head` is not below `places`, or is 536,870,911 or more.
+ * IC_NOT_LINKED: `head` is not linked. IC_BROKEN: `head` or its last member is in no ring. */
+IC_NODISCARD
+uint32_t ic_ring32_pop_back(struct ic_link2_32 *table, ic_length places, uint32_t head, uint32_t *popped);
+
+/* Removes the place `at` from its ring, and inserts `place` where it was, as list_replace of Linux does, in O(1).
+ * IC_NULL: the place `at` is IC_NONE. IC_OUT_OF_RANGE: `at` or `place` is not below `places`, or is 536,870,911 or more. IC_LINKED: `place`
+ * is linked already, also where `at` and `place` are the same. IC_NOT_LINKED: the place `at` is not linked. IC_BROKEN: `at` is in no ring. */
+IC_NODISCARD
+uint32_t ic_ring32_replace(struct ic_link2_32 *table, ic_length places, uint32_t at, uint32_t place);
+
+/* Moves `place`, from whichever ring it is in, after the place `at` of a ring, as list_move of Linux does, in O(1). If `at` is a head,
+ * `place` becomes the first member. The place stays linked, and nothing changes if `at` and `place` are the same.
+ * IC_NULL: `at` or `place` is IC_NONE. IC_OUT_OF_RANGE: `at` or `place` is not below `places`, or is 536,870,911 or more. IC_NOT_LINKED:
+ * `at` or `place` is not linked. IC_BROKEN: `at` or `place` is in no ring. */
+IC_NODISCARD
+uint32_t ic_ring32_move_after(struct ic_link2_32 *table, ic_length places, uint32_t at, uint32_t place);
+
+/* Moves `place`, from whichever ring it is in, before the place `at` of a ring, as list_move_tail of Linux does, in O(1). If `at` is a
+ * head, `place` becomes the last member. The place stays linked, and nothing changes if `at` and `place` are the same.
+ * IC_NULL: `at` or `place` is IC_NONE. IC_OUT_OF_RANGE: `at` or `place` is not below `places`, or is 536,870,911 or more. IC_NOT_LINKED:
+ * `at` or `place` is not linked. IC_BROKEN: `at` or `place` is in no ring. */
+IC_NODISCARD
+uint32_t ic_ring32_move_before(struct ic_link2_32 *table, ic_length places, uint32_t at, uint32_t place);
+
+/* Moves all members of the head `head`, in their order, after the place `at` of another ring, as list_splice_init of Linux does, in O(1).
+ * Afterwards `head` is the head of a ring with no members.
+ * IC_NULL: `at` or `head` is IC_NONE. IC_OUT_OF_RANGE: `at` or `head` is not below `places`, or is 536,870,911 or more. IC_NOT_LINKED: `at`
+ * or `head` is not linked. IC_BROKEN: `at` or `head` is in no ring, or `at` is that head itself or its last member. */
+IC_NODISCARD
+uint32_t ic_ring32_splice_after(struct ic_link2_32 *table, ic_length places, uint32_t at, uint32_t head);
+
+/* Moves all members of the head `head`, in their order, before the place `at` of another ring, as list_splice_tail_init of Linux does, in
+ * O(1). Afterwards `head` is the head of a ring with no members.
+ * IC_NULL: `at` or `head` is IC_NONE. IC_OUT_OF_RANGE: `at` or `head` is not below `places`, or is 536,870,911 or more. IC_NOT_LINKED: `at`
+ * or `head` is not linked. IC_BROKEN: `at` or `head` is in no ring, or `at` is that head itself or its first member. */
+IC_NODISCARD
+uint32_t ic_ring32_splice_before(struct ic_link2_32 *table, ic_length places, uint32_t at, uint32_t head);
+
+/* to here */
+
+/* tools/c-calls --write writes from here, of ring: ring32 */
+
+/* Returns whether a place is in a ring or a list of the table. */
+static inline int ic_ring32_is_linked(const struct ic_link2_32 *table, ic_length places, uint32_t place) {
+    return place < ic_bound(ic_places_32(places)) && (table[place].next & 1);
+}
+
+/* Returns the place after the place `at` of a ring, or IC_NONE. After a head comes the first member, and after the last member the head. */
+static inline uint32_t ic_ring32_next(const struct ic_link2_32 *table, ic_length places, uint32_t at) {
+    return ic_ring32_is_linked(table, places, at) ? ic_place_within(places, table[at].next) : IC_NONE;
+}
+
+/* Returns the place before the place `at` of a ring, or IC_NONE. */
+static inline uint32_t ic_ring32_prev(const struct ic_link2_32 *table, ic_length places, uint32_t at) {
+    return ic_ring32_is_linked(table, places, at) ? ic_place_within(places, table[at].prev) : IC_NONE;
+}
+
+/* Returns whether a head is that of a ring with no members. */
+static inline int ic_ring32_is_empty(const struct ic_link2_32 *table, ic_length places, uint32_t head) {
+    return ic_ring32_is_linked(table, places, head) && ic_ring32_next(table, places, head) == head;
+}
+
+/* Returns the first member of a head, or IC_NONE if there is none or if it is no linked place of the table. */
+static inline uint32_t ic_ring32_front(const struct ic_link2_32 *table, ic_length places, uint32_t head) {
+    uint32_t place = ic_ring32_next(table, places, head);
+    return place != head && ic_ring32_is_linked(table, places, place) ? place : IC_NONE;
+}
+
+/* Returns the last member of a head, or IC_NONE if there is none or if it is no linked place of the table. */
+static inline uint32_t ic_ring32_back(const struct ic_link2_32 *table, ic_length places, uint32_t head) {
+    uint32_t place = ic_ring32_prev(table, places, head);
+    return place != head && ic_ring32_is_linked(table, places, place) ? place : IC_NONE;
+}
+
+/* Returns whether the place `at` is the first member of a head. */
+static inline int ic_ring32_is_first(const struct ic_link2_32 *table, ic_length places, uint32_t head, uint32_t at) {
+    return at != IC_NONE && ic_ring32_front(table, places, head) == at;
+}
+
+/* Returns whether the place `at` is the last member of a head. */
+static inline int ic_ring32_is_last(const struct ic_link2_32 *table, ic_length places, uint32_t head, uint32_t at) {
+    return at != IC_NONE && ic_ring32_back(table, places, head) == at;
+}
+
+/* Returns whether a head has one member and no other. */
+static inline int ic_ring32_is_singular(const struct ic_link2_32 *table, ic_length places, uint32_t head) {
+    return ic_ring32_is_first(table, places, head, ic_ring32_back(table, places, head));
+}
+
+/* These loops go from the first member of a head to the last, and back. */
+#define IC_RING32_FOREACH(place, table, places, head)                                                                         \
+    IC_LOOP(place, ic_ring32_next(table, places, head), places, place != (head) && ic_ring32_is_linked(table, places, place), \
+            ic_ring32_next(table, places, place))
+#define IC_RING32_FOREACH_REVERSE(place, table, places, head)                                                                 \
+    IC_LOOP(place, ic_ring32_prev(table, places, head), places, place != (head) && ic_ring32_is_linked(table, places, place), \
+            ic_ring32_prev(table, places, place))
+#define IC_RING32_FOREACH_SAFE(place, next, table, places, head)                                                                         \
+    IC_LOOP_SAFE(place, next, ic_ring32_next(table, places, head), places, place != (head) && ic_ring32_is_linked(table, places, place), \
+                 ic_ring32_next(table, places, place))
+#define IC_RING32_FOREACH_REVERSE_SAFE(place, prev, table, places, head)                                                                 \
+    IC_LOOP_SAFE(place, prev, ic_ring32_prev(table, places, head), places, place != (head) && ic_ring32_is_linked(table, places, place), \
+                 ic_ring32_prev(table, places, place))
+#define IC_RING32_FOREACH_ENTRY(object, objects, table, places, head)                           \
+    IC_LOOP_ENTRY(object, objects, ic_at_##object, ic_ring32_next(table, places, head), places, \
+        ic_at_##object != (head) && ic_ring32_is_linked(table, places, ic_at_##object), ic_ring32_next(table, places, ic_at_##object))
+#define IC_RING32_FOREACH_ENTRY_REVERSE(object, objects, table, places, head)                   \
+    IC_LOOP_ENTRY(object, objects, ic_at_##object, ic_ring32_prev(table, places, head), places, \
+        ic_at_##object != (head) && ic_ring32_is_linked(table, places, ic_at_##object), ic_ring32_prev(table, places, ic_at_##object))
+#define IC_RING32_FOREACH_ENTRY_SAFE(object, objects, table, places, head)                                             \
+    IC_LOOP_ENTRY_SAFE(object, objects, ic_at_##object, ic_next_##object, ic_ring32_next(table, places, head), places, \
+        ic_at_##object != (head) && ic_ring32_is_linked(table, places, ic_at_##object), ic_ring32_next(table, places, ic_at_##object))
+#define IC_RING32_FOREACH_ENTRY_REVERSE_SAFE(object, objects, table, places, head)                                     \
+    IC_LOOP_ENTRY_SAFE(object, objects, ic_at_##object, ic_next_##object, ic_ring32_prev(table, places, head), places, \
+        ic_at_##object != (head) && ic_ring32_is_linked(table, places, ic_at_##object), ic_ring32_prev(table, places, ic_at_##object))
+#define IC_RING32_FOREACH_FROM(place, at, table, places, head) \
+    IC_LOOP(place, at, places, place != (head) && ic_ring32_is_linked(table, places, place), ic_ring32_next(table, places, place))
+#define IC_RING32_FOREACH_REVERSE_FROM(place, at, table, places, head) \
+    IC_LOOP(place, at, places, place != (head) && ic_ring32_is_linked(table, places, place), ic_ring32_prev(table, places, place))
+#define IC_RING32_FOREACH_SAFE_FROM(place, next, at, table, places, head) \
+    IC_LOOP_SAFE(place, next, at, places, place != (head) && ic_ring32_is_linked(table, places, place), ic_ring32_next(table, places, place))
+#define IC_RING32_FOREACH_ENTRY_FROM(object, objects, at, table, places, head)                                                                 \
+    IC_LOOP_ENTRY(object, objects, ic_at_##object, at, places, ic_at_##object != (head) && ic_ring32_is_linked(table, places, ic_at_##object), \
+                  ic_ring32_next(table, places, ic_at_##object))
+#define IC_RING32_FOREACH_ENTRY_SAFE_FROM(object, objects, at, table, places, head)   \
+    IC_LOOP_ENTRY_SAFE(object, objects, ic_at_##object, ic_next_##object, at, places, \
+                       ic_at_##object != (head) && ic_ring32_is_linked(table, places, ic_at_##object), ic_ring32_next(table, places, ic_at_##object))
+
+/* These are two more names for calls of a head, as lists have them. */
+
+/* Inserts `place` as the first member of a head, and returns what ic_ring32_insert_after returns. */
+IC_NODISCARD
+static inline uint32_t ic_ring32_push_front(struct ic_link2_32 *table, ic_length places, uint32_t head, uint32_t place) {
+    return ic_ring32_insert_after(table, places, head, place);
+}
+
+/* Inserts `place` as the last member of a head, and returns what ic_ring32_insert_before returns. */
+IC_NODISCARD
+static inline uint32_t ic_ring32_push_back(struct ic_link2_32 *table, ic_length places, uint32_t head, uint32_t place) {
+    return ic_ring32_insert_before(table, places, head, place);
+}
+
+/* These are edits of two calls. Each first tests the links that its second call tests, so it is refused before it has changed anything. */
+
+/* Returns whether `after` is the place after `before` in a ring, and leads back to it. */
+static inline int ic_ring32_is_gap(const struct ic_link2_32 *table, ic_length places, uint32_t before, uint32_t after) {
+    return before != IC_NONE && ic_ring32_next(table, places, before) == after && ic_ring32_prev(table, places, after) == before;
+}
+
+/* Lets two places, of one ring or of two, change their places, as list_swap of Linux does, in O(1). Nothing changes if they are the same.
+ * IC_NULL: `one` or `other` is IC_NONE. IC_OUT_OF_RANGE: `one` or `other` is not below `places`. IC_NOT_LINKED: `one` or `other` is not
+ * linked. IC_BROKEN: `one` or `other` is in no ring. */
+IC_NODISCARD
+static inline uint32_t ic_ring32_swap(struct ic_link2_32 *table, ic_length places, uint32_t one, uint32_t other) {
+    const uint32_t before_one = ic_ring32_prev(table, places, one), before_other = ic_ring32_prev(table, places, other);
+    uint32_t status;
+    if (!ic_ring32_is_gap(table, places, before_one, one) || !ic_ring32_is_gap(table, places, one, ic_ring32_next(table, places, one)))
+        return ic_fault_of(ic_places_32(places), one, ic_ring32_is_linked(table, places, one));
+    if (!ic_ring32_is_gap(table, places, before_other, other) || !ic_ring32_is_gap(table, places, other, ic_ring32_next(table, places, other)))
+        return ic_fault_of(ic_places_32(places), other, ic_ring32_is_linked(table, places, other));
+    status = ic_ring32_exchange(table, places, before_one, before_other);
+    return status == IC_OK ? ic_ring32_exchange(table, places, one, other) : status;
+}
+
+/* Moves the places from `first` to `last` of a ring, in their order, after the place `at` of any ring, in O(1). So a head's first members up
+ * to `entry` move after the head `list` as by list_cut_position(list, head, entry) of Linux. Nothing changes if they are there already. The
+ * call can't tell if `at` is between `first` and `last`, or if `last` comes before `first`. Then it leaves places in circles without a head.
+ * IC_NULL: `at`, `first` or `last` is IC_NONE. IC_OUT_OF_RANGE: one of them is not below `places`. IC_NOT_LINKED: one of them is not
+ * linked. IC_BROKEN: one of them is in no ring, or `at` is `first`, and `last` is another place. */
+IC_NODISCARD
+static inline uint32_t ic_ring32_move_range_after(struct ic_link2_32 *table, ic_length places, uint32_t at, uint32_t first, uint32_t last) {
+    const uint32_t before_first = ic_ring32_prev(table, places, first);
+    uint32_t status;
+    if (!ic_ring32_is_gap(table, places, at, ic_ring32_next(table, places, at)))
+        return ic_fault_of(ic_places_32(places), at, ic_ring32_is_linked(table, places, at));
+    if (!ic_ring32_is_gap(table, places, before_first, first))
+        return ic_fault_of(ic_places_32(places), first, ic_ring32_is_linked(table, places, first));
+    if (at == last)
+        return IC_OK;
+    if (at == first)
+        return IC_BROKEN;
+    status = ic_ring32_exchange(table, places, before_first, last);
+    return status == IC_OK ? ic_ring32_exchange(table, places, at, last) : status;
+}
+
+/* Moves the places from `first` to `last` of a ring, in their order, before the place `at` of any ring, in O(1). If `at` is a head, they
+ * become its last members, as by list_bulk_move_tail of Linux. Nothing changes if they are there already. What the call can't tell is as
+ * of ic_ring32_move_range_after.
+ * IC_NULL: `at`, `first` or `last` is IC_NONE. IC_OUT_OF_RANGE: one of them is not below `places`. IC_NOT_LINKED: one of them is not
+ * linked. IC_BROKEN: one of them is in no ring, or `at` is `last`, and `first` is another place. */
+IC_NODISCARD
+static inline uint32_t ic_ring32_move_range_before(struct ic_link2_32 *table, ic_length places, uint32_t at, uint32_t first, uint32_t last) {
+    const uint32_t before_at = ic_ring32_prev(table, places, at);
+    if (!ic_ring32_is_gap(table, places, before_at, at))
+        return ic_fault_of(ic_places_32(places), at, ic_ring32_is_linked(table, places, at));
+    if (at == last && at != first)
+        return IC_BROKEN;
+    return ic_ring32_move_range_after(table, places, at == first ? last : before_at, first, last);
+}
 
 /* to here */
 

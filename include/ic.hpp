@@ -206,9 +206,64 @@ struct red_black : headed<ic_link3, ic_tree> {
     }
 };
 
-/// The head of a ring is a place of its table.
-struct circular {
+/// The calls of rings, by the width of the words of their links. Those of 4 bytes have no checks, sorts and merges.
+struct wide_ring {
     using link = ic_link2;
+    static constexpr auto init = ic_ring_init;
+    static constexpr auto remove = ic_ring_remove;
+    static constexpr auto insert_after = ic_ring_insert_after;
+    static constexpr auto insert_before = ic_ring_insert_before;
+    static constexpr auto replace = ic_ring_replace;
+    static constexpr auto move_after = ic_ring_move_after;
+    static constexpr auto move_before = ic_ring_move_before;
+    static constexpr auto splice_after = ic_ring_splice_after;
+    static constexpr auto splice_before = ic_ring_splice_before;
+    static constexpr auto exchange = ic_ring_exchange;
+    static constexpr auto swap = ic_ring_swap;
+    static constexpr auto push_front = ic_ring_push_front;
+    static constexpr auto push_back = ic_ring_push_back;
+    static constexpr auto move_range_after = ic_ring_move_range_after;
+    static constexpr auto move_range_before = ic_ring_move_range_before;
+    static constexpr auto pop_front = ic_ring_pop_front;
+    static constexpr auto pop_back = ic_ring_pop_back;
+    static constexpr auto next = ic_ring_next;
+    static constexpr auto prev = ic_ring_prev;
+    static constexpr auto is_linked_in = ic_ring_is_linked;
+    static constexpr auto is_empty_in = ic_ring_is_empty;
+    static constexpr auto check = ic_ring_check;
+    static constexpr auto sort = ic_ring_sort;
+    static constexpr auto merge = ic_ring_merge;
+};
+
+struct narrow_ring {
+    using link = ic_link2_32;
+    static constexpr auto init = ic_ring32_init;
+    static constexpr auto remove = ic_ring32_remove;
+    static constexpr auto insert_after = ic_ring32_insert_after;
+    static constexpr auto insert_before = ic_ring32_insert_before;
+    static constexpr auto replace = ic_ring32_replace;
+    static constexpr auto move_after = ic_ring32_move_after;
+    static constexpr auto move_before = ic_ring32_move_before;
+    static constexpr auto splice_after = ic_ring32_splice_after;
+    static constexpr auto splice_before = ic_ring32_splice_before;
+    static constexpr auto exchange = ic_ring32_exchange;
+    static constexpr auto swap = ic_ring32_swap;
+    static constexpr auto push_front = ic_ring32_push_front;
+    static constexpr auto push_back = ic_ring32_push_back;
+    static constexpr auto move_range_after = ic_ring32_move_range_after;
+    static constexpr auto move_range_before = ic_ring32_move_range_before;
+    static constexpr auto pop_front = ic_ring32_pop_front;
+    static constexpr auto pop_back = ic_ring32_pop_back;
+    static constexpr auto next = ic_ring32_next;
+    static constexpr auto prev = ic_ring32_prev;
+    static constexpr auto is_linked_in = ic_ring32_is_linked;
+    static constexpr auto is_empty_in = ic_ring32_is_empty;
+};
+
+/// The head of a ring is a place of its table.
+template <class Ring>
+struct circular : Ring {
+    using link = typename Ring::link;
     using head = std::uint32_t;
     struct source {
         const link *table = nullptr;
@@ -219,21 +274,16 @@ struct circular {
     using handle = head;
     static handle handle_of(argument place) noexcept { return place; }
     static constexpr bool is_bidirectional = true, needs_from = false;
-    static constexpr auto check = ic_ring_check;
-    static constexpr auto sort = ic_ring_sort;
-    static constexpr auto merge = ic_ring_merge;
-    static constexpr auto push_front = ic_ring_push_front, push_back = ic_ring_push_back;
-    static constexpr auto pop_front = ic_ring_pop_front, pop_back = ic_ring_pop_back;
 
-    static bool is_linked(const source &in, std::uint32_t at) noexcept { return ic_ring_is_linked(in.table, in.places, at) != 0; }
-    static bool is_empty(const source &in) noexcept { return ic_ring_is_empty(in.table, in.places, in.head) != 0; }
+    static bool is_linked(const source &in, std::uint32_t at) noexcept { return Ring::is_linked_in(in.table, in.places, at) != 0; }
+    static bool is_empty(const source &in) noexcept { return Ring::is_empty_in(in.table, in.places, in.head) != 0; }
     static std::uint32_t outermost(const source &in, bool back) noexcept { return beyond(in, {none, in.head}, back); }
     static std::uint32_t beyond(const source &in, position it, bool back) noexcept {
-        const std::uint32_t place = (back ? ic_ring_prev : ic_ring_next)(in.table, in.places, it.at);
+        const std::uint32_t place = (back ? Ring::prev : Ring::next)(in.table, in.places, it.at);
         return place == in.head ? none : place;
     }
     static std::uint32_t take(link *table, std::size_t places, handle, position it) noexcept {
-        return ic_ring_remove(table, places, it.at);
+        return Ring::remove(table, places, it.at);
     }
 };
 
@@ -688,108 +738,112 @@ public:
 
 // ---- Rings ---------------------------------------------------------------------------------------------------------------------------
 
+namespace detail {
+
 /// Reads the members of one ring, from the one after its head on.
-class const_ring_members : public detail::placed<detail::circular> {
+template <class Ring>
+class const_members_of_ring : public placed<circular<Ring>> {
+    using base = placed<circular<Ring>>;
+
 public:
-    const_ring_members(array_view<const ic_link2> table, std::uint32_t head) noexcept : placed({table.data(), table.size(), head}) {}
+    const_members_of_ring(array_view<const typename Ring::link> table, std::uint32_t head) noexcept : base({table.data(), table.size(), head}) {}
 
     /// Returns the iterator at a member, or end() if the place is the head, `none` or unlinked.
-    [[nodiscard]] iterator iterator_to(std::uint32_t place) const noexcept { return placed::iterator_to(place == in_.head ? none : place); }
+    [[nodiscard]] typename base::iterator iterator_to(std::uint32_t place) const noexcept {
+        return base::iterator_to(place == this->in_.head ? none : place);
+    }
 };
 
 /// Edits the members of one ring.
-class ring_members : public detail::merges<detail::end_edits<const_ring_members>> {
+template <class Ring>
+class members_of_ring : public end_edits<const_members_of_ring<Ring>> {
+    using base = end_edits<const_members_of_ring<Ring>>;
+
 public:
-    using merges::merges;
+    using base::base;
 
     /// Inserts a place before an iterator's member, and at the back if that is end().
-    status insert(iterator at, std::uint32_t place) const noexcept {
-        return *at == none ? push_back(place) : static_cast<status>(ic_ring_insert_before(table_, in_.places, *at, place));
+    status insert(typename base::iterator at, std::uint32_t place) const noexcept {
+        return *at == none ? this->push_back(place) : static_cast<status>(Ring::insert_before(this->table_, this->in_.places, *at, place));
     }
 };
 
 /// Reads the rings of a table, whose heads are places of it.
-class const_ring_view {
+template <class Ring>
+class const_rings {
+    using link = typename Ring::link;
+
 public:
-    const_ring_view(array_view<const ic_link2> table) noexcept : in_(table) {}
+    const_rings(array_view<const link> table) noexcept : in_(table) {}
 
-    [[nodiscard]] bool empty(std::uint32_t head) const noexcept { return ic_ring_is_empty(in_.data(), in_.size(), head) != 0; }
-    [[nodiscard]] bool is_linked(std::uint32_t place) const noexcept { return ic_ring_is_linked(in_.data(), in_.size(), place) != 0; }
-    [[nodiscard]] std::uint32_t next(std::uint32_t at) const noexcept { return ic_ring_next(in_.data(), in_.size(), at); }
-    [[nodiscard]] std::uint32_t prev(std::uint32_t at) const noexcept { return ic_ring_prev(in_.data(), in_.size(), at); }
-
-    /// Returns how many members a head has, in O(n), for words that come from a file or that others write. It returns std::nullopt if they
-    /// form no ring with this head.
-    [[nodiscard]] std::optional<std::uint64_t> check(std::uint32_t head) const noexcept { return members(head).check(); }
+    [[nodiscard]] bool empty(std::uint32_t head) const noexcept { return Ring::is_empty_in(in_.data(), in_.size(), head) != 0; }
+    [[nodiscard]] bool is_linked(std::uint32_t place) const noexcept { return Ring::is_linked_in(in_.data(), in_.size(), place) != 0; }
+    [[nodiscard]] std::uint32_t next(std::uint32_t at) const noexcept { return Ring::next(in_.data(), in_.size(), at); }
+    [[nodiscard]] std::uint32_t prev(std::uint32_t at) const noexcept { return Ring::prev(in_.data(), in_.size(), at); }
 
     /// Returns the members of a head, for a loop or an algorithm.
-    [[nodiscard]] const_ring_members members(std::uint32_t head) const noexcept { return {in_, head}; }
+    [[nodiscard]] const_members_of_ring<Ring> members(std::uint32_t head) const noexcept { return {in_, head}; }
 
 protected:
-    array_view<const ic_link2> in_;
+    array_view<const link> in_;
 };
 
-/// Edits the rings of a table. A member leaves, and gets neighbors, with no ring named.
-class ring_view : public const_ring_view {
+/// Edits the rings of a table. A member leaves, and gets neighbors, with no ring named. `Reads` reads them.
+template <class Ring, class Reads>
+class rings : public Reads {
+    using link = typename Ring::link;
+
 public:
-    ring_view(array_view<ic_link2> table) noexcept : const_ring_view(array_view<const ic_link2>(table)), table_(table.data()), places_(table.size()) {}
+    rings(array_view<link> table) noexcept : Reads(array_view<const link>(table)), table_(table.data()), places_(table.size()) {}
 
     /// Returns the members of a head, whose iterators `erase` takes, too.
-    [[nodiscard]] ring_members members(std::uint32_t head) const noexcept { return {{table_, places_}, head}; }
+    [[nodiscard]] members_of_ring<Ring> members(std::uint32_t head) const noexcept { return {{table_, places_}, head}; }
 
     /// Makes a place the head of a ring with no members.
-    status init(std::uint32_t head) const noexcept { return edit(ic_ring_init, head); }
+    status init(std::uint32_t head) const noexcept { return edit(Ring::init, head); }
 
-    status insert_after(std::uint32_t at, std::uint32_t place) const noexcept { return edit(ic_ring_insert_after, at, place); }
-    status insert_before(std::uint32_t at, std::uint32_t place) const noexcept { return edit(ic_ring_insert_before, at, place); }
-    status push_front(std::uint32_t head, std::uint32_t place) const noexcept { return edit(ic_ring_push_front, head, place); }
-    status push_back(std::uint32_t head, std::uint32_t place) const noexcept { return edit(ic_ring_push_back, head, place); }
+    status insert_after(std::uint32_t at, std::uint32_t place) const noexcept { return edit(Ring::insert_after, at, place); }
+    status insert_before(std::uint32_t at, std::uint32_t place) const noexcept { return edit(Ring::insert_before, at, place); }
+    status push_front(std::uint32_t head, std::uint32_t place) const noexcept { return edit(Ring::push_front, head, place); }
+    status push_back(std::uint32_t head, std::uint32_t place) const noexcept { return edit(Ring::push_back, head, place); }
 
     /// Removes a place from its ring, whichever that is.
-    status remove(std::uint32_t place) const noexcept { return edit(ic_ring_remove, place); }
-    status replace(std::uint32_t at, std::uint32_t place) const noexcept { return edit(ic_ring_replace, at, place); }
-    status move_after(std::uint32_t at, std::uint32_t place) const noexcept { return edit(ic_ring_move_after, at, place); }
-    status move_before(std::uint32_t at, std::uint32_t place) const noexcept { return edit(ic_ring_move_before, at, place); }
+    status remove(std::uint32_t place) const noexcept { return edit(Ring::remove, place); }
+    status replace(std::uint32_t at, std::uint32_t place) const noexcept { return edit(Ring::replace, at, place); }
+    status move_after(std::uint32_t at, std::uint32_t place) const noexcept { return edit(Ring::move_after, at, place); }
+    status move_before(std::uint32_t at, std::uint32_t place) const noexcept { return edit(Ring::move_before, at, place); }
 
     /// Moves all members of the head `given` after a place of another ring, or before it.
-    status splice_after(std::uint32_t at, std::uint32_t given) const noexcept { return edit(ic_ring_splice_after, at, given); }
-    status splice_before(std::uint32_t at, std::uint32_t given) const noexcept { return edit(ic_ring_splice_before, at, given); }
+    status splice_after(std::uint32_t at, std::uint32_t given) const noexcept { return edit(Ring::splice_after, at, given); }
+    status splice_before(std::uint32_t at, std::uint32_t given) const noexcept { return edit(Ring::splice_before, at, given); }
 
     /// Lets two places change their places, in one ring or in two.
-    status swap(std::uint32_t one, std::uint32_t other) const noexcept { return edit(ic_ring_swap, one, other); }
+    status swap(std::uint32_t one, std::uint32_t other) const noexcept { return edit(Ring::swap, one, other); }
 
     /// Moves the places from `first` to `last` of a ring after a place of this or another ring, or before it, which is none of them.
     status move_range_after(std::uint32_t at, std::uint32_t first, std::uint32_t last) const noexcept {
-        return edit(ic_ring_move_range_after, at, first, last);
+        return edit(Ring::move_range_after, at, first, last);
     }
     status move_range_before(std::uint32_t at, std::uint32_t first, std::uint32_t last) const noexcept {
-        return edit(ic_ring_move_range_before, at, first, last);
+        return edit(Ring::move_range_before, at, first, last);
     }
 
     /// Exchanges what comes after two places that are in rings.
-    status exchange(std::uint32_t one, std::uint32_t other) const noexcept { return edit(ic_ring_exchange, one, other); }
-
-    /// Sorts the members of a head by their keys, of which there is one for each place. Members with equal keys keep their order.
-    status sort(array_view<const std::uint64_t> keys, std::uint32_t head) const noexcept { return members(head).sort(keys); }
-
-    /// Moves all members of the head `given` to where their keys belong among those of a head, after members with equal keys.
-    status merge(array_view<const std::uint64_t> keys, std::uint32_t head, std::uint32_t given) const noexcept {
-        return static_cast<status>(ic_ring_merge(table_, places_, keys.data(), keys.size(), head, given));
-    }
+    status exchange(std::uint32_t one, std::uint32_t other) const noexcept { return edit(Ring::exchange, one, other); }
 
     /// Removes the first member of a head, or the last one, and returns it. It returns std::nullopt if there is none, or if the call is
     /// refused.
-    [[nodiscard]] std::optional<std::uint32_t> pop_front(std::uint32_t head) const noexcept { return taken(ic_ring_pop_front, head); }
-    [[nodiscard]] std::optional<std::uint32_t> pop_back(std::uint32_t head) const noexcept { return taken(ic_ring_pop_back, head); }
+    [[nodiscard]] std::optional<std::uint32_t> pop_front(std::uint32_t head) const noexcept { return taken(Ring::pop_front, head); }
+    [[nodiscard]] std::optional<std::uint32_t> pop_back(std::uint32_t head) const noexcept { return taken(Ring::pop_back, head); }
 
     /// Calls a function with each member of a head, which may remove it.
     template <class Function>
     void for_each(std::uint32_t head, Function then) const {
-        IC_RING_FOREACH_SAFE(place, after, table_, places_, head)
+        IC_LOOP_SAFE(place, after, Ring::next(table_, places_, head), places_, place != head && this->is_linked(place), Ring::next(table_, places_, place))
             then(place);
     }
 
-private:
+protected:
     template <class Call, class... Arguments>
     status edit(Call call, Arguments... arguments) const noexcept {
         return static_cast<status>(call(table_, places_, arguments...));
@@ -801,9 +855,52 @@ private:
         return call(table_, places_, head, &place) == IC_OK ? std::optional<std::uint32_t>(place) : std::nullopt;
     }
 
-    ic_link2 *table_;
+    link *table_;
     std::size_t places_;
 };
+
+} // namespace detail
+
+using const_ring_members = detail::const_members_of_ring<detail::wide_ring>;
+
+/// Edits the members of one ring, and sorts and merges them.
+class ring_members : public detail::merges<detail::members_of_ring<detail::wide_ring>> {
+public:
+    using merges::merges;
+};
+
+/// Reads and checks the rings of a table.
+class const_ring_view : public detail::const_rings<detail::wide_ring> {
+public:
+    using const_rings::const_rings;
+
+    /// Returns how many members a head has, in O(n), for words that come from a file or that others write. It returns std::nullopt if they
+    /// form no ring with this head.
+    [[nodiscard]] std::optional<std::uint64_t> check(std::uint32_t head) const noexcept { return members(head).check(); }
+};
+
+/// Edits the rings of a table, and sorts and merges their members.
+class ring_view : public detail::rings<detail::wide_ring, const_ring_view> {
+public:
+    using rings::rings;
+
+    /// Returns the members of a head, whose iterators `erase` takes, too.
+    [[nodiscard]] ring_members members(std::uint32_t head) const noexcept { return {{table_, places_}, head}; }
+
+    /// Sorts the members of a head by their keys, of which there is one for each place. Members with equal keys keep their order.
+    status sort(array_view<const std::uint64_t> keys, std::uint32_t head) const noexcept { return members(head).sort(keys); }
+
+    /// Moves all members of the head `given` to where their keys belong among those of a head, after members with equal keys.
+    status merge(array_view<const std::uint64_t> keys, std::uint32_t head, std::uint32_t given) const noexcept {
+        return static_cast<status>(ic_ring_merge(table_, places_, keys.data(), keys.size(), head, given));
+    }
+};
+
+/// The same of rings whose links have words of 4 bytes, without checks, sorts and merges.
+using const_ring32_members = detail::const_members_of_ring<detail::narrow_ring>;
+using ring32_members = detail::members_of_ring<detail::narrow_ring>;
+using const_ring32_view = detail::const_rings<detail::narrow_ring>;
+using ring32_view = detail::rings<detail::narrow_ring, const_ring32_view>;
 
 // ---- Singly linked lists -----------------------------------------------------------------------------------------------------------
 

@@ -416,6 +416,162 @@ static inline uint32_t ic_ring_in_merge(struct ic_ring_in in, struct ic_keys key
 
 /* to here */
 
+/* ---- Rings with words of 4 bytes ---- */
+
+/* This is a table of such rings, whose heads are places of it. */
+struct ic_ring32_in {
+    struct ic_link2_32 *table;
+    ic_length places;
+};
+
+/* tools/c-calls --write writes from here: ring32 */
+
+IC_NODISCARD
+static inline uint32_t ic_ring32_in_init(struct ic_ring32_in in, uint32_t head) {
+    return ic_ring32_init(in.table, in.places, head);
+}
+
+IC_NODISCARD
+static inline uint32_t ic_ring32_in_insert_after(struct ic_ring32_in in, uint32_t at, uint32_t place) {
+    return ic_ring32_insert_after(in.table, in.places, at, place);
+}
+
+IC_NODISCARD
+static inline uint32_t ic_ring32_in_insert_before(struct ic_ring32_in in, uint32_t at, uint32_t place) {
+    return ic_ring32_insert_before(in.table, in.places, at, place);
+}
+
+IC_NODISCARD
+static inline uint32_t ic_ring32_in_remove(struct ic_ring32_in in, uint32_t place) {
+    return ic_ring32_remove(in.table, in.places, place);
+}
+
+IC_NODISCARD
+static inline uint32_t ic_ring32_in_exchange(struct ic_ring32_in in, uint32_t one, uint32_t other) {
+    return ic_ring32_exchange(in.table, in.places, one, other);
+}
+
+IC_NODISCARD
+static inline uint32_t ic_ring32_in_pop_front(struct ic_ring32_in in, uint32_t head, uint32_t *popped) {
+    return ic_ring32_pop_front(in.table, in.places, head, popped);
+}
+
+IC_NODISCARD
+static inline uint32_t ic_ring32_in_pop_back(struct ic_ring32_in in, uint32_t head, uint32_t *popped) {
+    return ic_ring32_pop_back(in.table, in.places, head, popped);
+}
+
+IC_NODISCARD
+static inline uint32_t ic_ring32_in_replace(struct ic_ring32_in in, uint32_t at, uint32_t place) {
+    return ic_ring32_replace(in.table, in.places, at, place);
+}
+
+IC_NODISCARD
+static inline uint32_t ic_ring32_in_move_after(struct ic_ring32_in in, uint32_t at, uint32_t place) {
+    return ic_ring32_move_after(in.table, in.places, at, place);
+}
+
+IC_NODISCARD
+static inline uint32_t ic_ring32_in_move_before(struct ic_ring32_in in, uint32_t at, uint32_t place) {
+    return ic_ring32_move_before(in.table, in.places, at, place);
+}
+
+IC_NODISCARD
+static inline uint32_t ic_ring32_in_splice_after(struct ic_ring32_in in, uint32_t at, uint32_t head) {
+    return ic_ring32_splice_after(in.table, in.places, at, head);
+}
+
+IC_NODISCARD
+static inline uint32_t ic_ring32_in_splice_before(struct ic_ring32_in in, uint32_t at, uint32_t head) {
+    return ic_ring32_splice_before(in.table, in.places, at, head);
+}
+
+static inline int ic_ring32_in_is_linked(struct ic_ring32_in in, uint32_t place) {
+    return ic_ring32_is_linked(in.table, in.places, place);
+}
+
+static inline uint32_t ic_ring32_in_next(struct ic_ring32_in in, uint32_t at) {
+    return ic_ring32_next(in.table, in.places, at);
+}
+
+static inline uint32_t ic_ring32_in_prev(struct ic_ring32_in in, uint32_t at) {
+    return ic_ring32_prev(in.table, in.places, at);
+}
+
+static inline int ic_ring32_in_is_empty(struct ic_ring32_in in, uint32_t head) {
+    return ic_ring32_is_empty(in.table, in.places, head);
+}
+
+static inline uint32_t ic_ring32_in_front(struct ic_ring32_in in, uint32_t head) {
+    return ic_ring32_front(in.table, in.places, head);
+}
+
+static inline uint32_t ic_ring32_in_back(struct ic_ring32_in in, uint32_t head) {
+    return ic_ring32_back(in.table, in.places, head);
+}
+
+static inline int ic_ring32_in_is_first(struct ic_ring32_in in, uint32_t head, uint32_t at) {
+    return ic_ring32_is_first(in.table, in.places, head, at);
+}
+
+static inline int ic_ring32_in_is_last(struct ic_ring32_in in, uint32_t head, uint32_t at) {
+    return ic_ring32_is_last(in.table, in.places, head, at);
+}
+
+static inline int ic_ring32_in_is_singular(struct ic_ring32_in in, uint32_t head) {
+    return ic_ring32_is_singular(in.table, in.places, head);
+}
+
+IC_NODISCARD
+static inline uint32_t ic_ring32_in_push_front(struct ic_ring32_in in, uint32_t head, uint32_t place) {
+    return ic_ring32_push_front(in.table, in.places, head, place);
+}
+
+IC_NODISCARD
+static inline uint32_t ic_ring32_in_push_back(struct ic_ring32_in in, uint32_t head, uint32_t place) {
+    return ic_ring32_push_back(in.table, in.places, head, place);
+}
+
+static inline int ic_ring32_in_is_gap(struct ic_ring32_in in, uint32_t before, uint32_t after) {
+    return ic_ring32_is_gap(in.table, in.places, before, after);
+}
+
+IC_NODISCARD
+static inline uint32_t ic_ring32_in_swap(struct ic_ring32_in in, uint32_t one, uint32_t other) {
+    return ic_ring32_swap(in.table, in.places, one, other);
+}
+
+IC_NODISCARD
+static inline uint32_t ic_ring32_in_move_range_after(struct ic_ring32_in in, uint32_t at, uint32_t first, uint32_t last) {
+    return ic_ring32_move_range_after(in.table, in.places, at, first, last);
+}
+
+IC_NODISCARD
+static inline uint32_t ic_ring32_in_move_range_before(struct ic_ring32_in in, uint32_t at, uint32_t first, uint32_t last) {
+    return ic_ring32_move_range_before(in.table, in.places, at, first, last);
+}
+
+#define IC_RING32_IN_FOREACH(place, in, head) IC_RING32_FOREACH(place, (in).table, (in).places, head)
+#define IC_RING32_IN_FOREACH_REVERSE(place, in, head) IC_RING32_FOREACH_REVERSE(place, (in).table, (in).places, head)
+#define IC_RING32_IN_FOREACH_SAFE(place, next, in, head) IC_RING32_FOREACH_SAFE(place, next, (in).table, (in).places, head)
+#define IC_RING32_IN_FOREACH_REVERSE_SAFE(place, prev, in, head) IC_RING32_FOREACH_REVERSE_SAFE(place, prev, (in).table, (in).places, head)
+#define IC_RING32_IN_FOREACH_ENTRY(object, objects, in, head) IC_RING32_FOREACH_ENTRY(object, objects, (in).table, (in).places, head)
+#define IC_RING32_IN_FOREACH_ENTRY_REVERSE(object, objects, in, head) \
+    IC_RING32_FOREACH_ENTRY_REVERSE(object, objects, (in).table, (in).places, head)
+#define IC_RING32_IN_FOREACH_ENTRY_SAFE(object, objects, in, head) \
+    IC_RING32_FOREACH_ENTRY_SAFE(object, objects, (in).table, (in).places, head)
+#define IC_RING32_IN_FOREACH_ENTRY_REVERSE_SAFE(object, objects, in, head) \
+    IC_RING32_FOREACH_ENTRY_REVERSE_SAFE(object, objects, (in).table, (in).places, head)
+#define IC_RING32_IN_FOREACH_FROM(place, at, in, head) IC_RING32_FOREACH_FROM(place, at, (in).table, (in).places, head)
+#define IC_RING32_IN_FOREACH_REVERSE_FROM(place, at, in, head) IC_RING32_FOREACH_REVERSE_FROM(place, at, (in).table, (in).places, head)
+#define IC_RING32_IN_FOREACH_SAFE_FROM(place, next, at, in, head) IC_RING32_FOREACH_SAFE_FROM(place, next, at, (in).table, (in).places, head)
+#define IC_RING32_IN_FOREACH_ENTRY_FROM(object, objects, at, in, head) \
+    IC_RING32_FOREACH_ENTRY_FROM(object, objects, at, (in).table, (in).places, head)
+#define IC_RING32_IN_FOREACH_ENTRY_SAFE_FROM(object, objects, at, in, head) \
+    IC_RING32_FOREACH_ENTRY_SAFE_FROM(object, objects, at, (in).table, (in).places, head)
+
+/* to here */
+
 /* ---- Singly linked lists ---- */
 
 /* This is a singly linked list of a table. */

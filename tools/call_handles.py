@@ -17,7 +17,7 @@ WIDTH = 142
 
 
 def renamed(name):
-    return re.sub(r"^((?:ic|IC)_[A-Za-z]+_)", lambda it: it[1] + ("in_" if it[1].islower() else "IN_"), name)
+    return re.sub(r"^((?:ic|IC)_[A-Za-z]+(?:32)?_)", lambda it: it[1] + ("in_" if it[1].islower() else "IN_"), name)
 
 
 def whole(family):

@@ -3,6 +3,7 @@
 import collections
 import re
 
+from call_widths import MOST, WIDE
 from checks import ROOT
 
 CRATE = ROOT / "crates/ic_ffi"
@@ -29,7 +30,8 @@ HANDED = re.compile(r"(?:\([^()]*\)|[^\s()])+")
 NAME = re.compile(r"(?<![\w.'])[\w']+(?![\w.'])")
 SIGNATURE = re.compile(r'pub extern "C" fn (\w+)\((.*?)\) -> u32\n((?:    [^\n]*\n)*)\{', re.S)
 ROW = re.compile(r"^(ic_(\w+?)_\w+)\(([^)]*)\) (O\(.+\))\n    (.*)\n(?:    NULL: (.*)\n)?(?:    BROKEN: (.*)\n)?", re.M)
-GROUP = re.compile(r"^\[([\w-]+)\]\n((?:(?!\[).*\n?)*)", re.M)
+# A section, whose second name is that of the family with words of 4 bytes.
+GROUP = re.compile(r"^\[([\w-]+)\](?: \[([\w-]+)\])?\n((?:(?!\[).*\n?)*)", re.M)
 READS = re.compile(r"^\[reads\] (.*)\n((?:.+\n)*)", re.M)
 ROLES = ("new", "run", "member", "ring", "gap")
 # The arguments by which a call hands a number out.
@@ -111,18 +113,25 @@ def signatures():
     return found
 
 
+def narrow_row(row, family):
+    """A row as that of the family with words of 4 bytes."""
+    name, wide, *rest = row
+    return [re.sub(rf"^ic_{wide}_", f"ic_{family}_", name), family, *rest]
+
+
 def rows():
     """The calls in the order of the table, and what is wrong with the table."""
     of, calls, wrong = signatures(), [], []
     text = READS.sub("", re.sub(r"^#.*\n", "", TABLE.read_text(), flags=re.M))
-    for group, part in GROUP.findall(text):
-        for name, family, roles, cost, what, null, broken in ROW.findall(part):
+    for group, narrow, part in GROUP.findall(text):
+        found = ROW.findall(part)
+        for name, family, roles, cost, what, null, broken in [*found, *(narrow_row(row, narrow) for row in found if narrow)]:
             if name not in of:
                 wrong.append(f"{name} has a row, and crates/ic_ffi has no such call")
                 continue
             args, clauses = of.pop(name)
             roles = dict(it.split(": ") for it in roles.split(", ") if it)
-            calls.append(Call(name, family, group, args, roles, cost, what, null, broken, clauses))
+            calls.append(Call(name, family, narrow if family == narrow else group, args, roles, cost, what, null, broken, clauses))
         rest = ROW.sub("", part).strip()
         if rest:
             wrong.append(f"crates/ic_ffi/calls.txt: this is no row: {rest.splitlines()[0]}")
@@ -186,7 +195,8 @@ def refusals(call, none, length):
     when["OUT_OF_RANGE"] += [f"there are fewer {name} than places" for name in ("keys", "hashes") if has(call, name)]
     when["OUT_OF_RANGE"] += ["there is no bucket"] * has(call, "buckets")
     if names(call, "new", "member", "ring", "gap"):
-        when["OUT_OF_RANGE"].append(f"{some('new', 'member', 'ring', 'gap')} is not below {length}")
+        most = f", or is {MOST:,} or more" * (call.family in WIDE)
+        when["OUT_OF_RANGE"].append(f"{some('new', 'member', 'ring', 'gap')} is not below {length}{most}")
     if names(call, "run"):
         when["OUT_OF_RANGE"].append(f"the first of these places that the call refuses is not below {length}")
         when["LINKED"].append("the first of these places that the call refuses is linked already")
@@ -204,7 +214,8 @@ def contract_roles(call):
     it returns NULL."""
     why, null, none = (call.clauses.get(name, "") for name in ("why", "null", "none"))
     null += none * bool(re.search(r"result ≡ (?:4|NULL)\b", none))
-    return (set(re.findall(r"\bfault_at table\.\w+ \(place_of (\w+)\)", why)), set(re.findall(r"\bfault_of table\.\w+ \(place_of (\w+)\)", why)),
+    return (set(re.findall(r"\bfault_at (?:\w+ )?table\.\w+ \(place_of (\w+)\)", why)),
+            set(re.findall(r"\bfault_of (?:\w+ )?table\.\w+ \(place_of (\w+)\)", why)),
             set(re.findall(r"\brun_faults \([^)]*\) (\w+) count", why)), set(re.findall(r"place_of (\w+) ≡ None", null)))
 
 
@@ -213,7 +224,7 @@ def contract_statuses(call):
     each free place."""
     if "ok" in call.clauses:
         return set()
-    why = re.sub(r"\bfault_at \S+ None\b", "", call.clauses.get("why", ""))
+    why = re.sub(r"\bfault_at (?:\w+ )?\S+ None\b", "", call.clauses.get("why", ""))
     found = set().union(*(statuses for fault, statuses in FAULTS.items() if re.search(rf"\b{fault}\b", why)))
     found |= {"NULL"} if re.search(r"result ≢ (?:4|NULL)\b", why) else set()
     return found | (set() if "opened" in call.clauses else {"BROKEN"})

@@ -8,13 +8,15 @@ from call_table import OUT, has, refusals
 # The types of the numbers, and of lengths, in C and in Rust. A slice is handed as a pointer and a length.
 NUMBERS = {"u32": ("uint32_t", "u32"), "u64": ("uint64_t", "u64")}
 LENGTH = ("ic_length", "usize")
-STRUCTS = {"RawOne": "ic_link1", "RawTwo": "ic_link2", "RawThree": "ic_link3", "RawFront": "ic_stack", "RawEnds": "ic_list", "RawRoot": "ic_tree",
+STRUCTS = {"RawOne": "ic_link1", "RawTwo": "ic_link2", "RawNarrowTwo": "ic_link2_32", "RawThree": "ic_link3", "RawFront": "ic_stack", "RawEnds": "ic_list", "RawRoot": "ic_tree",
            "RawTreeEnds": "ic_tree_ends"}
 COUNTS = {"table": "places", "keys": "key_count", "hashes": "hash_count", "buckets": "bucket_count"}
 # The classes and types of the bindings, and how many words a link of each kind has.
-CLASSES = {"list": "List", "stack": "Stack", "xor": "XorList", "tree": "Tree", "ring": "Ring", "hash": "HashTable"}
-LINKS = {"list": 2, "ring": 2, "stack": 1, "hash": 1, "xor": 1, "tree": 3}
+CLASSES = {"list": "List", "stack": "Stack", "xor": "XorList", "tree": "Tree", "ring": "Ring", "ring32": "Ring32", "hash": "HashTable"}
+LINKS = {"list": 2, "ring": 2, "ring32": "2x32", "stack": 1, "hash": 1, "xor": 1, "tree": 3}
 SELF = ("list", "tree")
+# The families whose calls name heads, which are places.
+RINGS = ("ring", "ring32")
 # The families whose handles and objects keep the keys. The calls of the others are handed them.
 KEEP_KEYS = ("hash", "tree")
 ERRORS = {"NULL": "Null", "OUT_OF_RANGE": "OutOfRange", "LINKED": "Linked", "NOT_LINKED": "NotLinked", "BROKEN": "Broken"}
@@ -158,7 +160,7 @@ def rust_arguments(call):
 
 def rust(call):
     """The method or the function of the crate ic."""
-    is_method = call.family not in ("ring", "hash")
+    is_method = call.family not in (*RINGS, "hash")
     indent, out, own = " " * (4 if is_method else 0), outcome(call), CLASSES[call.family]
     params, words = rust_arguments(call)
     called, reads = f"unsafe {{ {call.name}({', '.join(words)}) }}", next(c_arguments(call))[0]
@@ -236,7 +238,7 @@ def script_words(call):
              "hashes": "...keyParts(hashes, this.links)"}
     if call.family not in KEEP_KEYS:
         fixed["keys"] = "...keyParts(keys, this.links)"
-    if call.family == "ring":
+    if call.family in RINGS:
         fixed["head"] = "this.head" if is_of_head(call) else "this.given(head)"
     for arg in call.args:
         check = "u64" if arg.type == "u64" else "placeNumber" if arg.name in call.roles and call.roles[arg.name] != "run" else "u32"
@@ -260,8 +262,8 @@ def script_name(call):
 
 
 def script(call):
-    """The method of ic.mjs. A constructor of Ring calls ic_ring_init."""
-    if call.name == "ic_ring_init":
+    """The method of ic.mjs. A constructor of a ring calls ic_ring_init."""
+    if short(call) == "init":
         return ""
     begin = {"rest": "return this.parted((rest) => ", "members": "return this.counted(", None: "this.done("}.get(outcome(call), "return this.member(")
     begin += f"this.calls.{call.name}("
@@ -277,7 +279,7 @@ def script(call):
 
 def types(call):
     """The method of ic.d.mts with its comment."""
-    if call.name == "ic_ring_init":
+    if short(call) == "init":
         return ""
     out, own = outcome(call), CLASSES[call.family]
     kinds = {"given": own, "chain": CLASSES["stack"], "head": own, "hash": "bigint | number", "key": "bigint | number", "keys": "Words", "hashes": "Words", "count": "number"}

@@ -5,6 +5,7 @@ import importlib.machinery
 import importlib.util
 import re
 
+from call_widths import WIDE
 from checks import ROOT
 
 # The families, by their names in C: a letter, what they are, and their types in C++, Rust, JavaScript and Rattle.
@@ -12,6 +13,7 @@ Family = collections.namedtuple("Family", "letter title cpp rust script rattle")
 FAMILIES = {
     "list": Family("L", "Doubly linked list", ("const_list_view", "list_view"), "List", "List", "LinkedList"),
     "ring": Family("R", "Ring", ("const_ring_view", "ring_view", "const_ring_members", "ring_members"), "ring", "Ring", "Ring"),
+    "ring32": Family("r", "Ring, words of 4 bytes", ("const_ring32_view", "ring32_view", "const_ring32_members", "ring32_members"), "ring32", "Ring32", "Ring"),
     "stack": Family("S", "Singly linked list", ("const_stack_view", "stack_view"), "Stack", "Stack", "SinglyLinkedList"),
     "hash": Family("H", "Hash table", ("const_hash_view", "hash_view"), "hash", "HashTable", "HashTable"),
     "xor": Family("X", "XOR list", ("const_xor_view", "xor_view"), "XorList", "XorList", "XorLinkedList"),
@@ -200,7 +202,7 @@ def bounds_of(variable, text):
 
 def rattle_names(family):
     """The public calls of a collection, of the functions over it, and of its cursors."""
-    text = rattle_text()
+    text, family = rattle_text(), WIDE.get(family, family)
     kinds, cursors = rattle_traits(text)
     has = kinds.get(RATTLE_KINDS.get(family, ""), set())
     calls, moves = [], []

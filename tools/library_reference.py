@@ -57,7 +57,7 @@ def introductions():
     """What the header says of each family before its calls."""
     text, found = HEADER.read_text(), {}
     for title, said, body in SECTION.findall(text):
-        family = re.search(r"\bic_(list|ring|stack|hash|xor|tree)_\w+\(", body)
+        family = re.search(r"\bic_(list|ring32|ring|stack|hash|xor|tree)_\w+\(", body)
         if family and not title.startswith(("Words", "Reads")):
             found.setdefault(family[1], []).append((title, bare(said)))
     return found
@@ -173,7 +173,7 @@ def common_page(entries):
     text += "\n## Words, loops and the version\n"
     said = ""
     for item in c_items():
-        if not re.match(r"(?i)ic_(?:list|ring|stack|hash|xor|tree)_", item.name):
+        if not re.match(r"(?i)ic_(?:list|ring32|ring|stack|hash|xor|tree)_", item.name):
             text += heading(item.name, 3) + inline(item, said)
             said = item.comment
             entries.append((item.name, f"library/index.html#{item.name}", first_of(item.comment)))

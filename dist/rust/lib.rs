@@ -44,6 +44,14 @@ pub struct ic_link2 {
     pub prev: u64,
 }
 
+/// A link of a ring, in words of 4 bytes.
+#[repr(C)]
+#[derive(Clone, Copy, Debug, Default, PartialEq, Eq, Hash)]
+pub struct ic_link2_32 {
+    pub next: u32,
+    pub prev: u32,
+}
+
 /// A link of a tree: both children, and the parent.
 #[repr(C)]
 #[derive(Clone, Copy, Debug, Default, PartialEq, Eq, Hash)]
@@ -113,7 +121,7 @@ pub const fn ic_place(word: u64) -> u32 {
 }
 
 extern "C" {
-    // tools/c-calls --write writes from here: list list-keys list-transfer ring ring-check ring-keys stack stack-keys hash hash-growth xor tree tree-keys tree-steps tree-ends
+    // tools/c-calls --write writes from here: list list-keys list-transfer ring ring-check ring-keys ring32 stack stack-keys hash hash-growth xor tree tree-keys tree-steps tree-ends
     pub fn ic_list_push_front(table: *mut ic_link2, places: usize, list: *mut ic_list, place: u32) -> u32;
     pub fn ic_list_push_back(table: *mut ic_link2, places: usize, list: *mut ic_list, place: u32) -> u32;
     pub fn ic_list_pop_front(table: *mut ic_link2, places: usize, list: *mut ic_list, popped: *mut u32) -> u32;
@@ -201,6 +209,18 @@ extern "C" {
     pub fn ic_ring_move_before(table: *mut ic_link2, places: usize, at: u32, place: u32) -> u32;
     pub fn ic_ring_splice_after(table: *mut ic_link2, places: usize, at: u32, head: u32) -> u32;
     pub fn ic_ring_splice_before(table: *mut ic_link2, places: usize, at: u32, head: u32) -> u32;
+    pub fn ic_ring32_init(table: *mut ic_link2_32, places: usize, head: u32) -> u32;
+    pub fn ic_ring32_insert_after(table: *mut ic_link2_32, places: usize, at: u32, place: u32) -> u32;
+    pub fn ic_ring32_insert_before(table: *mut ic_link2_32, places: usize, at: u32, place: u32) -> u32;
+    pub fn ic_ring32_remove(table: *mut ic_link2_32, places: usize, place: u32) -> u32;
+    pub fn ic_ring32_exchange(table: *mut ic_link2_32, places: usize, one: u32, other: u32) -> u32;
+    pub fn ic_ring32_pop_front(table: *mut ic_link2_32, places: usize, head: u32, popped: *mut u32) -> u32;
+    pub fn ic_ring32_pop_back(table: *mut ic_link2_32, places: usize, head: u32, popped: *mut u32) -> u32;
+    pub fn ic_ring32_replace(table: *mut ic_link2_32, places: usize, at: u32, place: u32) -> u32;
+    pub fn ic_ring32_move_after(table: *mut ic_link2_32, places: usize, at: u32, place: u32) -> u32;
+    pub fn ic_ring32_move_before(table: *mut ic_link2_32, places: usize, at: u32, place: u32) -> u32;
+    pub fn ic_ring32_splice_after(table: *mut ic_link2_32, places: usize, at: u32, head: u32) -> u32;
+    pub fn ic_ring32_splice_before(table: *mut ic_link2_32, places: usize, at: u32, head: u32) -> u32;
     pub fn ic_ring_check(table: *const ic_link2, places: usize, head: u32, members: *mut u64) -> u32;
     pub fn ic_ring_sort(table: *mut ic_link2, places: usize, keys: *const u64, key_count: usize, head: u32) -> u32;
     pub fn ic_ring_merge(

@@ -83,6 +83,7 @@ export class Library {
   links1(places) { return new Words(this, places, 1); }
   links2(places) { return new Words(this, places, 2); }
   links3(places) { return new Words(this, places, 3); }
+  links2x32(places) { return new HalfWords(this, places, 2); }
   keys(places) { return new Words(this, places, 1); }
   done(status) {
     if (status !== OK) throw new Refused(status);
@@ -180,14 +181,16 @@ const FREED = new Proxy({}, { get() { throw new TypeError("it is freed"); } });
 /** A table of links, keys, buckets, or the words of a list: `width` words for each of `length` places. It may be a part `of` another one. */
 export class Words {
   constructor(library, length, width, of = null, from = 0) {
-    const address = of ? of.address + 8 * from : library.take(8 * width * natural(length, "length"));
+    const bytes = this.wordBytes;
+    const address = of ? of.address + bytes * from : library.take(bytes * width * natural(length, "length"));
     Object.assign(this, { library, length, width, of, address, isFreed: false });
     if (!of) library.made?.push(this);
   }
+  get wordBytes() { return 8; }
   /** Gives the memory back. Then there are no places, and each call of a list of this table throws. A part does nothing. */
   free() {
     if (this.of || this.isFreed) return;
-    this.library.free(this.address, 8 * this.width * this.length);
+    this.library.free(this.address, this.wordBytes * this.width * this.length);
     Object.assign(this, { length: 0, isFreed: true, seen: undefined, halves: undefined });
   }
   get calls() {
@@ -234,6 +237,26 @@ export class Words {
   }
 }
 
+/** A table of links in words of 4 bytes, which have room for the places below 536870911. */
+export class HalfWords extends Words {
+  get wordBytes() { return 4; }
+  get words() {
+    this.half(0);
+    return this.halves;
+  }
+  hasMember(number) {
+    return number < this.length && number < 536870911 && (this.half(this.width * number) & 1) === 1;
+  }
+  place(place, which) {
+    return fromHalves(this.half(this.width * place + which), 0);
+  }
+  half(at) {
+    const { buffer } = this.library.calls.memory;
+    if (this.halves?.buffer !== buffer) this.halves = new Uint32Array(buffer, this.address, this.width * this.length);
+    return this.halves[at];
+  }
+}
+
 export const wordOf = (place) => BigInt(placeNumber(place, "place") + 1 >>> 0) * 8n;
 export function placeOf(word) {
   const number = u64(word, "word");
@@ -243,21 +266,21 @@ export function placeOf(word) {
 const fromHalves = (low, high) => (high & 8 ? null : orNull((high << 29 | low >>> 3) - 1 >>> 0));
 const orNull = (place) => (place === NONE ? null : place);
 
-function checkWidth(links, width) {
+function checkWidth(links, width, wordBytes) {
   if (links.isFreed) throw new TypeError("its table is freed");
-  if (links.width !== width) throw new TypeError(`its table has ${width} words for each place`);
+  if (links.width !== width || links.wordBytes !== wordBytes) throw new TypeError(`its table has ${width} words of ${wordBytes} bytes for each place`);
 }
 
 /** Keys as the calls take them, which are none where there are no words. */
 function keyParts(keys, { library }) {
-  if (keys && (keys.width !== 1 || keys.library !== library || keys.isFreed)) throw new TypeError("its keys are words of the same module");
+  if (keys && (keys.width !== 1 || keys.wordBytes !== 8 || keys.library !== library || keys.isFreed)) throw new TypeError("its keys are words of the same module");
   return keys?.parts ?? [library.at(0), 0n];
 }
 
 /** What makes calls over a table of links. */
 class Calls {
-  constructor(links, linkWidth) {
-    checkWidth(links, linkWidth);
+  constructor(links, linkWidth, wordBytes = 8) {
+    checkWidth(links, linkWidth, wordBytes);
     Object.assign(this, { links, library: links.library });
     [this.table, this.places] = links.parts;
     this.out = this.library.at(this.library.out);
@@ -388,12 +411,11 @@ export class List extends Collection {
   // to here
 }
 
-/** A ring over links2, whose head is a place of the table. */
-export class Ring extends Calls {
-  constructor(links, head) {
-    super(links, 2);
+/** What rings of both widths have. */
+class Rings extends Calls {
+  constructor(links, wordBytes, head) {
+    super(links, 2, wordBytes);
     this.head = head;
-    this.done(this.calls.ic_ring_init(this.table, this.places, placeNumber(head, "head")));
   }
   get isEmpty() { return this.next(this.head) === this.head; }
   get first() { return this.unlessHead(this.next(this.head)); }
@@ -403,6 +425,22 @@ export class Ring extends Calls {
   [Symbol.iterator]() { return walk(this.links, this.first, (at) => this.unlessHead(this.next(at))); }
   removeIf(isUnwanted) {
     return removeIf(this.links, isUnwanted, (_, at) => this.unlessHead(this.next(at ?? this.head)), (_, at) => this.remove(at));
+  }
+  pushFront(place) { this.insertAfter(this.head, place); }
+  pushBack(place) { this.insertBefore(this.head, place); }
+  unlessHead(place) { return place === this.head ? null : place; }
+  /** The head of another ring of this table. */
+  given(other) {
+    if (other === this || other.links !== this.links) throw new TypeError("what is given is another ring of the same table");
+    return other.head;
+  }
+}
+
+/** A ring over links2, whose head is a place of the table. */
+export class Ring extends Rings {
+  constructor(links, head) {
+    super(links, 8, head);
+    this.done(this.calls.ic_ring_init(this.table, this.places, placeNumber(head, "head")));
   }
   // tools/c-calls --write writes from here: ring ring-check ring-keys
   insertAfter(at, place) {
@@ -432,14 +470,41 @@ export class Ring extends Calls {
     this.done(this.calls.ic_ring_merge(this.table, this.places, ...keyParts(keys, this.links), this.head, this.given(given)));
   }
   // to here
-  pushFront(place) { this.insertAfter(this.head, place); }
-  pushBack(place) { this.insertBefore(this.head, place); }
-  unlessHead(place) { return place === this.head ? null : place; }
-  /** The head of another ring of this table. */
-  given(other) {
-    if (other === this || other.links !== this.links) throw new TypeError("what is given is another ring of the same table");
-    return other.head;
+}
+
+/** A ring over links2x32, whose head is a place of the table. */
+export class Ring32 extends Rings {
+  constructor(links, head) {
+    super(links, 4, head);
+    this.done(this.calls.ic_ring32_init(this.table, this.places, placeNumber(head, "head")));
   }
+  // tools/c-calls --write writes from here: ring32
+  insertAfter(at, place) {
+    this.done(this.calls.ic_ring32_insert_after(this.table, this.places, placeNumber(at, "at"), placeNumber(place, "place")));
+  }
+  insertBefore(at, place) {
+    this.done(this.calls.ic_ring32_insert_before(this.table, this.places, placeNumber(at, "at"), placeNumber(place, "place")));
+  }
+  remove(place) { this.done(this.calls.ic_ring32_remove(this.table, this.places, placeNumber(place, "place"))); }
+  exchange(one, other) {
+    this.done(this.calls.ic_ring32_exchange(this.table, this.places, placeNumber(one, "one"), placeNumber(other, "other")));
+  }
+  popFront() { return this.member(this.calls.ic_ring32_pop_front(this.table, this.places, this.head, this.out)); }
+  popBack() { return this.member(this.calls.ic_ring32_pop_back(this.table, this.places, this.head, this.out)); }
+  replace(at, place) {
+    this.done(this.calls.ic_ring32_replace(this.table, this.places, placeNumber(at, "at"), placeNumber(place, "place")));
+  }
+  moveAfter(at, place) {
+    this.done(this.calls.ic_ring32_move_after(this.table, this.places, placeNumber(at, "at"), placeNumber(place, "place")));
+  }
+  moveBefore(at, place) {
+    this.done(this.calls.ic_ring32_move_before(this.table, this.places, placeNumber(at, "at"), placeNumber(place, "place")));
+  }
+  spliceAfter(at, head) { this.done(this.calls.ic_ring32_splice_after(this.table, this.places, placeNumber(at, "at"), this.given(head))); }
+  spliceBefore(at, head) {
+    this.done(this.calls.ic_ring32_splice_before(this.table, this.places, placeNumber(at, "at"), this.given(head)));
+  }
+  // to here
 }
 
 /** A singly linked list over links1. */

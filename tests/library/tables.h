@@ -13,10 +13,11 @@
 
 enum { MOST = 24 }; /* how many places a table has at most */
 
-enum kind { KIND_LIST, KIND_STACK, KIND_XOR, KIND_TREE, KINDS };
+/* Only hostile.c tries the last one, rings with words of 4 bytes. */
+enum kind { KIND_LIST, KIND_STACK, KIND_XOR, KIND_TREE, KINDS, KIND_RING32 = KINDS, TRIED_KINDS };
 
-/* How many words a link and a list of each kind have. */
-static const struct { size_t link, list; } sizes[KINDS] = {{2, 2}, {1, 1}, {1, 2}, {3, 1}};
+/* How many words of 8 bytes a link and a list of each kind have. */
+static const struct { size_t link, list; } sizes[TRIED_KINDS] = {{2, 2}, {1, 1}, {1, 2}, {3, 1}, {1, 0}};
 
 static inline uint32_t place(size_t places) {
     switch (below(8)) {

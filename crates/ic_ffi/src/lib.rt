@@ -24,6 +24,7 @@ mod growth_calls;
 mod hash_calls;
 mod list_calls;
 mod move_calls;
+mod narrow_ring_calls;
 mod ring_calls;
 mod ring_check_calls;
 mod ring_sort_calls;
@@ -37,7 +38,7 @@ mod tree_move_calls;
 mod xor_calls;
 
 pub use ic_raw::{
-    BROKEN, LINKED, NONE, NOT_LINKED, NULL, OK, OUT_OF_RANGE, RawEnds, RawFront, RawOne, RawRoot,
+    BROKEN, LINKED, NONE, NOT_LINKED, NULL, OK, OUT_OF_RANGE, RawEnds, RawFront, RawNarrowTwo, RawOne, RawRoot,
     RawThree, RawTwo,
 };
 pub use ic_raw_keyed::RawTreeEnds;

@@ -8,6 +8,7 @@
 //! ```
 
 ghost use Rattle.ic_raw.specs.declared.gap.Side.TheVariants.{After, Before};
+ghost use Rattle.ic_raw.specs.LinkWords.{wide_words};
 ghost use Rattle.ic_raw.specs.RingCalls.{PopCall, ReplaceCall, MoveCall, SpliceCall};
 ghost use Rattle.ic_raw.specs.Words.{place_of};
 ghost use Rattle.ic_raw.specs.RingCalls.{ExchangeCall, InitCall, InsertCall, RemoveCall};
@@ -19,7 +20,7 @@ use ic_raw::{RawTwo, Side, ring_calls};
 /// The place has to be one of the table, and not linked. Linux: `INIT_LIST_HEAD`.
 #[unsafe(no_mangle)]
 pub extern "C" fn ic_ring_init(table: &mut [RawTwo], head: u32) -> u32
-    ensures { InitCall table.old table.new result (place_of head) }
+    ensures { InitCall wide_words table.old table.new result (place_of head) }
 {
     ring_calls::init(table, head)
 }
@@ -29,7 +30,7 @@ pub extern "C" fn ic_ring_init(table: &mut [RawTwo], head: u32) -> u32
 /// The place has to be one of the table, and not linked. Linux: `list_add`.
 #[unsafe(no_mangle)]
 pub extern "C" fn ic_ring_insert_after(table: &mut [RawTwo], at: u32, place: u32) -> u32
-    ensures { InsertCall table.old table.new result After (place_of at) (place_of place) }
+    ensures { InsertCall wide_words table.old table.new result After (place_of at) (place_of place) }
 {
     ring_calls::insert(table, Side::After, at, place)
 }
@@ -39,7 +40,7 @@ pub extern "C" fn ic_ring_insert_after(table: &mut [RawTwo], at: u32, place: u32
 /// The place has to be one of the table, and not linked. Linux: `list_add_tail`.
 #[unsafe(no_mangle)]
 pub extern "C" fn ic_ring_insert_before(table: &mut [RawTwo], at: u32, place: u32) -> u32
-    ensures { InsertCall table.old table.new result Before (place_of at) (place_of place) }
+    ensures { InsertCall wide_words table.old table.new result Before (place_of at) (place_of place) }
 {
     ring_calls::insert(table, Side::Before, at, place)
 }
@@ -49,7 +50,7 @@ pub extern "C" fn ic_ring_insert_before(table: &mut [RawTwo], at: u32, place: u3
 /// A head that has no members leaves, too, and its ring is gone then. Linux: `list_del`.
 #[unsafe(no_mangle)]
 pub extern "C" fn ic_ring_remove(table: &mut [RawTwo], place: u32) -> u32
-    ensures { RemoveCall table.old table.new result (place_of place) }
+    ensures { RemoveCall wide_words table.old table.new result (place_of place) }
 {
     ring_calls::remove(table, place)
 }
@@ -60,7 +61,7 @@ pub extern "C" fn ic_ring_remove(table: &mut [RawTwo], place: u32) -> u32
 /// it back.
 #[unsafe(no_mangle)]
 pub extern "C" fn ic_ring_exchange(table: &mut [RawTwo], one: u32, other: u32) -> u32
-    ensures { ExchangeCall table.old table.new result (place_of one) (place_of other) }
+    ensures { ExchangeCall wide_words table.old table.new result (place_of one) (place_of other) }
 {
     ring_calls::exchange(table, one, other)
 }
@@ -68,7 +69,7 @@ pub extern "C" fn ic_ring_exchange(table: &mut [RawTwo], one: u32, other: u32) -
 /// Takes the first member of a head out, and hands its number out. O(1).
 #[unsafe(no_mangle)]
 pub extern "C" fn ic_ring_pop_front(table: &mut [RawTwo], head: u32, popped: &mut u32) -> u32
-    ensures { PopCall table.old table.new result popped.old popped.new After (place_of head) }
+    ensures { PopCall wide_words table.old table.new result popped.old popped.new After (place_of head) }
 {
     ring_calls::pop(table, Side::After, head, popped)
 }
@@ -76,7 +77,7 @@ pub extern "C" fn ic_ring_pop_front(table: &mut [RawTwo], head: u32, popped: &mu
 /// Takes the last member of a head out, and hands its number out. O(1).
 #[unsafe(no_mangle)]
 pub extern "C" fn ic_ring_pop_back(table: &mut [RawTwo], head: u32, popped: &mut u32) -> u32
-    ensures { PopCall table.old table.new result popped.old popped.new Before (place_of head) }
+    ensures { PopCall wide_words table.old table.new result popped.old popped.new Before (place_of head) }
 {
     ring_calls::pop(table, Side::Before, head, popped)
 }
@@ -86,7 +87,7 @@ pub extern "C" fn ic_ring_pop_back(table: &mut [RawTwo], head: u32, popped: &mut
 /// The place has to be one of the table, and not linked. Linux: `list_replace`.
 #[unsafe(no_mangle)]
 pub extern "C" fn ic_ring_replace(table: &mut [RawTwo], at: u32, place: u32) -> u32
-    ensures { ReplaceCall table.old table.new result (place_of at) (place_of place) }
+    ensures { ReplaceCall wide_words table.old table.new result (place_of at) (place_of place) }
 {
     ring_calls::replace(table, at, place)
 }
@@ -96,7 +97,7 @@ pub extern "C" fn ic_ring_replace(table: &mut [RawTwo], at: u32, place: u32) -> 
 /// Beside itself it stays. Linux: `list_move`.
 #[unsafe(no_mangle)]
 pub extern "C" fn ic_ring_move_after(table: &mut [RawTwo], at: u32, place: u32) -> u32
-    ensures { MoveCall table.old table.new result After (place_of at) (place_of place) }
+    ensures { MoveCall wide_words table.old table.new result After (place_of at) (place_of place) }
 {
     ring_calls::move_beside(table, Side::After, at, place)
 }
@@ -106,7 +107,7 @@ pub extern "C" fn ic_ring_move_after(table: &mut [RawTwo], at: u32, place: u32) 
 /// Beside itself it stays. Linux: `list_move_tail`.
 #[unsafe(no_mangle)]
 pub extern "C" fn ic_ring_move_before(table: &mut [RawTwo], at: u32, place: u32) -> u32
-    ensures { MoveCall table.old table.new result Before (place_of at) (place_of place) }
+    ensures { MoveCall wide_words table.old table.new result Before (place_of at) (place_of place) }
 {
     ring_calls::move_beside(table, Side::Before, at, place)
 }
@@ -116,7 +117,7 @@ pub extern "C" fn ic_ring_move_before(table: &mut [RawTwo], at: u32, place: u32)
 /// The head stands alone then. Linux: `list_splice_init`.
 #[unsafe(no_mangle)]
 pub extern "C" fn ic_ring_splice_after(table: &mut [RawTwo], at: u32, head: u32) -> u32
-    ensures { SpliceCall table.old table.new result After (place_of at) (place_of head) }
+    ensures { SpliceCall wide_words table.old table.new result After (place_of at) (place_of head) }
 {
     ring_calls::splice(table, Side::After, at, head)
 }
@@ -126,7 +127,7 @@ pub extern "C" fn ic_ring_splice_after(table: &mut [RawTwo], at: u32, head: u32)
 /// The head stands alone then. Linux: `list_splice_tail_init`.
 #[unsafe(no_mangle)]
 pub extern "C" fn ic_ring_splice_before(table: &mut [RawTwo], at: u32, head: u32) -> u32
-    ensures { SpliceCall table.old table.new result Before (place_of at) (place_of head) }
+    ensures { SpliceCall wide_words table.old table.new result Before (place_of at) (place_of head) }
 {
     ring_calls::splice(table, Side::Before, at, head)
 }

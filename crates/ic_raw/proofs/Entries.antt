@@ -1,15 +1,18 @@
 -- The words of a table as they are written.
-use Rattle.std.proofs.Common.{◌≡◌, ℕ, List, Bool, true, false, Option, slice_set, slice_index_or, ◌+◌, ◌%◌, nat_eq, eqb-true, eq-eqb, sym, ap, ◌∙◌, arith}
+use Rattle.std.proofs.Common.{◌≡◌, ℕ, List, Bool, true, false, Option, slice_set, slice_index_or, ◌+◌, ◌%◌, ◌<◌, length, nat_eq, eqb-true, eq-eqb, sym, ap, ◌∙◌, arith}
 use Rattle.std.proofs.lemmas.List.{length-set}
 use Rattle.ic_unsafe_ref.specs.declared.place.Place.{Place}
 use Rattle.ic_unsafe_ref.specs.PlaceWords.{IsWord}
 use Rattle.ic_unsafe_ref.specs.Places.{index_of, word_of, place_at}
 use Rattle.ic_unsafe_ref.proofs.PlaceLemmas.{place_at_word, word_at, word_fits}
 use Rattle.ic_link_ops.specs.PlainTables.{entry_at, table_with}
-use Rattle.ic_link_ops.specs.Tables.{ChangesOnly}
+use Rattle.ic_link_ops.specs.Tables.{ChangesOnly, IsNameable}
+use Rattle.ic_link_ops.specs.Widths.{Width, narrow, HasRoom, nameable}
 use Rattle.ic_link_ops.specs.EntryLaws.{linked_in_range}
 use Rattle.ic_link_ops.proofs.EntryLemmas.{entry_same, entry_read, others_same}
-use Rattle.ic_raw.specs.Words.{number_in, place_in}
+use Rattle.ic_link_ops.proofs.SeenEntries.{others_seen, entry_set, entry_seen}
+use Rattle.ic_link_ops.proofs.WidthLemmas.{nameable_written, word_kept}
+use Rattle.ic_raw.specs.Words.{number_in, place_in, narrow_number_in, narrow_place_in}
 
 -- a write at p changes only the entry of p
 pub changes_only : {E : Type 0} (d : E) {identity : List ℕ} (es : List E) (p : Place) (e : E) (i : ℕ) → i ≡ index_of p
@@ -31,6 +34,20 @@ pub place_kept : (p : Option Place) → place_in (word_of p) ≡ p
 place_kept p =
     let fits = word_fits p in
     let same : number_in (word_of p) ≡ word_of p = omega (arith, fits.0, fits.1) in
+    ap place_at same ∙ place_at_word p
+
+-- the same of words of 4 bytes, where there is room for the place
+pub narrow_number_fits : (v : ℕ) → IsWord (narrow_number_in v)
+narrow_number_fits v = (omega arith, omega arith)
+
+pub narrow_number_read : (v : ℕ) → word_of (narrow_place_in v) ≡ narrow_number_in v
+narrow_number_read v = word_at (narrow_number_in v) (narrow_number_fits v)
+
+pub narrow_place_kept : (p : Option Place) → IsNameable (HasRoom narrow) p → narrow_place_in (word_of p) ≡ p
+narrow_place_kept p room =
+    let fits = word_fits p in
+    let small = word_kept narrow p room in
+    let same : narrow_number_in (word_of p) ≡ word_of p = omega (arith, fits.0, fits.1, small) in
     ap place_at same ∙ place_at_word p
 
 -- a word as a call writes it names its place: that of a place alone, and that of what is behind a linked one
@@ -73,3 +90,31 @@ module _ {E : Type 0} (is_linked : E → Bool) (d : E) (starts : is_linked d ≡
   says_written says change es p old new beyond i at_p linked read written =
       let covered = linked_in_range is_linked d starts es (index_of p) linked in
       ap says (entry_same d es p new i at_p covered) ∙ written ∙ ap (λ e. change (says e)) (sym (entry_read d es p old beyond i at_p covered read))
+
+-- THE SAME OF THE PLACES FOR WHICH WORDS HAVE ROOM
+module _ {E : Type 0} (w : Width) (d : E) where
+  -- a write at p changes only the entry of p
+  pub changes_seen : {identity : List ℕ} (es : List E) (p : Place) (e : E) (i : ℕ) → i ≡ index_of p → index_of p < length (nameable w es)
+      → ChangesOnly (table_with d identity (nameable w es)) (table_with d identity (nameable w (slice_set es i e))) p
+  changes_seen {identity} es p e i at_p covered = record {
+    extent = ap (λ (n : ℕ). record { places = n; identity = identity }) (ap length (nameable_written w es i e (rw at_p covered)) ∙ length-set (nameable w es) i e);
+    others = others_seen w d es p e i at_p covered;
+  }
+
+  module _ (is_linked : E → Bool) (starts : is_linked d ≡ false) where
+    -- a linked place is one of them
+    pub seen_covered : (es : List E) (p : Place) → is_linked (entry_at d (nameable w es) p) ≡ true → index_of p < length (nameable w es)
+    seen_covered es p = linked_in_range is_linked d starts (nameable w es) (index_of p)
+
+    -- what was read at a linked place is the entry of one
+    pub seen_linked : (es : List E) (p : Place) (old beyond : E) (i : ℕ) → i ≡ index_of p → is_linked (entry_at d (nameable w es) p) ≡ true → old ≡ slice_index_or es i beyond
+        → is_linked old ≡ true
+    seen_linked es p old beyond i at_p linked read = ap is_linked (sym (entry_seen w d es p old beyond i at_p (seen_covered es p linked) read)) ∙ linked
+
+    -- a write at a linked place changes what the entry says as it changes what was read there
+    pub seen_written : {R : Type 0} (says : E → R) (change : R → R) (es : List E) (p : Place) (old new beyond : E) (i : ℕ) → i ≡ index_of p
+        → is_linked (entry_at d (nameable w es) p) ≡ true → old ≡ slice_index_or es i beyond → says new ≡ change (says old)
+        → says (entry_at d (nameable w (slice_set es i new)) p) ≡ change (says (entry_at d (nameable w es) p))
+    seen_written says change es p old new beyond i at_p linked read written =
+        let covered = seen_covered es p linked in
+        ap says (entry_set w d es p new i at_p covered) ∙ written ∙ ap (λ e. change (says e)) (sym (entry_seen w d es p old beyond i at_p covered read))

@@ -7,7 +7,8 @@ use Rattle.ic_link_ops.specs.Tables.{Table}
 use Rattle.ic_raw.specs.declared.table.RawTable.{RawTable}
 use Rattle.ic_raw.specs.Answers.{refusal}
 use Rattle.ic_raw.specs.Gaps.{Stands}
-use Rattle.ic_raw.specs.Tables.{raw_table, member_fault, place_fault}
+use Rattle.ic_link_ops.specs.Widths.{Width, nameable}
+use Rattle.ic_raw.specs.Tables.{nameable_table, member_fault, place_fault}
 use Rattle.ic_raw.specs.Words.{place_of}
 use Rattle.ic_raw.proofs.Numbers.{none_named}
 
@@ -26,14 +27,14 @@ faultless is_linked t None stands = refl
 faultless is_linked t (Some p) stands = ap (λ b. cond b 0 (cond (nat_lt (index_of p) t.extent.places) 3 1)) (stands p refl)
 
 -- at an end a place has no fault but its own: that of the view is that of the words that were lent
-module _ {W : Type 0} (is_linked : W → Bool) (unlinked : W) (t : RawTable W) where
-  pub place_fault_back : (place : Option Place) → place_fault is_linked (raw_table unlinked t) place ≡ place_fault is_linked (table_of unlinked t.entries.now) place
+module _ {W : Type 0} (is_linked : W → Bool) (width : Width) (unlinked : W) (t : RawTable W) where
+  pub place_fault_back : (place : Option Place) → place_fault is_linked (nameable_table width unlinked t) place ≡ place_fault is_linked (table_of unlinked (nameable width t.entries.now)) place
   place_fault_back None = refl
   place_fault_back (Some p) = refl
 
   pub end_fault : {es : List W} (place : Option Place) {n : ℕ} → t.entries.now ≡ es
-      → n ≡ refusal (member_fault is_linked (raw_table unlinked t) (place_of 4294967295) ∷ place_fault is_linked (raw_table unlinked t) place ∷ [])
-      → n ≡ refusal (place_fault is_linked (table_of unlinked es) place ∷ [])
+      → n ≡ refusal (member_fault is_linked (nameable_table width unlinked t) (place_of 4294967295) ∷ place_fault is_linked (nameable_table width unlinked t) place ∷ [])
+      → n ≡ refusal (place_fault is_linked (table_of unlinked (nameable width es)) place ∷ [])
   end_fault place {n} e why =
-      let alone = subst (λ at. n ≡ refusal (member_fault is_linked (raw_table unlinked t) at ∷ place_fault is_linked (raw_table unlinked t) place ∷ [])) none_named why in
+      let alone = subst (λ at. n ≡ refusal (member_fault is_linked (nameable_table width unlinked t) at ∷ place_fault is_linked (nameable_table width unlinked t) place ∷ [])) none_named why in
       rw (← e) (alone ∙ ap (λ m. refusal (m ∷ [])) (place_fault_back place))

@@ -24,4 +24,5 @@ pub mod Runs
 pub mod TreeWalks
 pub mod Sorting
 pub mod MarkedTrees
+pub mod LinkViews
 pub mod Rings

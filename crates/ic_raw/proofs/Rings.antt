@@ -9,19 +9,16 @@ use Rattle.ic_link_ops.proofs.SequenceLemmas.{absent_both, absent_left, absent_r
 use Rattle.ic_link_ops.specs.Tables.{Table, ChangesOnly}
 use Rattle.ic_link_ops.specs.LinkSteps.{LinkStep}
 use Rattle.ic_ring.proofs.Circles.{circle_after_free, next_not, next_some, next_stands, prev_not, prev_some, prev_stands, rotated}
-use Rattle.ic_raw.specs.declared.words.RawTwo.{RawTwo}
 use Rattle.ic_raw.specs.declared.table.RawTable.{RawTable}
 use Rattle.ic_raw.specs.declared.gap.Side.{Side}
 use Rattle.ic_raw.specs.declared.gap.Side.TheVariants.{After, Before}
-use Rattle.ic_raw.specs.Doubly.{lent_table, neighbors, table_of}
+use Rattle.ic_raw.specs.LinkWords.{LinkWords, lent_table, neighbors, table_of}
 use Rattle.ic_raw.specs.Ring.{IsCircle, IsTold, Makes, MakesTwo, beside, own_on, neighbor_on, put_in, all_put_in}
 use Rattle.ic_raw.specs.RingCalls.{IsAmid}
 use Rattle.ic_raw.specs.Tables.{raw_entries}
 use Rattle.ic_raw.specs.Touches.{Touches}
-use Rattle.ic_raw.specs.Words.{no_words, is_linked_two}
 use Rattle.ic_raw.proofs.Gaps.{never}
-use Rattle.ic_raw.proofs.Touches.{touched_back}
-use Rattle.ic_raw.proofs.Views.{frame_back}
+use Rattle.ic_raw.proofs.LinkViews.{touched_back, frame_back}
 
 -- the place that is there
 place_there : (o : Option Place) → IsSome o → (q : Place) × (o ≡ Some q)
@@ -32,227 +29,24 @@ place_there (Some q) h = (q, refl)
 pub some_there : {A : Type 0} {o : Option A} → o ≡ None → IsSome o → ⊥
 some_there {A} none there = let no : IsSome {T = A} None = rw none at there in cc
 
-module _ (t : Table RawTwo) {p : Place} (s : List Place) (c : IsCircle t (p ∷ s)) where
-  -- IN A CIRCLE the words tell of each place what stands beside it
-  pub circle_tells : (side : Side) → (x : Place × Place) × IsTold t x.0 x.1 × (own_on side x ≡ p)
-  circle_tells After =
-      let b = place_there _ (next_some {n = neighbors} s c) in
-      let k = next_stands {n = neighbors} s c b.1 in ((p, b.0), record { linked = c.chain.0.linked; next = b.1; stands = k.0; prev = k.1 }, refl)
-  circle_tells Before =
-      let a = place_there _ (prev_some {n = neighbors} s c) in
-      let k = prev_stands {n = neighbors} s c a.1 in ((a.0, p), record { linked = k.0; next = k.1; stands = c.chain.0.linked; prev = a.1 }, refl)
-
--- and of its last one, that it leads to the first
-pub last_tells : (t : Table RawTwo) {one : Place} (x : Place) (r : List Place) → IsCircle t (x ∷ r) → last (x ∷ r) ≡ Some one → IsTold t one x
-last_tells t x r c is =
-    let stands = last_between (IsBetween neighbors) t.entry (last (x ∷ r)) (x ∷ r) (Some x) c.chain (sym is) in
-    record { linked = stands.linked; next = stands.next; stands = c.chain.0.linked; prev = c.chain.0.prev ∙ is }
-
--- of two parts of a circle, the last place of each leads to the first of the other
-pub part_tells : (t : Table RawTwo) {one : Place} (x : Place) (r : List Place) (y : Place) (s : List Place) → IsCircle t (x ∷ r ++ y ∷ s) → last (x ∷ r) ≡ Some one → IsTold t one y
-part_tells t x r y s c is = last_tells t y (s ++ x ∷ r) (rotated {n = neighbors} (x ∷ r) (y ∷ s) c) (last_or-append None (y ∷ s) (x ∷ r) ∙ is)
-
 -- a place that is not in a sequence is not its last
 pub not_last : (q one : Place) (r : List Place) → last r ≡ Some one → IsAbsent q r → q ≢ one
 not_last q one r is out e = last_not None r q (none_not q) out (is ∙ ap Some (sym e))
-
--- no other place is beside it
-pub not_beside : (side : Side) (t : Table RawTwo) {p : Place} (s : List Place) → IsCircle t (p ∷ s) → (x : Place × Place) → IsTold t x.0 x.1 → own_on side x ≡ p
-    → (q : Place) → IsAbsent q (p ∷ s) → (q ≢ x.0) × (q ≢ x.1)
-not_beside After t s c x told own q out = (
-  (λ e. out.0 (e ∙ own)),
-  next_not {n = neighbors} s c (ap (λ z. (neighbors (t.entry z)).next) (sym own) ∙ told.next) out,
-)
-not_beside Before t s c x told own q out = (
-  prev_not {n = neighbors} s c (ap (λ z. (neighbors (t.entry z)).prev) (sym own) ∙ told.prev) out,
-  (λ e. out.0 (e ∙ own)),
-)
-
--- PUT IN on this side: `puts` is what the insert in front of the second of the two says
-pub put_beside : (side : Side) (t u : Table RawTwo) {p at : Place} (s : List Place) (x : Place × Place) → own_on side x ≡ at → (neighbors (t.entry x.0)).next ≡ Some x.1
-    → IsCircle t (at ∷ s) → IsAbsent p (at ∷ s) → ((r : List Place) → IsCircle t (x.1 ∷ r) → IsAbsent p (x.1 ∷ r) → IsCircle u (p ∷ x.1 ∷ r)) → IsCircle u (put_in side at p s)
-put_beside After t u {p} s x own next c out puts = circle_after_free {n = neighbors} s c (ap (λ z. (neighbors (t.entry z)).next) (sym own) ∙ next) out puts
-put_beside Before t u {p} s x own next c out puts = rw own at (puts s (rw own c) (rw own out))
-
--- WHAT THE WORDS TELL stays where both entries stay
-pub told_same : {t u : Table RawTwo} {x y : Place} → u.entry x ≡ t.entry x → u.entry y ≡ t.entry y → IsTold t x y → IsTold u x y
-told_same one other k = record {
-  linked = ap is_linked_two one ∙ k.linked;
-  next = ap (λ e. (neighbors e).next) one ∙ k.next;
-  stands = ap is_linked_two other ∙ k.stands;
-  prev = ap (λ e. (neighbors e).prev) other ∙ k.prev;
-}
-
--- and where an entry changes that was not linked
-pub told_beside : {t u : Table RawTwo} {x y p : Place} → is_linked_two (t.entry p) ≡ false → ChangesOnly t u p → IsTold t x y → IsTold u x y
-told_beside {t} {u} {x} {y} {p} free only k =
-    let apart : (q : Place) → is_linked_two (t.entry q) ≡ true → q ≢ p = λ q on e. never free (rw e at on) in
-    told_same (only.others x (apart x k.linked)) (only.others y (apart y k.stands)) k
-
--- each place has one next place, and one before it
-pub one_next : {t : Table RawTwo} {x y z : Place} → IsTold t x y → IsTold t x z → y ≡ z
-one_next a b = some_same (sym a.next ∙ b.next)
-
-pub one_before : {t : Table RawTwo} {x y z : Place} → IsTold t x z → IsTold t y z → x ≡ y
-one_before a b = some_same (sym a.prev ∙ b.prev)
-
--- A SETTER KEEPS the neighbor on the other side, at each place
-module _ {old new : Table RawTwo} {p : Place} {to : Option Place} (only : ChangesOnly old new p) where
-  pub keeps_next : neighbors (new.entry p) ≡ record (neighbors (old.entry p)) { prev = to } → (q : Place) → (neighbors (new.entry q)).next ≡ (neighbors (old.entry q)).next
-  keeps_next set q = elim (same_or_not q p) [
-    | inl e ↦ rw e (ap (λ x. x.next) set)
-    | inr other ↦ ap (λ e. (neighbors e).next) (only.others q other)
-  ]
-
-  pub keeps_prev : neighbors (new.entry p) ≡ record (neighbors (old.entry p)) { next = to } → (q : Place) → (neighbors (new.entry q)).prev ≡ (neighbors (old.entry q)).prev
-  keeps_prev set q = elim (same_or_not q p) [
-    | inl e ↦ rw e (ap (λ x. x.prev) set)
-    | inr other ↦ ap (λ e. (neighbors e).prev) (only.others q other)
-  ]
-
--- the same places in another order: what is changed of the ones is changed of the others
-pub makes_turned : {old new : Table RawTwo} {touched named made read : List Place} → ((q : Place) → IsAbsent q named → IsAbsent q touched)
-    → (IsCircle new made → IsCircle new read) → Makes old new touched made → Makes old new named read
-makes_turned among turned m = record { circle = turned m.circle; frame = record { extent = m.frame.extent; others = λ q out. m.frame.others q (among q out) } }
-
--- a mark stays where a setter leaves it, and so does that of each other place
-pub mark_kept : {old new : Table RawTwo} {p : Place} → ChangesOnly old new p → is_linked_two (new.entry p) ≡ is_linked_two (old.entry p) → (q : Place)
-    → is_linked_two (old.entry q) ≡ true → is_linked_two (new.entry q) ≡ true
-mark_kept {p = p} only same q on = elim (same_or_not q p) [
-  | inl e ↦ rw e (same ∙ rw e at on)
-  | inr other ↦ ap is_linked_two (only.others q other) ∙ on
-]
-
--- WHAT HOLDS OF A VIEW holds of the words
-pub circle_viewed : (t : RawTable RawTwo) {es : List RawTwo} {r : List Place} → raw_entries t ≡ es → IsCircle (table_of es) r → IsCircle (lent_table t) r
-circle_viewed t {r = r} e c = let same : IsCircle (table_of (raw_entries t)) r = rw e c in same
-
-pub told_back : (t : RawTable RawTwo) {es : List RawTwo} {x y : Place} → raw_entries t ≡ es → IsTold (lent_table t) x y → IsTold (table_of es) x y
-told_back t {x = x} {y = y} e k =
-    let back : IsTold (table_of (raw_entries t)) x y = record { linked = k.linked; next = k.next; stands = k.stands; prev = k.prev } in rw (← e) back
-
--- what stands beside a place by the words stands there in the view
-pub beside_back : (side : Side) (t : RawTable RawTwo) {es : List RawTwo} (p : Place) → raw_entries t ≡ es → beside side (table_of es) p ≡ beside side (lent_table t) p
-beside_back After t p e = ap (λ es. beside After (table_of es) p) (sym e)
-beside_back Before t p e = ap (λ es. beside Before (table_of es) p) (sym e)
-
-module _ (a b : RawTable RawTwo) {es fs : List RawTwo} (e : raw_entries a ≡ es) (f : fs ≡ raw_entries b) where
-  pub makes_back : {touched made : List Place} → Makes (lent_table a) (lent_table b) touched made → Makes (table_of es) (table_of fs) touched made
-  makes_back {touched} {made} m =
-      let back : Makes (table_of (raw_entries a)) (table_of (raw_entries b)) touched made = record { circle = m.circle; frame = frame_back no_words a b m.frame } in
-      rw (← e, f) back
-
-  pub makes_two_back : {touched made other : List Place} → MakesTwo (lent_table a) (lent_table b) touched made other → MakesTwo (table_of es) (table_of fs) touched made other
-  makes_two_back {touched} {made} {other} m =
-      let back : MakesTwo (table_of (raw_entries a)) (table_of (raw_entries b)) touched made other =
-      record { circle = m.circle; beside = m.beside; frame = frame_back no_words a b m.frame } in
-      rw (← e, f) back
-
-  pub changes_back : {p : Place} → ChangesOnly (lent_table a) (lent_table b) p → ChangesOnly (table_of es) (table_of fs) p
-  changes_back {p} only =
-      let back : ChangesOnly (table_of (raw_entries a)) (table_of (raw_entries b)) p =
-      record { extent = ap (λ e. record { places = e.places; identity = [] }) only.extent; others = only.others } in
-      rw (← e, f) back
-
-  pub touched_words : {steps : List LinkStep} {places places' : List (Option Place)} → places' ≡ places → Touches is_linked_two (lent_table a) (lent_table b) steps places
-      → Touches is_linked_two (table_of es) (table_of fs) steps places'
-  touched_words same touched = touched_back no_words a b e f same touched
-
-  pub closed_back : {r : List Place} → IsCircle (lent_table b) r → IsCircle (table_of fs) r
-  closed_back {r} c = let back : IsCircle (table_of (raw_entries b)) r = c in rw f back
-
--- THE FIRST TWO of a circle tell of each other
-pub first_tells : {t : Table RawTwo} {x y : Place} (r : List Place) → IsCircle t (x ∷ y ∷ r) → IsTold t x y
-first_tells r c = record { linked = c.chain.0.linked; next = c.chain.0.next; stands = c.chain.1.0.linked; prev = c.chain.1.0.prev }
-
--- A PLACE PUT IN beside another: what the words tell of the two, the circle read from either, and that they are two
-pub put_tells : (side : Side) (t : Table RawTwo) (at p : Place) (r : List Place) → IsCircle t (put_in side at p r)
-    → (x : Place × Place) × IsTold t x.0 x.1 × (own_on side x ≡ at) × (neighbor_on side x ≡ p)
-put_tells After t at p r c = ((at, p), first_tells r c, refl, refl)
-put_tells Before t at p r c = ((p, at), first_tells r c, refl, refl)
 
 -- the others of its circle, read from it
 abbrev pub others_of : Side → (at : Place) → List Place → List Place
 others_of After at r = r ++ at ∷ []
 others_of Before at r = at ∷ r
 
-pub from_put : (side : Side) (t : Table RawTwo) (at p : Place) (r : List Place) → IsCircle t (put_in side at p r) → IsCircle t (p ∷ others_of side at r)
-from_put After t at p r c = rotated {n = neighbors} (at ∷ []) (p ∷ r) c
-from_put Before t at p r c = c
-
-pub put_apart : (side : Side) (t : Table RawTwo) (at p : Place) (r : List Place) → IsCircle t (put_in side at p r) → p ≢ at
-put_apart After t at p r c = λ e. c.distinct.0.0 (sym e)
-put_apart Before t at p r c = c.distinct.0.0
-
-pub without_put : (side : Side) {old new : Table RawTwo} (at p : Place) (r : List Place) → Makes old new (p ∷ others_of side at r) (others_of side at r)
-    → Makes old new (put_in side at p r) (at ∷ r)
-without_put After at p r m = makes_turned (λ q out. absent_turned q (p ∷ r) (at ∷ []) out) (λ c. rotated {n = neighbors} r (at ∷ []) c) m
-without_put Before at p r m = m
-
--- a place that stands alone is its own neighbor on either side
-pub alone_tells : (side : Side) {t : Table RawTwo} {p : Place} → IsCircle t (p ∷ [])
-    → (x : Place × Place) × IsTold t x.0 x.1 × (own_on side x ≡ p) × (neighbor_on side x ≡ p)
-alone_tells After {t} {p} c = ((p, p), last_tells t p [] c refl, refl, refl)
-alone_tells Before {t} {p} c = ((p, p), last_tells t p [] c refl, refl, refl)
-
 -- of two neighbors, neither is a place that is not in their circle
 pub neighbor_not : (side : Side) {q : Place} (x : Place × Place) → (q ≢ x.0) × (q ≢ x.1) → neighbor_on side x ≢ q
 neighbor_not After x apart e = apart.1 (sym e)
 neighbor_not Before x apart e = apart.0 (sym e)
 
--- WHAT STANDS BEHIND p, which stands where `at` did: the next place of `at`, or p where `at` stood alone
-pub next_first : {t : Table RawTwo} {at n p next : Place} (r : List Place) → IsCircle t (at ∷ r) → IsTold t at n → (n ≡ at → next ≡ p) → (n ≢ at → next ≡ n)
-    → Some next ≡ first (r ++ p ∷ [])
-next_first [] c told alone other = ap Some (alone (some_same (sym told.next ∙ c.chain.0.next)))
-next_first {t} {at} {n} (x ∷ r) c told alone other =
-    let is : n ≡ x = some_same (sym told.next ∙ c.chain.0.next) in ap Some (other (λ e. c.distinct.0.0 (sym e ∙ is)) ∙ is)
-
--- A PLACE THAT STANDS BESIDE ANOTHER ALREADY is where it would be put
-pub put_already : (side : Side) (t : Table RawTwo) (at p : Place) (r s : List Place) → IsCircle t (p ∷ r ++ at ∷ s) → (x : Place × Place) → IsTold t x.0 x.1
-    → own_on side x ≡ at → neighbor_on side x ≡ p → IsCircle t (put_in side at p (s ++ r))
-put_already After t at p r [] c x told own beside = rotated {n = neighbors} (p ∷ r) (at ∷ []) c
-put_already After t at p r (y ∷ s) c x told own beside =
-    let turned = rotated {n = neighbors} (p ∷ r) (at ∷ y ∷ s) c in
-    let next : y ≡ x.1 = some_same (sym turned.chain.0.next ∙ ap (λ z. (neighbors (t.entry z)).next) (sym own) ∙ told.next) in
-    absurd ((absent_right p r (at ∷ y ∷ s) c.distinct.0).1.0 (sym (next ∙ beside)))
-put_already Before t at p [] s c x told own beside = rw append-nil c
-put_already Before t at p (y ∷ r) s c x told own beside =
-    let turned = rotated {n = neighbors} (p ∷ y ∷ r) (at ∷ s) c in
-    let out = absent_left p (y ∷ r) (at ∷ s) c.distinct.0 in
-    let prev = ap (λ z. (neighbors (t.entry z)).prev) (sym own) ∙ told.prev ∙ ap Some beside in
-    absurd (last_not (Some y) r p (λ e. out.0 (sym (some_same e))) out.1 (sym (last_or-append None (at ∷ s) (p ∷ y ∷ r)) ∙ sym turned.chain.0.prev ∙ prev))
-
--- TWO NEIGHBORS stay so where another place leaves its ring: they are none of the two that are turned to each other for it
-pub stays_told : (side : Side) {t : Table RawTwo} {p at : Place} (from to : Place × Place) → IsTold t from.0 p → IsTold t p from.1 → IsTold t to.0 to.1
-    → own_on side to ≡ at → at ≢ p → (neighbor_on side to ≢ p) → (to.0 ≢ from.0) × (to.1 ≢ from.1)
-stays_told After from to before behind told own other beside = (
-  (λ e. beside (one_next told (rw e before))),
-  (λ e. other (sym own ∙ one_before told (rw e behind))),
-)
-stays_told Before from to before behind told own other beside = (
-  (λ e. other (sym own ∙ one_next told (rw e before))),
-  (λ e. beside (one_before told (rw e behind))),
-)
-
--- A HEAD WHOSE LAST MEMBER IS THE HEAD has none
-pub stands_alone : {t : Table RawTwo} {b p : Place} (s : List Place) → IsCircle t (p ∷ s) → IsTold t b p → b ≡ p → s ≡ []
-stands_alone [] c told same = refl
-stands_alone {p = p} (x ∷ s) c told same =
-    absurd (last_not (Some x) s p (λ e. c.distinct.0.0 (sym (some_same e))) c.distinct.0.1 (sym c.chain.0.prev ∙ told.prev ∙ ap Some same))
-
 -- the circle whose last place stands in front of the gap, and what it is once others are put in there
 abbrev pub before_gap : Side → (at : Place) → List Place → List Place
 before_gap After at r = r ++ at ∷ []
 before_gap Before at r = at ∷ r
-
-pub from_gap : (side : Side) (t : Table RawTwo) (at : Place) (r : List Place) → IsCircle t (at ∷ r) → IsCircle t (before_gap side at r)
-from_gap After t at r c = rotated {n = neighbors} (at ∷ []) r c
-from_gap Before t at r c = c
-
-pub last_before : (side : Side) (t : Table RawTwo) (at : Place) (r : List Place) → IsCircle t (at ∷ r) → (x : Place × Place) → IsTold t x.0 x.1 → own_on side x ≡ at
-    → last (before_gap side at r) ≡ Some x.0
-last_before After t at r c x told own = last_or-append None r (at ∷ []) ∙ ap Some (sym own)
-last_before Before t at r c x told own = sym c.chain.0.prev ∙ ap (λ z. (neighbors (t.entry z)).prev) (sym own) ∙ told.prev
 
 pub disjoint_gap : (side : Side) (at : Place) (r s : List Place) → IsDisjoint (at ∷ r) s → IsDisjoint (before_gap side at r) s
 disjoint_gap After at r s d = disjoint_both r (at ∷ []) s d.1 (d.0, tt)
@@ -262,37 +56,9 @@ pub absent_gap : (side : Side) (at : Place) (r : List Place) (q : Place) → IsA
 absent_gap After at r q out = absent_both q r (at ∷ []) out.1 (out.0, tt)
 absent_gap Before at r q out = out
 
-pub all_put : (side : Side) (t : Table RawTwo) (at : Place) (r s : List Place) → IsCircle t (before_gap side at r ++ s) → IsCircle t (all_put_in side at r s)
-all_put After t at r s c = rotated {n = neighbors} r (at ∷ s) (rw (append_assoc r (at ∷ []) s) at c)
-all_put Before t at r s c = c
-
-pub none_put : (side : Side) (t : Table RawTwo) (at : Place) (r : List Place) → IsCircle t (at ∷ r) → IsCircle t (all_put_in side at r [])
-none_put After t at r c = c
-none_put Before t at r c = rw append-nil c
-
 pub absent_all : (side : Side) (at : Place) (r s : List Place) (q : Place) → IsAbsent q (at ∷ r) → IsAbsent q s → IsAbsent q (all_put_in side at r s)
 absent_all After at r s q out off = (out.0, absent_both q s r off out.1)
 absent_all Before at r s q out off = (out.0, absent_both q r s out.1 off)
-
--- of two neighbors, each is linked
-pub own_linked : (side : Side) {t : Table RawTwo} {at : Place} (x : Place × Place) → IsTold t x.0 x.1 → own_on side x ≡ at → is_linked_two (t.entry at) ≡ true
-own_linked After x told own = rw (sym own) told.linked
-own_linked Before x told own = rw (sym own) told.stands
-
--- WHAT STANDS BESIDE A PLACE, by its word: of two neighbors that are told, the other one
-pub beside_told : (side : Side) {t : Table RawTwo} {at : Place} (x : Place × Place) → IsTold t x.0 x.1 → own_on side x ≡ at → beside side t at ≡ Some (neighbor_on side x)
-beside_told After {t} x told own = ap (λ z. (neighbors (t.entry z)).next) (sym own) ∙ told.next
-beside_told Before {t} x told own = ap (λ z. (neighbors (t.entry z)).prev) (sym own) ∙ told.prev
-
--- so a place that is none of these is none of the two
-pub apart_beside : (side : Side) {t : Table RawTwo} {at q : Place} (x : Place × Place) → IsTold t x.0 x.1 → own_on side x ≡ at → (Some at ≢ Some q)
-    → (beside side t at ≢ Some q) → (q ≢ x.0) × (q ≢ x.1)
-apart_beside After x told own off away = ((λ e. off (ap Some (sym own ∙ sym e))), (λ e. away (beside_told After x told own ∙ ap Some (sym e))))
-apart_beside Before x told own off away = ((λ e. away (beside_told Before x told own ∙ ap Some (sym e))), (λ e. off (ap Some (sym own ∙ sym e))))
-
--- and one that is neither of both neighbors of a place
-pub apart_around : {t : Table RawTwo} {p q x y : Place} → IsTold t x p → IsTold t p y → (beside Before t p ≢ Some q) → (beside After t p ≢ Some q) → (q ≢ x) × (q ≢ y)
-apart_around comes goes before behind = ((λ e. before (comes.prev ∙ ap Some (sym e))), (λ e. behind (goes.next ∙ ap Some (sym e))))
 
 -- what stands behind a place that is put in where `at` did is its new neighbor or the place itself
 pub apart_without : {next at own other q : Place} → (next ≡ at → other ≡ own) → (next ≢ at → other ≡ next) → q ≢ own → q ≢ next → q ≢ other
@@ -301,26 +67,258 @@ apart_without {next} {at} alone stays off away e = elim (same_or_not next at) [
   | inr apart ↦ away (e ∙ stays apart)
 ]
 
--- A GAP THAT IS NOT BESIDE A HEAD, as its two tests tell, is not beside the head's own place
-pub splices_elsewhere : (side : Side) {t : Table RawTwo} {at given b : Place} (to : Place × Place) → IsTold t to.0 to.1 → own_on side to ≡ at → IsTold t b given
-    → to.0 ≢ given → to.0 ≢ b → at ≢ given
-splices_elsewhere After to told own before other apart e = other (own ∙ e)
-splices_elsewhere Before to told own before other apart e = apart (one_before told (rw (own ∙ e) before))
+module _ {W : Type 0} (words : LinkWords W) where
+  module _ (t : Table W) {p : Place} (s : List Place) (c : IsCircle words t (p ∷ s)) where
+    -- IN A CIRCLE the words tell of each place what stands beside it
+    pub circle_tells : (side : Side) → (x : Place × Place) × IsTold words t x.0 x.1 × (own_on side x ≡ p)
+    circle_tells After =
+        let b = place_there _ (next_some {n = neighbors words} s c) in
+        let k = next_stands {n = neighbors words} s c b.1 in ((p, b.0), record { linked = c.chain.0.linked; next = b.1; stands = k.0; prev = k.1 }, refl)
+    circle_tells Before =
+        let a = place_there _ (prev_some {n = neighbors words} s c) in
+        let k = prev_stands {n = neighbors words} s c a.1 in ((a.0, p), record { linked = k.0; next = k.1; stands = c.chain.0.linked; prev = a.1 }, refl)
 
--- what is told of two places that are one
-pub told_named : {t : Table RawTwo} {a b p : Place} → IsTold t a b → p ≡ a → p ≡ b → IsTold t p p
-told_named {t} {a} {p = p} k from to = subst (λ z. IsTold t z p) (sym from) (subst (λ z. IsTold t a z) (sym to) k)
+  -- and of its last one, that it leads to the first
+  pub last_tells : (t : Table W) {one : Place} (x : Place) (r : List Place) → IsCircle words t (x ∷ r) → last (x ∷ r) ≡ Some one → IsTold words t one x
+  last_tells t x r c is =
+      let stands = last_between (IsBetween (neighbors words)) t.entry (last (x ∷ r)) (x ∷ r) (Some x) c.chain (sym is) in
+      record { linked = stands.linked; next = stands.next; stands = c.chain.0.linked; prev = c.chain.0.prev ∙ is }
 
--- THE WORDS are those before the call, where the view is
-pub same_back : (a b : RawTable RawTwo) {es fs : List RawTwo} → raw_entries a ≡ es → fs ≡ raw_entries b → b ≡ a → fs ≡ es
-same_back a b e f same = f ∙ ap raw_entries same ∙ e
+  -- of two parts of a circle, the last place of each leads to the first of the other
+  pub part_tells : (t : Table W) {one : Place} (x : Place) (r : List Place) (y : Place) (s : List Place) → IsCircle words t (x ∷ r ++ y ∷ s) → last (x ∷ r) ≡ Some one → IsTold words t one y
+  part_tells t x r y s c is = last_tells t y (s ++ x ∷ r) (rotated {n = neighbors words} (x ∷ r) (y ∷ s) c) (last_or-append None (y ∷ s) (x ∷ r) ∙ is)
 
--- a place that is linked in the view is so in the words
-pub linked_back : (t : RawTable RawTwo) {es : List RawTwo} (p : Place) → raw_entries t ≡ es → is_linked_two ((lent_table t).entry p) ≡ true
-    → is_linked_two ((table_of es).entry p) ≡ true
-linked_back t p e on = let back : is_linked_two ((table_of (raw_entries t)).entry p) ≡ true = on in rw (← e) back
+  -- no other place is beside it
+  pub not_beside : (side : Side) (t : Table W) {p : Place} (s : List Place) → IsCircle words t (p ∷ s) → (x : Place × Place) → IsTold words t x.0 x.1 → own_on side x ≡ p
+      → (q : Place) → IsAbsent q (p ∷ s) → (q ≢ x.0) × (q ≢ x.1)
+  not_beside After t s c x told own q out = (
+    (λ e. out.0 (e ∙ own)),
+    next_not {n = neighbors words} s c (ap (λ z. (neighbors words (t.entry z)).next) (sym own) ∙ told.next) out,
+  )
+  not_beside Before t s c x told own q out = (
+    prev_not {n = neighbors words} s c (ap (λ z. (neighbors words (t.entry z)).prev) (sym own) ∙ told.prev) out,
+    (λ e. out.0 (e ∙ own)),
+  )
 
--- and one whose neighbors are told
-pub amid_back : (t : RawTable RawTwo) {es : List RawTwo} {p : Place} → raw_entries t ≡ es → (q : Place) × IsTold (lent_table t) q p → (q : Place) × IsTold (lent_table t) p q
-    → IsAmid es p
-amid_back t e from to = record { before = from.0; behind = to.0; comes = told_back t e from.1; goes = told_back t e to.1 }
+  -- PUT IN on this side: `puts` is what the insert in front of the second of the two says
+  pub put_beside : (side : Side) (t u : Table W) {p at : Place} (s : List Place) (x : Place × Place) → own_on side x ≡ at → (neighbors words (t.entry x.0)).next ≡ Some x.1
+      → IsCircle words t (at ∷ s) → IsAbsent p (at ∷ s) → ((r : List Place) → IsCircle words t (x.1 ∷ r) → IsAbsent p (x.1 ∷ r) → IsCircle words u (p ∷ x.1 ∷ r)) → IsCircle words u (put_in side at p s)
+  put_beside After t u {p} s x own next c out puts = circle_after_free {n = neighbors words} s c (ap (λ z. (neighbors words (t.entry z)).next) (sym own) ∙ next) out puts
+  put_beside Before t u {p} s x own next c out puts = rw own at (puts s (rw own c) (rw own out))
+
+  -- WHAT THE WORDS TELL stays where both entries stay
+  pub told_same : {t u : Table W} {x y : Place} → u.entry x ≡ t.entry x → u.entry y ≡ t.entry y → IsTold words t x y → IsTold words u x y
+  told_same one other k = record {
+    linked = ap words.is_linked one ∙ k.linked;
+    next = ap (λ e. (neighbors words e).next) one ∙ k.next;
+    stands = ap words.is_linked other ∙ k.stands;
+    prev = ap (λ e. (neighbors words e).prev) other ∙ k.prev;
+  }
+
+  -- and where an entry changes that was not linked
+  pub told_beside : {t u : Table W} {x y p : Place} → words.is_linked (t.entry p) ≡ false → ChangesOnly t u p → IsTold words t x y → IsTold words u x y
+  told_beside {t} {u} {x} {y} {p} free only k =
+      let apart : (q : Place) → words.is_linked (t.entry q) ≡ true → q ≢ p = λ q on e. never free (rw e at on) in
+      told_same (only.others x (apart x k.linked)) (only.others y (apart y k.stands)) k
+
+  -- each place has one next place, and one before it
+  pub one_next : {t : Table W} {x y z : Place} → IsTold words t x y → IsTold words t x z → y ≡ z
+  one_next a b = some_same (sym a.next ∙ b.next)
+
+  pub one_before : {t : Table W} {x y z : Place} → IsTold words t x z → IsTold words t y z → x ≡ y
+  one_before a b = some_same (sym a.prev ∙ b.prev)
+
+  -- A SETTER KEEPS the neighbor on the other side, at each place
+  module _ {old new : Table W} {p : Place} {to : Option Place} (only : ChangesOnly old new p) where
+    pub keeps_next : neighbors words (new.entry p) ≡ record (neighbors words (old.entry p)) { prev = to } → (q : Place) → (neighbors words (new.entry q)).next ≡ (neighbors words (old.entry q)).next
+    keeps_next set q = elim (same_or_not q p) [
+      | inl e ↦ rw e (ap (λ x. x.next) set)
+      | inr other ↦ ap (λ e. (neighbors words e).next) (only.others q other)
+    ]
+
+    pub keeps_prev : neighbors words (new.entry p) ≡ record (neighbors words (old.entry p)) { next = to } → (q : Place) → (neighbors words (new.entry q)).prev ≡ (neighbors words (old.entry q)).prev
+    keeps_prev set q = elim (same_or_not q p) [
+      | inl e ↦ rw e (ap (λ x. x.prev) set)
+      | inr other ↦ ap (λ e. (neighbors words e).prev) (only.others q other)
+    ]
+
+  -- the same places in another order: what is changed of the ones is changed of the others
+  pub makes_turned : {old new : Table W} {touched named made read : List Place} → ((q : Place) → IsAbsent q named → IsAbsent q touched)
+      → (IsCircle words new made → IsCircle words new read) → Makes words old new touched made → Makes words old new named read
+  makes_turned among turned m = record { circle = turned m.circle; frame = record { extent = m.frame.extent; others = λ q out. m.frame.others q (among q out) } }
+
+  -- a mark stays where a setter leaves it, and so does that of each other place
+  pub mark_kept : {old new : Table W} {p : Place} → ChangesOnly old new p → words.is_linked (new.entry p) ≡ words.is_linked (old.entry p) → (q : Place)
+      → words.is_linked (old.entry q) ≡ true → words.is_linked (new.entry q) ≡ true
+  mark_kept {p = p} only same q on = elim (same_or_not q p) [
+    | inl e ↦ rw e (same ∙ rw e at on)
+    | inr other ↦ ap words.is_linked (only.others q other) ∙ on
+  ]
+
+  -- WHAT HOLDS OF A VIEW holds of the words
+  pub circle_viewed : (t : RawTable W) {es : List W} {r : List Place} → raw_entries t ≡ es → IsCircle words (table_of words es) r → IsCircle words (lent_table words t) r
+  circle_viewed t {r = r} e c = let same : IsCircle words (table_of words (raw_entries t)) r = rw e c in same
+
+  pub told_back : (t : RawTable W) {es : List W} {x y : Place} → raw_entries t ≡ es → IsTold words (lent_table words t) x y → IsTold words (table_of words es) x y
+  told_back t {x = x} {y = y} e k =
+      let back : IsTold words (table_of words (raw_entries t)) x y = record { linked = k.linked; next = k.next; stands = k.stands; prev = k.prev } in rw (← e) back
+
+  -- what stands beside a place by the words stands there in the view
+  pub beside_back : (side : Side) (t : RawTable W) {es : List W} (p : Place) → raw_entries t ≡ es → beside words side (table_of words es) p ≡ beside words side (lent_table words t) p
+  beside_back After t p e = ap (λ es. beside words After (table_of words es) p) (sym e)
+  beside_back Before t p e = ap (λ es. beside words Before (table_of words es) p) (sym e)
+
+  module _ (a b : RawTable W) {es fs : List W} (e : raw_entries a ≡ es) (f : fs ≡ raw_entries b) where
+    pub makes_back : {touched made : List Place} → Makes words (lent_table words a) (lent_table words b) touched made → Makes words (table_of words es) (table_of words fs) touched made
+    makes_back {touched} {made} m =
+        let back : Makes words (table_of words (raw_entries a)) (table_of words (raw_entries b)) touched made = record { circle = m.circle; frame = frame_back words a b m.frame } in
+        rw (← e, f) back
+
+    pub makes_two_back : {touched made other : List Place} → MakesTwo words (lent_table words a) (lent_table words b) touched made other → MakesTwo words (table_of words es) (table_of words fs) touched made other
+    makes_two_back {touched} {made} {other} m =
+        let back : MakesTwo words (table_of words (raw_entries a)) (table_of words (raw_entries b)) touched made other =
+        record { circle = m.circle; beside = m.beside; frame = frame_back words a b m.frame } in
+        rw (← e, f) back
+
+    pub changes_back : {p : Place} → ChangesOnly (lent_table words a) (lent_table words b) p → ChangesOnly (table_of words es) (table_of words fs) p
+    changes_back {p} only =
+        let back : ChangesOnly (table_of words (raw_entries a)) (table_of words (raw_entries b)) p =
+        record { extent = ap (λ e. record { places = e.places; identity = [] }) only.extent; others = only.others } in
+        rw (← e, f) back
+
+    pub touched_words : {steps : List LinkStep} {places places' : List (Option Place)} → places' ≡ places → Touches words.is_linked (lent_table words a) (lent_table words b) steps places
+        → Touches words.is_linked (table_of words es) (table_of words fs) steps places'
+    touched_words same touched = touched_back words a b e f same touched
+
+    pub closed_back : {r : List Place} → IsCircle words (lent_table words b) r → IsCircle words (table_of words fs) r
+    closed_back {r} c = let back : IsCircle words (table_of words (raw_entries b)) r = c in rw f back
+
+  -- THE FIRST TWO of a circle tell of each other
+  pub first_tells : {t : Table W} {x y : Place} (r : List Place) → IsCircle words t (x ∷ y ∷ r) → IsTold words t x y
+  first_tells r c = record { linked = c.chain.0.linked; next = c.chain.0.next; stands = c.chain.1.0.linked; prev = c.chain.1.0.prev }
+
+  -- A PLACE PUT IN beside another: what the words tell of the two, the circle read from either, and that they are two
+  pub put_tells : (side : Side) (t : Table W) (at p : Place) (r : List Place) → IsCircle words t (put_in side at p r)
+      → (x : Place × Place) × IsTold words t x.0 x.1 × (own_on side x ≡ at) × (neighbor_on side x ≡ p)
+  put_tells After t at p r c = ((at, p), first_tells r c, refl, refl)
+  put_tells Before t at p r c = ((p, at), first_tells r c, refl, refl)
+
+  pub from_put : (side : Side) (t : Table W) (at p : Place) (r : List Place) → IsCircle words t (put_in side at p r) → IsCircle words t (p ∷ others_of side at r)
+  from_put After t at p r c = rotated {n = neighbors words} (at ∷ []) (p ∷ r) c
+  from_put Before t at p r c = c
+
+  pub put_apart : (side : Side) (t : Table W) (at p : Place) (r : List Place) → IsCircle words t (put_in side at p r) → p ≢ at
+  put_apart After t at p r c = λ e. c.distinct.0.0 (sym e)
+  put_apart Before t at p r c = c.distinct.0.0
+
+  pub without_put : (side : Side) {old new : Table W} (at p : Place) (r : List Place) → Makes words old new (p ∷ others_of side at r) (others_of side at r)
+      → Makes words old new (put_in side at p r) (at ∷ r)
+  without_put After at p r m = makes_turned (λ q out. absent_turned q (p ∷ r) (at ∷ []) out) (λ c. rotated {n = neighbors words} r (at ∷ []) c) m
+  without_put Before at p r m = m
+
+  -- a place that stands alone is its own neighbor on either side
+  pub alone_tells : (side : Side) {t : Table W} {p : Place} → IsCircle words t (p ∷ [])
+      → (x : Place × Place) × IsTold words t x.0 x.1 × (own_on side x ≡ p) × (neighbor_on side x ≡ p)
+  alone_tells After {t} {p} c = ((p, p), last_tells t p [] c refl, refl, refl)
+  alone_tells Before {t} {p} c = ((p, p), last_tells t p [] c refl, refl, refl)
+
+  -- WHAT STANDS BEHIND p, which stands where `at` did: the next place of `at`, or p where `at` stood alone
+  pub next_first : {t : Table W} {at n p next : Place} (r : List Place) → IsCircle words t (at ∷ r) → IsTold words t at n → (n ≡ at → next ≡ p) → (n ≢ at → next ≡ n)
+      → Some next ≡ first (r ++ p ∷ [])
+  next_first [] c told alone other = ap Some (alone (some_same (sym told.next ∙ c.chain.0.next)))
+  next_first {t} {at} {n} (x ∷ r) c told alone other =
+      let is : n ≡ x = some_same (sym told.next ∙ c.chain.0.next) in ap Some (other (λ e. c.distinct.0.0 (sym e ∙ is)) ∙ is)
+
+  -- A PLACE THAT STANDS BESIDE ANOTHER ALREADY is where it would be put
+  pub put_already : (side : Side) (t : Table W) (at p : Place) (r s : List Place) → IsCircle words t (p ∷ r ++ at ∷ s) → (x : Place × Place) → IsTold words t x.0 x.1
+      → own_on side x ≡ at → neighbor_on side x ≡ p → IsCircle words t (put_in side at p (s ++ r))
+  put_already After t at p r [] c x told own beside = rotated {n = neighbors words} (p ∷ r) (at ∷ []) c
+  put_already After t at p r (y ∷ s) c x told own beside =
+      let turned = rotated {n = neighbors words} (p ∷ r) (at ∷ y ∷ s) c in
+      let next : y ≡ x.1 = some_same (sym turned.chain.0.next ∙ ap (λ z. (neighbors words (t.entry z)).next) (sym own) ∙ told.next) in
+      absurd ((absent_right p r (at ∷ y ∷ s) c.distinct.0).1.0 (sym (next ∙ beside)))
+  put_already Before t at p [] s c x told own beside = rw append-nil c
+  put_already Before t at p (y ∷ r) s c x told own beside =
+      let turned = rotated {n = neighbors words} (p ∷ y ∷ r) (at ∷ s) c in
+      let out = absent_left p (y ∷ r) (at ∷ s) c.distinct.0 in
+      let prev = ap (λ z. (neighbors words (t.entry z)).prev) (sym own) ∙ told.prev ∙ ap Some beside in
+      absurd (last_not (Some y) r p (λ e. out.0 (sym (some_same e))) out.1 (sym (last_or-append None (at ∷ s) (p ∷ y ∷ r)) ∙ sym turned.chain.0.prev ∙ prev))
+
+  -- TWO NEIGHBORS stay so where another place leaves its ring: they are none of the two that are turned to each other for it
+  pub stays_told : (side : Side) {t : Table W} {p at : Place} (from to : Place × Place) → IsTold words t from.0 p → IsTold words t p from.1 → IsTold words t to.0 to.1
+      → own_on side to ≡ at → at ≢ p → (neighbor_on side to ≢ p) → (to.0 ≢ from.0) × (to.1 ≢ from.1)
+  stays_told After from to before behind told own other beside = (
+    (λ e. beside (one_next told (rw e before))),
+    (λ e. other (sym own ∙ one_before told (rw e behind))),
+  )
+  stays_told Before from to before behind told own other beside = (
+    (λ e. other (sym own ∙ one_next told (rw e before))),
+    (λ e. beside (one_before told (rw e behind))),
+  )
+
+  -- A HEAD WHOSE LAST MEMBER IS THE HEAD has none
+  pub stands_alone : {t : Table W} {b p : Place} (s : List Place) → IsCircle words t (p ∷ s) → IsTold words t b p → b ≡ p → s ≡ []
+  stands_alone [] c told same = refl
+  stands_alone {p = p} (x ∷ s) c told same =
+      absurd (last_not (Some x) s p (λ e. c.distinct.0.0 (sym (some_same e))) c.distinct.0.1 (sym c.chain.0.prev ∙ told.prev ∙ ap Some same))
+
+  pub from_gap : (side : Side) (t : Table W) (at : Place) (r : List Place) → IsCircle words t (at ∷ r) → IsCircle words t (before_gap side at r)
+  from_gap After t at r c = rotated {n = neighbors words} (at ∷ []) r c
+  from_gap Before t at r c = c
+
+  pub last_before : (side : Side) (t : Table W) (at : Place) (r : List Place) → IsCircle words t (at ∷ r) → (x : Place × Place) → IsTold words t x.0 x.1 → own_on side x ≡ at
+      → last (before_gap side at r) ≡ Some x.0
+  last_before After t at r c x told own = last_or-append None r (at ∷ []) ∙ ap Some (sym own)
+  last_before Before t at r c x told own = sym c.chain.0.prev ∙ ap (λ z. (neighbors words (t.entry z)).prev) (sym own) ∙ told.prev
+
+  pub all_put : (side : Side) (t : Table W) (at : Place) (r s : List Place) → IsCircle words t (before_gap side at r ++ s) → IsCircle words t (all_put_in side at r s)
+  all_put After t at r s c = rotated {n = neighbors words} r (at ∷ s) (rw (append_assoc r (at ∷ []) s) at c)
+  all_put Before t at r s c = c
+
+  pub none_put : (side : Side) (t : Table W) (at : Place) (r : List Place) → IsCircle words t (at ∷ r) → IsCircle words t (all_put_in side at r [])
+  none_put After t at r c = c
+  none_put Before t at r c = rw append-nil c
+
+  -- of two neighbors, each is linked
+  pub own_linked : (side : Side) {t : Table W} {at : Place} (x : Place × Place) → IsTold words t x.0 x.1 → own_on side x ≡ at → words.is_linked (t.entry at) ≡ true
+  own_linked After x told own = rw (sym own) told.linked
+  own_linked Before x told own = rw (sym own) told.stands
+
+  -- WHAT STANDS BESIDE A PLACE, by its word: of two neighbors that are told, the other one
+  pub beside_told : (side : Side) {t : Table W} {at : Place} (x : Place × Place) → IsTold words t x.0 x.1 → own_on side x ≡ at → beside words side t at ≡ Some (neighbor_on side x)
+  beside_told After {t} x told own = ap (λ z. (neighbors words (t.entry z)).next) (sym own) ∙ told.next
+  beside_told Before {t} x told own = ap (λ z. (neighbors words (t.entry z)).prev) (sym own) ∙ told.prev
+
+  -- so a place that is none of these is none of the two
+  pub apart_beside : (side : Side) {t : Table W} {at q : Place} (x : Place × Place) → IsTold words t x.0 x.1 → own_on side x ≡ at → (Some at ≢ Some q)
+      → (beside words side t at ≢ Some q) → (q ≢ x.0) × (q ≢ x.1)
+  apart_beside After x told own off away = ((λ e. off (ap Some (sym own ∙ sym e))), (λ e. away (beside_told After x told own ∙ ap Some (sym e))))
+  apart_beside Before x told own off away = ((λ e. away (beside_told Before x told own ∙ ap Some (sym e))), (λ e. off (ap Some (sym own ∙ sym e))))
+
+  -- and one that is neither of both neighbors of a place
+  pub apart_around : {t : Table W} {p q x y : Place} → IsTold words t x p → IsTold words t p y → (beside words Before t p ≢ Some q) → (beside words After t p ≢ Some q) → (q ≢ x) × (q ≢ y)
+  apart_around comes goes before behind = ((λ e. before (comes.prev ∙ ap Some (sym e))), (λ e. behind (goes.next ∙ ap Some (sym e))))
+
+  -- A GAP THAT IS NOT BESIDE A HEAD, as its two tests tell, is not beside the head's own place
+  pub splices_elsewhere : (side : Side) {t : Table W} {at given b : Place} (to : Place × Place) → IsTold words t to.0 to.1 → own_on side to ≡ at → IsTold words t b given
+      → to.0 ≢ given → to.0 ≢ b → at ≢ given
+  splices_elsewhere After to told own before other apart e = other (own ∙ e)
+  splices_elsewhere Before to told own before other apart e = apart (one_before told (rw (own ∙ e) before))
+
+  -- what is told of two places that are one
+  pub told_named : {t : Table W} {a b p : Place} → IsTold words t a b → p ≡ a → p ≡ b → IsTold words t p p
+  told_named {t} {a} {p = p} k from to = subst (λ z. IsTold words t z p) (sym from) (subst (λ z. IsTold words t a z) (sym to) k)
+
+  -- THE WORDS are those before the call, where the view is
+  pub same_back : (a b : RawTable W) {es fs : List W} → raw_entries a ≡ es → fs ≡ raw_entries b → b ≡ a → fs ≡ es
+  same_back a b e f same = f ∙ ap raw_entries same ∙ e
+
+  -- a place that is linked in the view is so in the words
+  pub linked_back : (t : RawTable W) {es : List W} (p : Place) → raw_entries t ≡ es → words.is_linked ((lent_table words t).entry p) ≡ true
+      → words.is_linked ((table_of words es).entry p) ≡ true
+  linked_back t p e on = let back : words.is_linked ((table_of words (raw_entries t)).entry p) ≡ true = on in rw (← e) back
+
+  -- and one whose neighbors are told
+  pub amid_back : (t : RawTable W) {es : List W} {p : Place} → raw_entries t ≡ es → (q : Place) × IsTold words (lent_table words t) q p → (q : Place) × IsTold words (lent_table words t) p q
+      → IsAmid words es p
+  amid_back t e from to = record { before = from.0; behind = to.0; comes = told_back t e from.1; goes = told_back t e to.1 }

@@ -11,6 +11,7 @@ use Rattle.ic_link_ops.specs.LinkSteps.{LinkStep, Replays, acquires}
 use Rattle.ic_link_ops.specs.StepLaws.{replays_on}
 use Rattle.ic_link_ops.specs.Tables.{Table, KeepsBeside, LinksAlso}
 use Rattle.ic_link_ops.specs.PlainTables.{table_of}
+use Rattle.ic_link_ops.specs.Widths.{wide}
 use Rattle.ic_link_ops.specs.Chains.{Ends, ListHead, ShowsChain, TurnsEnds, end_of}
 use Rattle.ic_link_ops.specs.Edits.{Inserts, Splices}
 use Rattle.ic_link_ops.proofs.SequenceLemmas.{some_same, none_not, absent_left, absent_right, absent_both, last_not, last_of_push, last_or-append}
@@ -395,7 +396,7 @@ module _ {W : Type 0} (linked : W → Bool) (unlinked : W) where
   same_faults : (t : RawTable W) (first count : ℕ)
       → run_faults (place_fault linked (raw_table unlinked t)) first count ≡ run_faults (place_fault linked (table_of unlinked (raw_entries t))) first count
   same_faults t first zero = refl
-  same_faults t first (suc count) = λ k. place_fault_back linked unlinked t (place_of first) k ∷ same_faults t (first + 1) count k
+  same_faults t first (suc count) = λ k. place_fault_back linked wide unlinked t (place_of first) k ∷ same_faults t (first + 1) count k
 
   pub why_back : {es : List W} (t : RawTable W) (first count : ℕ) {n : ℕ} → raw_entries t ≡ es → n ≡ refusal (run_faults (place_fault linked (raw_table unlinked t)) first count)
       → n ≡ refusal (run_faults (place_fault linked (table_of unlinked es)) first count)

@@ -1,5 +1,6 @@
 pub mod Words
 pub mod Tables
+pub mod LinkWords
 pub mod Gaps
 pub mod Answers
 pub mod Calls

@@ -4,42 +4,41 @@ use Rattle.ic_unsafe_ref.specs.declared.place.Place.{Place}
 use Rattle.ic_link_ops.specs.Tables.{Table, KeepsBeside}
 use Rattle.ic_link_ops.specs.LinkedList.{neighbors_at}
 use Rattle.ic_ring.specs.Rings as rings
-use Rattle.ic_raw.specs.declared.words.RawTwo.{RawTwo}
 use Rattle.ic_raw.specs.declared.gap.Side.{Side}
 use Rattle.ic_raw.specs.declared.gap.Side.TheVariants.{After, Before}
-use Rattle.ic_raw.specs.Words.{is_linked_two}
-use Rattle.ic_raw.specs.Doubly.{neighbors}
+use Rattle.ic_raw.specs.LinkWords.{LinkWords, neighbors}
 
--- r IS A CIRCLE: no place stands twice in it, each stands between its neighbors, and behind the last stands the first
-abbrev pub IsCircle : Table RawTwo → List Place → Type 0
-IsCircle t = rings.IsCircle neighbors t.entry
+module _ {W : Type 0} (words : LinkWords W) where
+  -- r IS A CIRCLE: no place stands twice in it, each stands between its neighbors, and behind the last stands the first
+  abbrev pub IsCircle : Table W → List Place → Type 0
+  IsCircle t = rings.IsCircle (neighbors words) t.entry
 
--- THE WORDS TELL that y stands behind x: both are linked, and each names the other
-pub record IsTold (t : Table RawTwo) (x y : Place) : Type 0 where
-  pub linked : is_linked_two (t.entry x) ≡ true
-  pub next : (neighbors_at neighbors t x).next ≡ Some y
-  pub stands : is_linked_two (t.entry y) ≡ true
-  pub prev : (neighbors_at neighbors t y).prev ≡ Some x
+  -- THE WORDS TELL that y stands behind x: both are linked, and each names the other
+  pub record IsTold (t : Table W) (x y : Place) : Type 0 where
+    pub linked : words.is_linked (t.entry x) ≡ true
+    pub next : (neighbors_at (neighbors words) t x).next ≡ Some y
+    pub stands : words.is_linked (t.entry y) ≡ true
+    pub prev : (neighbors_at (neighbors words) t y).prev ≡ Some x
 
--- what stands on this side of a place, by its word
-abbrev pub beside : Side → Table RawTwo → Place → Option Place
-beside After t p = (neighbors_at neighbors t p).next
-beside Before t p = (neighbors_at neighbors t p).prev
+  -- what stands on this side of a place, by its word
+  abbrev pub beside : Side → Table W → Place → Option Place
+  beside After t p = (neighbors_at (neighbors words) t p).next
+  beside Before t p = (neighbors_at (neighbors words) t p).prev
 
--- and on both sides of it
-abbrev pub around : Table RawTwo → Place → List (Option Place)
-around t p = beside Before t p ∷ beside After t p ∷ []
+  -- and on both sides of it
+  abbrev pub around : Table W → Place → List (Option Place)
+  around t p = beside Before t p ∷ beside After t p ∷ []
 
--- a circle is there, and nothing but entries of these places is changed
-pub record Makes (old new : Table RawTwo) (touched made : List Place) : Type 0 where
-  pub circle : IsCircle new made
-  pub frame : KeepsBeside old new touched
+  -- a circle is there, and nothing but entries of these places is changed
+  pub record Makes (old new : Table W) (touched made : List Place) : Type 0 where
+    pub circle : IsCircle new made
+    pub frame : KeepsBeside old new touched
 
--- two circles are
-pub record MakesTwo (old new : Table RawTwo) (touched made other : List Place) : Type 0 where
-  pub circle : IsCircle new made
-  pub beside : IsCircle new other
-  pub frame : KeepsBeside old new touched
+  -- two circles are
+  pub record MakesTwo (old new : Table W) (touched made other : List Place) : Type 0 where
+    pub circle : IsCircle new made
+    pub beside : IsCircle new other
+    pub frame : KeepsBeside old new touched
 
 -- of two neighbors, the one on whose side the other stands: the first, or the second
 abbrev pub own_on : Side → Place × Place → Place

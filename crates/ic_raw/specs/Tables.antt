@@ -5,6 +5,7 @@ use Rattle.ic_unsafe_ref.specs.declared.place.Place.{Place}
 use Rattle.ic_unsafe_ref.specs.Places.{index_of}
 use Rattle.ic_link_ops.specs.Tables.{Table, IsCovered, IsUnlinked}
 use Rattle.ic_link_ops.specs.PlainTables.{table_with}
+use Rattle.ic_link_ops.specs.Widths.{Width, wide, nameable}
 use Rattle.ic_link_ops.specs.Links.{link_of}
 use Rattle.ic_link_ops.specs.LinkedList.{Neighbors}
 use Rattle.ic_link_ops.specs.SinglyLinkedList.{Successor}
@@ -21,9 +22,13 @@ module _ {W : Type 0} where
   abbrev pub raw_entries : RawTable W → List W
   raw_entries t = t.entries.now
 
-  -- as a table: the name of the borrow tells it from other tables that are lent
+  -- as a table of the places for which words of this width have room: the name of the borrow tells it from other tables that are lent
+  abbrev pub nameable_table : Width → W → RawTable W → Table W
+  nameable_table width unlinked t = table_with unlinked (t.entries.ghost_name ∷ []) (nameable width (raw_entries t))
+
+  -- the same of words of 8 bytes, which have room for every place
   abbrev pub raw_table : W → RawTable W → Table W
-  raw_table unlinked t = table_with unlinked (t.entries.ghost_name ∷ []) (raw_entries t)
+  raw_table = nameable_table wide
 
   -- THE FAULT OF A MEMBER that is named: it is not linked, or none of the table. None has no fault
   abbrev pub member_fault : (is_linked : W → Bool) → Table W → Option Place → ℕ

@@ -1,11 +1,13 @@
 -- What a caller's words say.
-use Rattle.std.specs.Prelude.{◌≡◌, ℕ, ◌+◌, ◌*◌, ◌/◌, ◌%◌, ◌<◌, Bool, cond, nat_eq, Option, Some}
+use Rattle.std.proofs.Common.{arith}
+use Rattle.std.specs.Prelude.{◌≡◌, ℕ, ◌+◌, ◌*◌, ◌/◌, ◌%◌, ◌<◌, Bool, true, cond, nat_eq, Option, Some}
 use Rattle.ic_unsafe_ref.specs.declared.place.Place.{Place}
 use Rattle.ic_unsafe_ref.specs.Places.{index_of, place_at}
 use Rattle.ic_link_ops.specs.declared.color.Color.{Color}
 use Rattle.ic_link_ops.specs.declared.color.Color.TheVariants.{Red, Black}
 use Rattle.ic_raw.specs.declared.words.RawOne.{RawOne}
 use Rattle.ic_raw.specs.declared.words.RawTwo.{RawTwo}
+use Rattle.ic_raw.specs.declared.words.RawNarrowTwo.{RawNarrowTwo}
 use Rattle.ic_raw.specs.declared.words.RawThree.{RawThree}
 
 -- the number that a word keeps: a multiple of 8 below 2 ^ 36, whatever the word's bits are
@@ -15,6 +17,13 @@ number_in v = v / 8 % 8589934592 * 8
 -- the place that it names, none at 0
 abbrev pub place_in : ℕ → Option Place
 place_in v = place_at (number_in v)
+
+-- the same of a word of 4 bytes: a multiple of 8 below 2 ^ 32, and the place that it names
+abbrev pub narrow_number_in : ℕ → ℕ
+narrow_number_in v = v / 8 % 536870912 * 8
+
+abbrev pub narrow_place_in : ℕ → Option Place
+narrow_place_in v = place_at (narrow_number_in v)
 
 -- whether it has the mark of a linked place
 abbrev pub is_marked : ℕ → Bool
@@ -50,6 +59,23 @@ next_of_two w = number_in w.next
 
 abbrev pub prev_of_two : RawTwo → Option Place
 prev_of_two w = place_in w.prev
+
+-- two words of 4 bytes
+abbrev pub no_narrow_words : RawNarrowTwo
+no_narrow_words = record { next = 0; prev = 0 }
+
+abbrev pub is_linked_narrow : RawNarrowTwo → Bool
+is_linked_narrow w = is_marked w.next
+
+abbrev pub next_of_narrow : RawNarrowTwo → ℕ
+next_of_narrow w = narrow_number_in w.next
+
+abbrev pub prev_of_narrow : RawNarrowTwo → Option Place
+prev_of_narrow w = narrow_place_in w.prev
+
+-- the number of what follows is small
+pub narrow_number_small : (w : RawNarrowTwo) → is_linked_narrow w ≡ true → next_of_narrow w < 4294967296
+narrow_number_small w linked = omega arith
 
 -- three words: those of an unlinked place, whether a place is linked, and in which color
 abbrev pub no_tree_words : RawThree

@@ -14,7 +14,7 @@ ghost use Rattle.ic_raw.specs.declared.status.TheConstants.{OK};
 ghost use Rattle.ic_raw.specs.Answers.{IsStatus, refusal};
 ghost use Rattle.ic_raw.specs.Fills.{IsFreeRun, TouchesRun, run_faults, first_fault, last_of_run};
 ghost use Rattle.ic_raw.specs.Gaps.{StandBeside, gap_between, gap_of};
-ghost use Rattle.ic_raw.specs.Tables.{raw_table, place_fault};
+ghost use Rattle.ic_raw.specs.Tables.{nameable_table, place_fault};
 ghost use Rattle.ic_raw.specs.Words.{is_linked_one, place_of};
 ghost use Rattle.ic_raw.specs.Singly as singly;
 ghost use Rattle.ic_raw.specs.Xor as xor;
@@ -31,7 +31,7 @@ use ic_unsafe_ref::Place;
 
 // The first fault of `count` places from this number on, [`OK`] where each is one of the table and not linked.
 fn run_fault<W: Words>(links: &RawTable<'_, W>, first: u32, count: u32) -> u32
-    ensures fault { result ≡ first_fault (run_faults (place_fault W.is_linked (raw_table W.unlinked links.now)) first count) }
+    ensures fault { result ≡ first_fault (run_faults (place_fault W.is_linked (nameable_table W.width W.unlinked links.now)) first count) }
     ensures status { IsStatus result }
 {
     let mut number = first;
@@ -57,16 +57,16 @@ fn link_run<'a, W: Words, K: ForwardLinks<RawTable<'a, W>>>(
     first: u32,
     count: u32,
 )
-    requires stand { StandBeside W.is_linked (raw_table W.unlinked links.old) gap }
+    requires stand { StandBeside W.is_linked (nameable_table W.width W.unlinked links.old) gap }
     ensures filled { ((e : W) (b a : Option Place) → K.Between e b a → W.is_linked e ≡ true)
-        → (cut : Cut) (free : IsFreeRun W.is_linked (raw_table W.unlinked links.old) first count)
-        → ShowsChain K.Between K.kept (raw_table W.unlinked links.old) list.old (join cut) → gap ≡ gap_of cut
-        → Splices (ShowsChain K.Between K.kept) (raw_table W.unlinked links.old) (raw_table W.unlinked links.new) list.new cut free.run }
-    ensures ends { IsFreeRun W.is_linked (raw_table W.unlinked links.old) first count → count ≢ 0
+        → (cut : Cut) (free : IsFreeRun W.is_linked (nameable_table W.width W.unlinked links.old) first count)
+        → ShowsChain K.Between K.kept (nameable_table W.width W.unlinked links.old) list.old (join cut) → gap ≡ gap_of cut
+        → Splices (ShowsChain K.Between K.kept) (nameable_table W.width W.unlinked links.old) (nameable_table W.width W.unlinked links.new) list.new cut free.run }
+    ensures ends { IsFreeRun W.is_linked (nameable_table W.width W.unlinked links.old) first count → count ≢ 0
         → TurnsEnds K.kept list.old list.new gap.before gap.behind (place_of first) (last_of_run first count) }
-    ensures touched { (K.NamesPrev → gap.behind ≡ None) → (free : IsFreeRun W.is_linked (raw_table W.unlinked links.old) first count)
-        → TouchesRun W.is_linked (raw_table W.unlinked links.old) (raw_table W.unlinked links.new) free.run gap.before }
-    ensures extent { (raw_table W.unlinked links.new).extent ≡ (raw_table W.unlinked links.old).extent }
+    ensures touched { (K.NamesPrev → gap.behind ≡ None) → (free : IsFreeRun W.is_linked (nameable_table W.width W.unlinked links.old) first count)
+        → TouchesRun W.is_linked (nameable_table W.width W.unlinked links.old) (nameable_table W.width W.unlinked links.new) free.run gap.before }
+    ensures extent { (nameable_table W.width W.unlinked links.new).extent ≡ (nameable_table W.width W.unlinked links.old).extent }
 {
     let mut before = gap.before;
     let mut number = first;
@@ -90,23 +90,23 @@ pub(crate) fn fill<'a, W: Words, K: ForwardLinks<RawTable<'a, W>>>(
     first: u32,
     count: u32,
 ) -> u32
-    requires stand { (g : Gap) → gap ≡ Some g → StandBeside W.is_linked (raw_table W.unlinked links.old) g }
+    requires stand { (g : Gap) → gap ≡ Some g → StandBeside W.is_linked (nameable_table W.width W.unlinked links.old) g }
     ensures filled { ((e : W) (b a : Option Place) → K.Between e b a → W.is_linked e ≡ true)
-        → (cut : Cut) (free : IsFreeRun W.is_linked (raw_table W.unlinked links.old) first count)
-        → ShowsChain K.Between K.kept (raw_table W.unlinked links.old) list.old (join cut) → gap ≡ Some (gap_of cut)
-        → (result ≡ OK) × Splices (ShowsChain K.Between K.kept) (raw_table W.unlinked links.old) (raw_table W.unlinked links.new) list.new cut free.run }
-    ensures accepted { IsFreeRun W.is_linked (raw_table W.unlinked links.old) first count → gap ≢ None → result ≡ OK }
-    ensures free { result ≡ OK → IsFreeRun W.is_linked (raw_table W.unlinked links.old) first count }
+        → (cut : Cut) (free : IsFreeRun W.is_linked (nameable_table W.width W.unlinked links.old) first count)
+        → ShowsChain K.Between K.kept (nameable_table W.width W.unlinked links.old) list.old (join cut) → gap ≡ Some (gap_of cut)
+        → (result ≡ OK) × Splices (ShowsChain K.Between K.kept) (nameable_table W.width W.unlinked links.old) (nameable_table W.width W.unlinked links.new) list.new cut free.run }
+    ensures accepted { IsFreeRun W.is_linked (nameable_table W.width W.unlinked links.old) first count → gap ≢ None → result ≡ OK }
+    ensures free { result ≡ OK → IsFreeRun W.is_linked (nameable_table W.width W.unlinked links.old) first count }
     ensures gap { result ≡ OK → (g : Gap) × (gap ≡ Some g) }
     ensures ends { result ≡ OK → count ≢ 0 → (g : Gap) → gap ≡ Some g
         → TurnsEnds K.kept list.old list.new g.before g.behind (place_of first) (last_of_run first count) }
     ensures touched { result ≡ OK → (g : Gap) → gap ≡ Some g → (K.NamesPrev → g.behind ≡ None)
-        → (free : IsFreeRun W.is_linked (raw_table W.unlinked links.old) first count)
-        → TouchesRun W.is_linked (raw_table W.unlinked links.old) (raw_table W.unlinked links.new) free.run g.before }
+        → (free : IsFreeRun W.is_linked (nameable_table W.width W.unlinked links.old) first count)
+        → TouchesRun W.is_linked (nameable_table W.width W.unlinked links.old) (nameable_table W.width W.unlinked links.new) free.run g.before }
     ensures refused { result ≢ OK → (links.new ≡ links.old) × (list.new ≡ list.old) }
-    ensures extent { (raw_table W.unlinked links.new).extent ≡ (raw_table W.unlinked links.old).extent }
+    ensures extent { (nameable_table W.width W.unlinked links.new).extent ≡ (nameable_table W.width W.unlinked links.old).extent }
     ensures why { result ≢ OK
-        → result ≡ refusal (run_faults (place_fault W.is_linked (raw_table W.unlinked links.old)) first count) }
+        → result ≡ refusal (run_faults (place_fault W.is_linked (nameable_table W.width W.unlinked links.old)) first count) }
     ensures status { IsStatus result }
 {
     let fault = run_fault(&*links, first, count);

@@ -49,4 +49,4 @@ pub use number::{number_of, place_in, place_of};
 pub use search::Target;
 pub use status::{BROKEN, LINKED, NONE, NOT_LINKED, NULL, OK, OUT_OF_RANGE};
 pub use table::RawTable;
-pub use words::{RawEnds, RawFront, RawOne, RawRoot, RawThree, RawTwo};
+pub use words::{RawEnds, RawFront, RawNarrowTwo, RawOne, RawRoot, RawThree, RawTwo};

@@ -5,7 +5,7 @@
 //! ```
 
 ghost use Rattle.std.specs.Prelude.{◌≡◌};
-ghost use Rattle.ic_raw.specs.Words.{place_in, place_of, HasNumber};
+ghost use Rattle.ic_raw.specs.Words.{place_in, narrow_place_in, place_of, HasNumber};
 
 use ic_unsafe_ref::Place;
 
@@ -15,6 +15,14 @@ pub fn place_in(word: u64) -> Option<Place>
     ensures { result ≡ place_in word }
 {
     Place::from_word(word / 8 % 8_589_934_592 * 8)
+}
+
+/// The place that a word of 4 bytes names, whatever its bits are: the three lowest count for nothing.
+#[inline]
+pub fn narrow_place_in(word: u32) -> Option<Place>
+    ensures { result ≡ narrow_place_in word }
+{
+    Place::from_word(u64::from(word / 8 % 536_870_912 * 8))
 }
 
 /// The place with that index, and none at [`NONE`](crate::NONE).

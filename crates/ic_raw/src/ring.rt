@@ -10,16 +10,14 @@ ghost use Rattle.ic_link_ops.specs.Sequences.{IsAbsent, IsDisjoint, first, last}
 ghost use Rattle.ic_link_ops.specs.Tables.{IsLinked, IsUnlinked, ChangesOnly};
 ghost use Rattle.ic_link_ops.specs.LinkSteps.{acquires, releases};
 ghost use Rattle.ic_raw.specs.declared.gap.Side.TheVariants.{After};
-ghost use Rattle.ic_raw.specs.Doubly.{lent_table};
+ghost use Rattle.ic_raw.specs.LinkWords.{lent_table};
 ghost use Rattle.ic_raw.specs.Ring.{IsCircle, IsTold, Makes, MakesTwo, around, beside, own_on, put_in};
 ghost use Rattle.ic_raw.specs.Tables.{IsFree};
 ghost use Rattle.ic_raw.specs.Touches.{Touches};
-ghost use Rattle.ic_raw.specs.Words.{is_linked_two};
 
 use crate::gap::Side;
 use crate::table::RawTable;
-use crate::words::RawTwo;
-use ic_link_ops::LinkOps;
+use ic_link_ops::{LinkOps, PrevPlace};
 use ic_link_ops::linked_list::LinkedListOps;
 use ic_ring::{bypass, turn_to};
 use ic_unsafe_ref::Place;
@@ -29,9 +27,9 @@ pub type Pair = (Place, Place);
 
 // The two places, where the words tell that the second stands behind the first: both are linked, and each names the other.
 #[inline]
-fn pair(links: &RawTable<'_, RawTwo>, before: Option<Place>, behind: Option<Place>) -> Option<Pair>
-    ensures told { (x : Place × Place) → result ≡ Some x → IsTold (lent_table links.now) x.0 x.1 × (before ≡ Some x.0) × (behind ≡ Some x.1) }
-    ensures tells { (x : Place × Place) → before ≡ Some x.0 → behind ≡ Some x.1 → IsTold (lent_table links.now) x.0 x.1 → result ≡ Some x }
+fn pair<W: PrevPlace>(links: &RawTable<'_, W>, before: Option<Place>, behind: Option<Place>) -> Option<Pair>
+    ensures told { (x : Place × Place) → result ≡ Some x → IsTold W.PrevPlace (lent_table W.PrevPlace links.now) x.0 x.1 × (before ≡ Some x.0) × (behind ≡ Some x.1) }
+    ensures tells { (x : Place × Place) → before ≡ Some x.0 → behind ≡ Some x.1 → IsTold W.PrevPlace (lent_table W.PrevPlace links.now) x.0 x.1 → result ≡ Some x }
 {
     let before = before?;
     let behind = behind?;
@@ -52,9 +50,9 @@ fn pair(links: &RawTable<'_, RawTwo>, before: Option<Place>, behind: Option<Plac
 
 /// A place and its neighbor on this side, where the words tell of them.
 #[inline]
-pub fn beside(links: &RawTable<'_, RawTwo>, side: Side, at: Place) -> Option<Pair>
-    ensures told { (x : Place × Place) → result ≡ Some x → IsTold (lent_table links.now) x.0 x.1 × (own_on side x ≡ at) }
-    ensures tells { (x : Place × Place) → IsTold (lent_table links.now) x.0 x.1 → own_on side x ≡ at → result ≡ Some x }
+pub fn beside<W: PrevPlace>(links: &RawTable<'_, W>, side: Side, at: Place) -> Option<Pair>
+    ensures told { (x : Place × Place) → result ≡ Some x → IsTold W.PrevPlace (lent_table W.PrevPlace links.now) x.0 x.1 × (own_on side x ≡ at) }
+    ensures tells { (x : Place × Place) → IsTold W.PrevPlace (lent_table W.PrevPlace links.now) x.0 x.1 → own_on side x ≡ at → result ≡ Some x }
 {
     if !links.is_linked(at) {
         return None;
@@ -67,9 +65,9 @@ pub fn beside(links: &RawTable<'_, RawTwo>, side: Side, at: Place) -> Option<Pai
 
 // The two neighbors of a place, where the words tell of both.
 #[inline]
-pub(crate) fn around(links: &RawTable<'_, RawTwo>, place: Place) -> Option<Pair>
-    ensures told { (x : Place × Place) → result ≡ Some x → IsTold (lent_table links.now) x.0 place × IsTold (lent_table links.now) place x.1 }
-    ensures tells { (r : List Place) → IsCircle (lent_table links.now) (place ∷ r) → IsSome result }
+pub(crate) fn around<W: PrevPlace>(links: &RawTable<'_, W>, place: Place) -> Option<Pair>
+    ensures told { (x : Place × Place) → result ≡ Some x → IsTold W.PrevPlace (lent_table W.PrevPlace links.now) x.0 place × IsTold W.PrevPlace (lent_table W.PrevPlace links.now) place x.1 }
+    ensures tells { (r : List Place) → IsCircle W.PrevPlace (lent_table W.PrevPlace links.now) (place ∷ r) → IsSome result }
 {
     let Some(before) = beside(links, Side::Before, place) else {
         return None;
@@ -82,9 +80,9 @@ pub(crate) fn around(links: &RawTable<'_, RawTwo>, place: Place) -> Option<Pair>
 
 // Whether the words tell that the place stands behind itself, as a head without members does.
 #[inline]
-pub(crate) fn is_alone(links: &RawTable<'_, RawTwo>, place: Place) -> bool
-    ensures told { result ≡ true → IsTold (lent_table links.now) place place }
-    ensures tells { IsTold (lent_table links.now) place place → result ≡ true }
+pub(crate) fn is_alone<W: PrevPlace>(links: &RawTable<'_, W>, place: Place) -> bool
+    ensures told { result ≡ true → IsTold W.PrevPlace (lent_table W.PrevPlace links.now) place place }
+    ensures tells { IsTold W.PrevPlace (lent_table W.PrevPlace links.now) place place → result ≡ true }
 {
     let Some(_) = pair(links, Some(place), Some(place)) else {
         return false;
@@ -94,11 +92,11 @@ pub(crate) fn is_alone(links: &RawTable<'_, RawTwo>, place: Place) -> bool
 
 // Makes a circle of the place alone, and gives it, if it is one of the table and not linked.
 #[inline]
-pub(crate) fn close(links: &mut RawTable<'_, RawTwo>, place: Option<Place>) -> Option<Place>
-    ensures accepted { (p : Place) → place ≡ Some p → IsFree is_linked_two (lent_table links.old) p → result ≡ Some p }
-    ensures free { (p : Place) → result ≡ Some p → (place ≡ Some p) × IsFree is_linked_two (lent_table links.old) p }
-    ensures circle { (p : Place) → result ≡ Some p → IsCircle (lent_table links.new) (p ∷ []) }
-    ensures frame { (p : Place) → result ≡ Some p → ChangesOnly (lent_table links.old) (lent_table links.new) p }
+pub(crate) fn close<W: PrevPlace>(links: &mut RawTable<'_, W>, place: Option<Place>) -> Option<Place>
+    ensures accepted { (p : Place) → place ≡ Some p → IsFree W.is_linked (lent_table W.PrevPlace links.old) p → result ≡ Some p }
+    ensures free { (p : Place) → result ≡ Some p → (place ≡ Some p) × IsFree W.is_linked (lent_table W.PrevPlace links.old) p }
+    ensures circle { (p : Place) → result ≡ Some p → IsCircle W.PrevPlace (lent_table W.PrevPlace links.new) (p ∷ []) }
+    ensures frame { (p : Place) → result ≡ Some p → ChangesOnly (lent_table W.PrevPlace links.old) (lent_table W.PrevPlace links.new) p }
     ensures refused { result ≡ None → links.new ≡ links.old }
 {
     let place = links.acquire(place)?;
@@ -109,14 +107,14 @@ pub(crate) fn close(links: &mut RawTable<'_, RawTwo>, place: Option<Place>) -> O
 
 // Puts a linked place, which stands in no ring, between two neighbors of one.
 #[inline]
-pub(crate) fn link_between(links: &mut RawTable<'_, RawTwo>, pair: Pair, place: Place)
-    requires held { IsLinked is_linked_two (lent_table links.old) place }
-    requires told { IsTold (lent_table links.old) pair.0 pair.1 }
-    ensures inserted { (side : Side) (at : Place) (r : List Place) → own_on side pair ≡ at → IsCircle (lent_table links.old) (at ∷ r)
-        → IsAbsent place (at ∷ r) → IsCircle (lent_table links.new) (put_in side at place r) }
-    ensures others { (q : Place) → q ≢ place → q ≢ pair.0 → q ≢ pair.1 → (lent_table links.new).entry q ≡ (lent_table links.old).entry q }
-    ensures extent { (lent_table links.new).extent ≡ (lent_table links.old).extent }
-    ensures no_step { (q : Place) → is_linked_two ((lent_table links.new).entry q) ≡ is_linked_two ((lent_table links.old).entry q) }
+pub(crate) fn link_between<W: PrevPlace>(links: &mut RawTable<'_, W>, pair: Pair, place: Place)
+    requires held { IsLinked W.is_linked (lent_table W.PrevPlace links.old) place }
+    requires told { IsTold W.PrevPlace (lent_table W.PrevPlace links.old) pair.0 pair.1 }
+    ensures inserted { (side : Side) (at : Place) (r : List Place) → own_on side pair ≡ at → IsCircle W.PrevPlace (lent_table W.PrevPlace links.old) (at ∷ r)
+        → IsAbsent place (at ∷ r) → IsCircle W.PrevPlace (lent_table W.PrevPlace links.new) (put_in side at place r) }
+    ensures others { (q : Place) → q ≢ place → q ≢ pair.0 → q ≢ pair.1 → (lent_table W.PrevPlace links.new).entry q ≡ (lent_table W.PrevPlace links.old).entry q }
+    ensures extent { (lent_table W.PrevPlace links.new).extent ≡ (lent_table W.PrevPlace links.old).extent }
+    ensures no_step { (q : Place) → W.is_linked ((lent_table W.PrevPlace links.new).entry q) ≡ W.is_linked ((lent_table W.PrevPlace links.old).entry q) }
 {
     links.set_prev(place, Some(pair.0));
     links.set_next(place, Some(pair.1));
@@ -125,16 +123,16 @@ pub(crate) fn link_between(links: &mut RawTable<'_, RawTwo>, pair: Pair, place: 
 
 // Turns two linked places to each other. What stood between them has left its ring, and stays linked.
 #[inline]
-pub(crate) fn close_gap(links: &mut RawTable<'_, RawTwo>, before: Place, behind: Place)
-    requires before { IsLinked is_linked_two (lent_table links.old) before }
-    requires behind { IsLinked is_linked_two (lent_table links.old) behind }
-    ensures closed { (p : Place) (r : List Place) → IsCircle (lent_table links.old) (p ∷ r) → Some before ≡ last r → Some behind ≡ first r
-        → IsCircle (lent_table links.new) r }
-    ensures joined { IsTold (lent_table links.new) before behind }
-    ensures told { (x y : Place) → x ≢ before → y ≢ behind → IsTold (lent_table links.old) x y → IsTold (lent_table links.new) x y }
-    ensures others { (q : Place) → q ≢ before → q ≢ behind → (lent_table links.new).entry q ≡ (lent_table links.old).entry q }
-    ensures extent { (lent_table links.new).extent ≡ (lent_table links.old).extent }
-    ensures no_step { (q : Place) → is_linked_two ((lent_table links.new).entry q) ≡ is_linked_two ((lent_table links.old).entry q) }
+pub(crate) fn close_gap<W: PrevPlace>(links: &mut RawTable<'_, W>, before: Place, behind: Place)
+    requires before { IsLinked W.is_linked (lent_table W.PrevPlace links.old) before }
+    requires behind { IsLinked W.is_linked (lent_table W.PrevPlace links.old) behind }
+    ensures closed { (p : Place) (r : List Place) → IsCircle W.PrevPlace (lent_table W.PrevPlace links.old) (p ∷ r) → Some before ≡ last r → Some behind ≡ first r
+        → IsCircle W.PrevPlace (lent_table W.PrevPlace links.new) r }
+    ensures joined { IsTold W.PrevPlace (lent_table W.PrevPlace links.new) before behind }
+    ensures told { (x y : Place) → x ≢ before → y ≢ behind → IsTold W.PrevPlace (lent_table W.PrevPlace links.old) x y → IsTold W.PrevPlace (lent_table W.PrevPlace links.new) x y }
+    ensures others { (q : Place) → q ≢ before → q ≢ behind → (lent_table W.PrevPlace links.new).entry q ≡ (lent_table W.PrevPlace links.old).entry q }
+    ensures extent { (lent_table W.PrevPlace links.new).extent ≡ (lent_table W.PrevPlace links.old).extent }
+    ensures no_step { (q : Place) → W.is_linked ((lent_table W.PrevPlace links.new).entry q) ≡ W.is_linked ((lent_table W.PrevPlace links.old).entry q) }
 {
     links.set_next(before, Some(behind));
     links.set_prev(behind, Some(before));
@@ -142,17 +140,17 @@ pub(crate) fn close_gap(links: &mut RawTable<'_, RawTwo>, before: Place, behind:
 
 // Two pairs of neighbors exchange their second places.
 #[inline]
-pub(crate) fn cross(links: &mut RawTable<'_, RawTwo>, first: Pair, second: Pair)
-    requires first { IsTold (lent_table links.old) first.0 first.1 }
-    requires second { IsTold (lent_table links.old) second.0 second.1 }
-    ensures joins { (r s : List Place) → IsCircle (lent_table links.old) r → IsCircle (lent_table links.old) s → IsDisjoint r s
-        → last r ≡ Some first.0 → last s ≡ Some second.0 → Makes (lent_table links.old) (lent_table links.new) (r ++ s) (r ++ s) }
-    ensures cuts { (r s : List Place) → IsCircle (lent_table links.old) (r ++ s) → last r ≡ Some first.0 → last s ≡ Some second.0
-        → MakesTwo (lent_table links.old) (lent_table links.new) (r ++ s) r s }
+pub(crate) fn cross<W: PrevPlace>(links: &mut RawTable<'_, W>, first: Pair, second: Pair)
+    requires first { IsTold W.PrevPlace (lent_table W.PrevPlace links.old) first.0 first.1 }
+    requires second { IsTold W.PrevPlace (lent_table W.PrevPlace links.old) second.0 second.1 }
+    ensures joins { (r s : List Place) → IsCircle W.PrevPlace (lent_table W.PrevPlace links.old) r → IsCircle W.PrevPlace (lent_table W.PrevPlace links.old) s → IsDisjoint r s
+        → last r ≡ Some first.0 → last s ≡ Some second.0 → Makes W.PrevPlace (lent_table W.PrevPlace links.old) (lent_table W.PrevPlace links.new) (r ++ s) (r ++ s) }
+    ensures cuts { (r s : List Place) → IsCircle W.PrevPlace (lent_table W.PrevPlace links.old) (r ++ s) → last r ≡ Some first.0 → last s ≡ Some second.0
+        → MakesTwo W.PrevPlace (lent_table W.PrevPlace links.old) (lent_table W.PrevPlace links.new) (r ++ s) r s }
     ensures others { (q : Place) → q ≢ first.0 → q ≢ first.1 → q ≢ second.0 → q ≢ second.1
-        → (lent_table links.new).entry q ≡ (lent_table links.old).entry q }
-    ensures extent { (lent_table links.new).extent ≡ (lent_table links.old).extent }
-    ensures no_step { (q : Place) → is_linked_two ((lent_table links.new).entry q) ≡ is_linked_two ((lent_table links.old).entry q) }
+        → (lent_table W.PrevPlace links.new).entry q ≡ (lent_table W.PrevPlace links.old).entry q }
+    ensures extent { (lent_table W.PrevPlace links.new).extent ≡ (lent_table W.PrevPlace links.old).extent }
+    ensures no_step { (q : Place) → W.is_linked ((lent_table W.PrevPlace links.new).entry q) ≡ W.is_linked ((lent_table W.PrevPlace links.old).entry q) }
 {
     links.set_next(first.0, Some(second.1));
     links.set_prev(second.1, Some(first.0));
@@ -162,16 +160,16 @@ pub(crate) fn cross(links: &mut RawTable<'_, RawTwo>, first: Pair, second: Pair)
 
 // Takes the place out of its ring, whichever that is, and says whether it could.
 #[inline]
-pub(crate) fn remove(links: &mut RawTable<'_, RawTwo>, place: Place) -> bool
-    ensures removed { (r : List Place) → IsCircle (lent_table links.old) (place ∷ r)
-        → (result ≡ true) × Makes (lent_table links.old) (lent_table links.new) (place ∷ r) r }
-    ensures unlinked { result ≡ true → IsUnlinked is_linked_two (lent_table links.new) place }
-    ensures before { result ≡ true → (q : Place) × IsTold (lent_table links.old) q place }
-    ensures behind { result ≡ true → (q : Place) × IsTold (lent_table links.old) place q }
-    ensures touched { result ≡ true → Touches is_linked_two (lent_table links.old) (lent_table links.new) (releases place ∷ [])
-        (Some place ∷ around (lent_table links.old) place) }
+pub(crate) fn remove<W: PrevPlace>(links: &mut RawTable<'_, W>, place: Place) -> bool
+    ensures removed { (r : List Place) → IsCircle W.PrevPlace (lent_table W.PrevPlace links.old) (place ∷ r)
+        → (result ≡ true) × Makes W.PrevPlace (lent_table W.PrevPlace links.old) (lent_table W.PrevPlace links.new) (place ∷ r) r }
+    ensures unlinked { result ≡ true → IsUnlinked W.is_linked (lent_table W.PrevPlace links.new) place }
+    ensures before { result ≡ true → (q : Place) × IsTold W.PrevPlace (lent_table W.PrevPlace links.old) q place }
+    ensures behind { result ≡ true → (q : Place) × IsTold W.PrevPlace (lent_table W.PrevPlace links.old) place q }
+    ensures touched { result ≡ true → Touches W.is_linked (lent_table W.PrevPlace links.old) (lent_table W.PrevPlace links.new) (releases place ∷ [])
+        (Some place ∷ around W.PrevPlace (lent_table W.PrevPlace links.old) place) }
     ensures refused { result ≡ false → links.new ≡ links.old }
-    ensures extent { (lent_table links.new).extent ≡ (lent_table links.old).extent }
+    ensures extent { (lent_table W.PrevPlace links.new).extent ≡ (lent_table W.PrevPlace links.old).extent }
 {
     let Some(pair) = around(&*links, place) else {
         return false;
@@ -183,21 +181,21 @@ pub(crate) fn remove(links: &mut RawTable<'_, RawTwo>, place: Place) -> bool
 
 // Puts the place in beside one that stands in a ring, and says whether it could.
 #[inline]
-pub(crate) fn insert(
-    links: &mut RawTable<'_, RawTwo>,
+pub(crate) fn insert<W: PrevPlace>(
+    links: &mut RawTable<'_, W>,
     side: Side,
     at: Place,
     place: Option<Place>,
 ) -> bool
-    ensures inserted { (p : Place) (r : List Place) → place ≡ Some p → IsFree is_linked_two (lent_table links.old) p
-        → IsCircle (lent_table links.old) (at ∷ r)
-        → (result ≡ true) × Makes (lent_table links.old) (lent_table links.new) (p ∷ at ∷ r) (put_in side at p r) }
-    ensures free { result ≡ true → (p : Place) × (place ≡ Some p) × IsFree is_linked_two (lent_table links.old) p }
-    ensures told { result ≡ true → (x : Place × Place) × IsTold (lent_table links.old) x.0 x.1 × (own_on side x ≡ at) }
-    ensures touched { (p : Place) → place ≡ Some p → result ≡ true → Touches is_linked_two (lent_table links.old) (lent_table links.new) (acquires p ∷ [])
-        (Some p ∷ Some at ∷ beside side (lent_table links.old) at ∷ []) }
+    ensures inserted { (p : Place) (r : List Place) → place ≡ Some p → IsFree W.is_linked (lent_table W.PrevPlace links.old) p
+        → IsCircle W.PrevPlace (lent_table W.PrevPlace links.old) (at ∷ r)
+        → (result ≡ true) × Makes W.PrevPlace (lent_table W.PrevPlace links.old) (lent_table W.PrevPlace links.new) (p ∷ at ∷ r) (put_in side at p r) }
+    ensures free { result ≡ true → (p : Place) × (place ≡ Some p) × IsFree W.is_linked (lent_table W.PrevPlace links.old) p }
+    ensures told { result ≡ true → (x : Place × Place) × IsTold W.PrevPlace (lent_table W.PrevPlace links.old) x.0 x.1 × (own_on side x ≡ at) }
+    ensures touched { (p : Place) → place ≡ Some p → result ≡ true → Touches W.is_linked (lent_table W.PrevPlace links.old) (lent_table W.PrevPlace links.new) (acquires p ∷ [])
+        (Some p ∷ Some at ∷ beside W.PrevPlace side (lent_table W.PrevPlace links.old) at ∷ []) }
     ensures refused { result ≡ false → links.new ≡ links.old }
-    ensures extent { (lent_table links.new).extent ≡ (lent_table links.old).extent }
+    ensures extent { (lent_table W.PrevPlace links.new).extent ≡ (lent_table W.PrevPlace links.old).extent }
 {
     let Some(pair) = beside(&*links, side, at) else {
         return false;
@@ -211,18 +209,18 @@ pub(crate) fn insert(
 
 // Two places that stand in rings exchange what stands behind them, and it says whether they could: two rings become one, one becomes two.
 #[inline]
-pub(crate) fn exchange(links: &mut RawTable<'_, RawTwo>, one: Place, other: Place) -> bool
-    ensures joins { (r s : List Place) → IsCircle (lent_table links.old) r → IsCircle (lent_table links.old) s → IsDisjoint r s
+pub(crate) fn exchange<W: PrevPlace>(links: &mut RawTable<'_, W>, one: Place, other: Place) -> bool
+    ensures joins { (r s : List Place) → IsCircle W.PrevPlace (lent_table W.PrevPlace links.old) r → IsCircle W.PrevPlace (lent_table W.PrevPlace links.old) s → IsDisjoint r s
         → last r ≡ Some one → last s ≡ Some other
-        → (result ≡ true) × Makes (lent_table links.old) (lent_table links.new) (r ++ s) (r ++ s) }
-    ensures cuts { (r s : List Place) → IsCircle (lent_table links.old) (r ++ s) → last r ≡ Some one → last s ≡ Some other
-        → (result ≡ true) × MakesTwo (lent_table links.old) (lent_table links.new) (r ++ s) r s }
-    ensures told { result ≡ true → (q : Place) × IsTold (lent_table links.old) one q }
-    ensures other { result ≡ true → (q : Place) × IsTold (lent_table links.old) other q }
-    ensures touched { result ≡ true → Touches is_linked_two (lent_table links.old) (lent_table links.new) []
-        (Some one ∷ beside After (lent_table links.old) one ∷ Some other ∷ beside After (lent_table links.old) other ∷ []) }
+        → (result ≡ true) × Makes W.PrevPlace (lent_table W.PrevPlace links.old) (lent_table W.PrevPlace links.new) (r ++ s) (r ++ s) }
+    ensures cuts { (r s : List Place) → IsCircle W.PrevPlace (lent_table W.PrevPlace links.old) (r ++ s) → last r ≡ Some one → last s ≡ Some other
+        → (result ≡ true) × MakesTwo W.PrevPlace (lent_table W.PrevPlace links.old) (lent_table W.PrevPlace links.new) (r ++ s) r s }
+    ensures told { result ≡ true → (q : Place) × IsTold W.PrevPlace (lent_table W.PrevPlace links.old) one q }
+    ensures other { result ≡ true → (q : Place) × IsTold W.PrevPlace (lent_table W.PrevPlace links.old) other q }
+    ensures touched { result ≡ true → Touches W.is_linked (lent_table W.PrevPlace links.old) (lent_table W.PrevPlace links.new) []
+        (Some one ∷ beside W.PrevPlace After (lent_table W.PrevPlace links.old) one ∷ Some other ∷ beside W.PrevPlace After (lent_table W.PrevPlace links.old) other ∷ []) }
     ensures refused { result ≡ false → links.new ≡ links.old }
-    ensures extent { (lent_table links.new).extent ≡ (lent_table links.old).extent }
+    ensures extent { (lent_table W.PrevPlace links.new).extent ≡ (lent_table W.PrevPlace links.old).extent }
 {
     let Some(first) = beside(&*links, Side::After, one) else {
         return false;

@@ -9,27 +9,27 @@
 ghost use Rattle.std.specs.Prelude.{◌≡◌, ◌≢◌, ◌↔◌, ◌∷◌, [], Some};
 ghost use Rattle.ic_raw.specs.declared.status.TheConstants.{OK, NULL};
 ghost use Rattle.ic_raw.specs.Answers.{refusal};
-ghost use Rattle.ic_raw.specs.Doubly.{lent_table};
+ghost use Rattle.ic_raw.specs.LinkWords.{lent_table};
 ghost use Rattle.ic_raw.specs.Ring.{IsTold};
 ghost use Rattle.ic_raw.specs.RingCalls.{PopCall, ReplaceCall, MoveCall, SpliceCall};
 ghost use Rattle.ic_raw.specs.Tables.{member_fault};
-ghost use Rattle.ic_raw.specs.Words.{place_of, is_linked_two};
+ghost use Rattle.ic_raw.specs.Words.{place_of};
 ghost use Rattle.ic_raw.specs.RingCalls.{ExchangeCall, InitCall, InsertCall, RemoveCall};
 
 use crate::gap::Side;
 use crate::number::{number_of, place_of};
 use crate::status::{NULL, OK};
 use crate::table::{RawTable, refusal_at_end};
-use crate::words::RawTwo;
 use crate::{ring, ring_moves};
+use ic_link_ops::PrevPlace;
 use ic_unsafe_ref::Place;
 
 /// Makes a place the head of a ring with no members. O(1).
 ///
 /// The place has to be one of the table, and not linked.
 #[inline]
-pub fn init(table: &mut [RawTwo], head: u32) -> u32
-    ensures { InitCall table.old table.new result (place_of head) }
+pub fn init<W: PrevPlace>(table: &mut [W], head: u32) -> u32
+    ensures { InitCall W.PrevPlace table.old table.new result (place_of head) }
 {
     let mut links = RawTable::new(table);
     let Some(_) = ring::close(&mut links, place_of(head)) else {
@@ -43,8 +43,8 @@ pub fn init(table: &mut [RawTwo], head: u32) -> u32
 /// The place has to be one of the table, and not linked. It returns [`NULL`] where `at` is [`NONE`](crate::NONE), and else the first fault of
 /// the two, or [`BROKEN`](crate::BROKEN). A refused edit leaves the words as they are.
 #[inline]
-pub fn insert(table: &mut [RawTwo], side: Side, at: u32, place: u32) -> u32
-    ensures { InsertCall table.old table.new result side (place_of at) (place_of place) }
+pub fn insert<W: PrevPlace>(table: &mut [W], side: Side, at: u32, place: u32) -> u32
+    ensures { InsertCall W.PrevPlace table.old table.new result side (place_of at) (place_of place) }
 {
     let Some(member) = place_of(at) else {
         return NULL;
@@ -60,8 +60,8 @@ pub fn insert(table: &mut [RawTwo], side: Side, at: u32, place: u32) -> u32
 ///
 /// A head that has no members leaves, too, and its ring is gone then.
 #[inline]
-pub fn remove(table: &mut [RawTwo], place: u32) -> u32
-    ensures { RemoveCall table.old table.new result (place_of place) }
+pub fn remove<W: PrevPlace>(table: &mut [W], place: u32) -> u32
+    ensures { RemoveCall W.PrevPlace table.old table.new result (place_of place) }
 {
     let Some(member) = place_of(place) else {
         return NULL;
@@ -78,8 +78,8 @@ pub fn remove(table: &mut [RawTwo], place: u32) -> u32
 /// With the last member of one ring and the head of another, all members of the second are put behind the first. The same call again takes
 /// it back.
 #[inline]
-pub fn exchange(table: &mut [RawTwo], one: u32, other: u32) -> u32
-    ensures { ExchangeCall table.old table.new result (place_of one) (place_of other) }
+pub fn exchange<W: PrevPlace>(table: &mut [W], one: u32, other: u32) -> u32
+    ensures { ExchangeCall W.PrevPlace table.old table.new result (place_of one) (place_of other) }
 {
     let Some(first) = place_of(one) else {
         return NULL;
@@ -96,9 +96,9 @@ pub fn exchange(table: &mut [RawTwo], one: u32, other: u32) -> u32
 
 // Why nothing could be taken out beside a head: it has no members, or its words tell of none.
 #[cold]
-fn refusal_to_pop(links: &RawTable<'_, RawTwo>, head: Place) -> u32
-    ensures null { (result ≡ NULL) ↔ IsTold (lent_table links.now) head head }
-    ensures why { result ≢ NULL → result ≡ refusal (member_fault is_linked_two (lent_table links.now) (Some head) ∷ []) }
+fn refusal_to_pop<W: PrevPlace>(links: &RawTable<'_, W>, head: Place) -> u32
+    ensures null { (result ≡ NULL) ↔ IsTold W.PrevPlace (lent_table W.PrevPlace links.now) head head }
+    ensures why { result ≢ NULL → result ≡ refusal (member_fault W.is_linked (lent_table W.PrevPlace links.now) (Some head) ∷ []) }
     ensures refused { result ≢ OK }
 {
     if ring::is_alone(links, head) {
@@ -111,8 +111,8 @@ fn refusal_to_pop(links: &RawTable<'_, RawTwo>, head: Place) -> u32
 ///
 /// It returns [`NULL`] where `head` is [`NONE`](crate::NONE) or has no members. A refused call leaves the words and the number as they are.
 #[inline]
-pub fn pop(table: &mut [RawTwo], side: Side, head: u32, popped: &mut u32) -> u32
-    ensures { PopCall table.old table.new result popped.old popped.new side (place_of head) }
+pub fn pop<W: PrevPlace>(table: &mut [W], side: Side, head: u32, popped: &mut u32) -> u32
+    ensures { PopCall W.PrevPlace table.old table.new result popped.old popped.new side (place_of head) }
 {
     let Some(place) = place_of(head) else {
         return NULL;
@@ -130,8 +130,8 @@ pub fn pop(table: &mut [RawTwo], side: Side, head: u32, popped: &mut u32) -> u32
 /// `place` has to be one of the table, and not linked. It returns [`NULL`] where `at` is [`NONE`](crate::NONE). A refused call leaves the words
 /// as they are.
 #[inline]
-pub fn replace(table: &mut [RawTwo], at: u32, place: u32) -> u32
-    ensures { ReplaceCall table.old table.new result (place_of at) (place_of place) }
+pub fn replace<W: PrevPlace>(table: &mut [W], at: u32, place: u32) -> u32
+    ensures { ReplaceCall W.PrevPlace table.old table.new result (place_of at) (place_of place) }
 {
     let Some(member) = place_of(at) else {
         return NULL;
@@ -147,8 +147,8 @@ pub fn replace(table: &mut [RawTwo], at: u32, place: u32) -> u32
 ///
 /// Beside itself it stays. It returns [`NULL`] where one of the two is [`NONE`](crate::NONE). A refused call leaves the words as they are.
 #[inline]
-pub fn move_beside(table: &mut [RawTwo], side: Side, at: u32, place: u32) -> u32
-    ensures { MoveCall table.old table.new result side (place_of at) (place_of place) }
+pub fn move_beside<W: PrevPlace>(table: &mut [W], side: Side, at: u32, place: u32) -> u32
+    ensures { MoveCall W.PrevPlace table.old table.new result side (place_of at) (place_of place) }
 {
     let Some(beside) = place_of(at) else {
         return NULL;
@@ -168,8 +168,8 @@ pub fn move_beside(table: &mut [RawTwo], side: Side, at: u32, place: u32) -> u32
 /// The head stands alone then. It returns [`NULL`] where one of the two is [`NONE`](crate::NONE), and [`BROKEN`](crate::BROKEN) beside the head
 /// itself, and behind its last member. A refused call leaves the words as they are.
 #[inline]
-pub fn splice(table: &mut [RawTwo], side: Side, at: u32, head: u32) -> u32
-    ensures { SpliceCall table.old table.new result side (place_of at) (place_of head) }
+pub fn splice<W: PrevPlace>(table: &mut [W], side: Side, at: u32, head: u32) -> u32
+    ensures { SpliceCall W.PrevPlace table.old table.new result side (place_of at) (place_of head) }
 {
     let Some(beside) = place_of(at) else {
         return NULL;

@@ -11,17 +11,15 @@ ghost use Rattle.ic_unsafe_ref.specs.declared.place.Place.{Place};
 ghost use Rattle.ic_link_ops.specs.Sequences.{IsDisjoint};
 ghost use Rattle.ic_link_ops.specs.Tables.{IsLinked, IsUnlinked};
 ghost use Rattle.ic_link_ops.specs.LinkSteps.{acquires, releases};
-ghost use Rattle.ic_raw.specs.Doubly.{lent_table};
+ghost use Rattle.ic_raw.specs.LinkWords.{lent_table};
 ghost use Rattle.ic_raw.specs.Ring.{IsCircle, IsTold, Makes, MakesTwo, around, beside, neighbor_on, put_in, all_put_in};
 ghost use Rattle.ic_raw.specs.Tables.{IsFree};
 ghost use Rattle.ic_raw.specs.Touches.{Touches};
-ghost use Rattle.ic_raw.specs.Words.{is_linked_two};
 
 use crate::gap::Side;
 use crate::ring::{Pair, around, beside, close_gap, cross, link_between, remove};
 use crate::table::RawTable;
-use crate::words::RawTwo;
-use ic_link_ops::LinkOps;
+use ic_link_ops::{LinkOps, PrevPlace};
 use ic_link_ops::linked_list::LinkedListOps;
 use ic_unsafe_ref::Place;
 
@@ -38,17 +36,17 @@ fn neighbor_on(side: Side, pair: Pair) -> Place
 
 // Takes out the place that stands on this side of a head, and gives it: none where the head stands alone, or in no ring.
 #[inline]
-pub(crate) fn pop(links: &mut RawTable<'_, RawTwo>, side: Side, head: Place) -> Option<Place>
-    ensures popped { (p : Place) (r : List Place) → IsCircle (lent_table links.old) (put_in side head p r)
-        → (result ≡ Some p) × Makes (lent_table links.old) (lent_table links.new) (put_in side head p r) (head ∷ r) }
-    ensures empty { IsCircle (lent_table links.old) (head ∷ []) → result ≡ None }
-    ensures linked { (p : Place) → result ≡ Some p → IsLinked is_linked_two (lent_table links.old) p }
-    ensures unlinked { (p : Place) → result ≡ Some p → IsUnlinked is_linked_two (lent_table links.new) p }
-    ensures beside { (p : Place) → result ≡ Some p → beside side (lent_table links.old) head ≡ Some p }
-    ensures touched { (p : Place) → result ≡ Some p → Touches is_linked_two (lent_table links.old) (lent_table links.new) (releases p ∷ [])
-        (Some p ∷ around (lent_table links.old) p) }
+pub(crate) fn pop<W: PrevPlace>(links: &mut RawTable<'_, W>, side: Side, head: Place) -> Option<Place>
+    ensures popped { (p : Place) (r : List Place) → IsCircle W.PrevPlace (lent_table W.PrevPlace links.old) (put_in side head p r)
+        → (result ≡ Some p) × Makes W.PrevPlace (lent_table W.PrevPlace links.old) (lent_table W.PrevPlace links.new) (put_in side head p r) (head ∷ r) }
+    ensures empty { IsCircle W.PrevPlace (lent_table W.PrevPlace links.old) (head ∷ []) → result ≡ None }
+    ensures linked { (p : Place) → result ≡ Some p → IsLinked W.is_linked (lent_table W.PrevPlace links.old) p }
+    ensures unlinked { (p : Place) → result ≡ Some p → IsUnlinked W.is_linked (lent_table W.PrevPlace links.new) p }
+    ensures beside { (p : Place) → result ≡ Some p → beside W.PrevPlace side (lent_table W.PrevPlace links.old) head ≡ Some p }
+    ensures touched { (p : Place) → result ≡ Some p → Touches W.is_linked (lent_table W.PrevPlace links.old) (lent_table W.PrevPlace links.new) (releases p ∷ [])
+        (Some p ∷ around W.PrevPlace (lent_table W.PrevPlace links.old) p) }
     ensures refused { result ≡ None → links.new ≡ links.old }
-    ensures extent { (lent_table links.new).extent ≡ (lent_table links.old).extent }
+    ensures extent { (lent_table W.PrevPlace links.new).extent ≡ (lent_table W.PrevPlace links.old).extent }
 {
     let Some(pair) = beside(&*links, side, head) else {
         return None;
@@ -74,19 +72,19 @@ fn next_without(at: Place, next: Place, own: Place) -> Place
 
 // Puts a place where another one stands in a ring, which leaves it, and says whether it could.
 #[inline]
-pub(crate) fn replace(links: &mut RawTable<'_, RawTwo>, at: Place, place: Option<Place>) -> bool
-    ensures replaced { (p : Place) (r : List Place) → place ≡ Some p → IsFree is_linked_two (lent_table links.old) p
-        → IsCircle (lent_table links.old) (at ∷ r)
-        → (result ≡ true) × Makes (lent_table links.old) (lent_table links.new) (p ∷ at ∷ r) (p ∷ r) }
-    ensures free { result ≡ true → (p : Place) × (place ≡ Some p) × IsFree is_linked_two (lent_table links.old) p }
-    ensures unlinked { result ≡ true → IsUnlinked is_linked_two (lent_table links.new) at }
-    ensures before { result ≡ true → (q : Place) × IsTold (lent_table links.old) q at }
-    ensures behind { result ≡ true → (q : Place) × IsTold (lent_table links.old) at q }
+pub(crate) fn replace<W: PrevPlace>(links: &mut RawTable<'_, W>, at: Place, place: Option<Place>) -> bool
+    ensures replaced { (p : Place) (r : List Place) → place ≡ Some p → IsFree W.is_linked (lent_table W.PrevPlace links.old) p
+        → IsCircle W.PrevPlace (lent_table W.PrevPlace links.old) (at ∷ r)
+        → (result ≡ true) × Makes W.PrevPlace (lent_table W.PrevPlace links.old) (lent_table W.PrevPlace links.new) (p ∷ at ∷ r) (p ∷ r) }
+    ensures free { result ≡ true → (p : Place) × (place ≡ Some p) × IsFree W.is_linked (lent_table W.PrevPlace links.old) p }
+    ensures unlinked { result ≡ true → IsUnlinked W.is_linked (lent_table W.PrevPlace links.new) at }
+    ensures before { result ≡ true → (q : Place) × IsTold W.PrevPlace (lent_table W.PrevPlace links.old) q at }
+    ensures behind { result ≡ true → (q : Place) × IsTold W.PrevPlace (lent_table W.PrevPlace links.old) at q }
     ensures touched { (p : Place) → place ≡ Some p → result ≡ true
-        → Touches is_linked_two (lent_table links.old) (lent_table links.new) (acquires p ∷ releases at ∷ [])
-        (Some p ∷ Some at ∷ around (lent_table links.old) at) }
+        → Touches W.is_linked (lent_table W.PrevPlace links.old) (lent_table W.PrevPlace links.new) (acquires p ∷ releases at ∷ [])
+        (Some p ∷ Some at ∷ around W.PrevPlace (lent_table W.PrevPlace links.old) at) }
     ensures refused { result ≡ false → links.new ≡ links.old }
-    ensures extent { (lent_table links.new).extent ≡ (lent_table links.old).extent }
+    ensures extent { (lent_table W.PrevPlace links.new).extent ≡ (lent_table W.PrevPlace links.old).extent }
 {
     let Some(pair) = around(&*links, at) else {
         return false;
@@ -102,25 +100,25 @@ pub(crate) fn replace(links: &mut RawTable<'_, RawTwo>, at: Place, place: Option
 
 // Moves a place, from whichever ring it stands in, to this side of another one, and says whether it could.
 #[inline]
-pub(crate) fn move_beside(
-    links: &mut RawTable<'_, RawTwo>,
+pub(crate) fn move_beside<W: PrevPlace>(
+    links: &mut RawTable<'_, W>,
     side: Side,
     at: Place,
     place: Place,
 ) -> bool
-    ensures apart { (r s : List Place) → IsCircle (lent_table links.old) (place ∷ r) → IsCircle (lent_table links.old) (at ∷ s)
+    ensures apart { (r s : List Place) → IsCircle W.PrevPlace (lent_table W.PrevPlace links.old) (place ∷ r) → IsCircle W.PrevPlace (lent_table W.PrevPlace links.old) (at ∷ s)
         → IsDisjoint (place ∷ r) (at ∷ s)
-        → (result ≡ true) × MakesTwo (lent_table links.old) (lent_table links.new) (place ∷ r ++ at ∷ s) r (put_in side at place s) }
-    ensures within { (r s : List Place) → IsCircle (lent_table links.old) (place ∷ r ++ at ∷ s)
-        → (result ≡ true) × Makes (lent_table links.old) (lent_table links.new) (place ∷ r ++ at ∷ s) (put_in side at place (s ++ r)) }
-    ensures itself { (r : List Place) → at ≡ place → IsCircle (lent_table links.old) (place ∷ r) → (result ≡ true) × (links.new ≡ links.old) }
-    ensures before { result ≡ true → (q : Place) × IsTold (lent_table links.old) q place }
-    ensures behind { result ≡ true → (q : Place) × IsTold (lent_table links.old) place q }
-    ensures linked { result ≡ true → IsLinked is_linked_two (lent_table links.old) at }
-    ensures touched { result ≡ true → Touches is_linked_two (lent_table links.old) (lent_table links.new) []
-        (Some place ∷ around (lent_table links.old) place ++ Some at ∷ beside side (lent_table links.old) at ∷ []) }
+        → (result ≡ true) × MakesTwo W.PrevPlace (lent_table W.PrevPlace links.old) (lent_table W.PrevPlace links.new) (place ∷ r ++ at ∷ s) r (put_in side at place s) }
+    ensures within { (r s : List Place) → IsCircle W.PrevPlace (lent_table W.PrevPlace links.old) (place ∷ r ++ at ∷ s)
+        → (result ≡ true) × Makes W.PrevPlace (lent_table W.PrevPlace links.old) (lent_table W.PrevPlace links.new) (place ∷ r ++ at ∷ s) (put_in side at place (s ++ r)) }
+    ensures itself { (r : List Place) → at ≡ place → IsCircle W.PrevPlace (lent_table W.PrevPlace links.old) (place ∷ r) → (result ≡ true) × (links.new ≡ links.old) }
+    ensures before { result ≡ true → (q : Place) × IsTold W.PrevPlace (lent_table W.PrevPlace links.old) q place }
+    ensures behind { result ≡ true → (q : Place) × IsTold W.PrevPlace (lent_table W.PrevPlace links.old) place q }
+    ensures linked { result ≡ true → IsLinked W.is_linked (lent_table W.PrevPlace links.old) at }
+    ensures touched { result ≡ true → Touches W.is_linked (lent_table W.PrevPlace links.old) (lent_table W.PrevPlace links.new) []
+        (Some place ∷ around W.PrevPlace (lent_table W.PrevPlace links.old) place ++ Some at ∷ beside W.PrevPlace side (lent_table W.PrevPlace links.old) at ∷ []) }
     ensures refused { result ≡ false → links.new ≡ links.old }
-    ensures extent { (lent_table links.new).extent ≡ (lent_table links.old).extent }
+    ensures extent { (lent_table W.PrevPlace links.new).extent ≡ (lent_table W.PrevPlace links.old).extent }
 {
     let Some(from) = around(&*links, place) else {
         return false;
@@ -142,18 +140,18 @@ pub(crate) fn move_beside(
 // Moves all members of a head to this side of a place of another ring, and says whether it could: not beside that head itself, nor behind its
 // last member.
 #[inline]
-pub(crate) fn splice(links: &mut RawTable<'_, RawTwo>, side: Side, at: Place, given: Place) -> bool
-    ensures spliced { (r s : List Place) → IsCircle (lent_table links.old) (at ∷ r) → IsCircle (lent_table links.old) (given ∷ s)
+pub(crate) fn splice<W: PrevPlace>(links: &mut RawTable<'_, W>, side: Side, at: Place, given: Place) -> bool
+    ensures spliced { (r s : List Place) → IsCircle W.PrevPlace (lent_table W.PrevPlace links.old) (at ∷ r) → IsCircle W.PrevPlace (lent_table W.PrevPlace links.old) (given ∷ s)
         → IsDisjoint (at ∷ r) (given ∷ s)
-        → (result ≡ true) × MakesTwo (lent_table links.old) (lent_table links.new) (at ∷ r ++ given ∷ s) (all_put_in side at r s) (given ∷ []) }
-    ensures before { result ≡ true → (q : Place) × IsTold (lent_table links.old) q given }
-    ensures behind { result ≡ true → (q : Place) × IsTold (lent_table links.old) given q }
-    ensures linked { result ≡ true → IsLinked is_linked_two (lent_table links.old) at }
+        → (result ≡ true) × MakesTwo W.PrevPlace (lent_table W.PrevPlace links.old) (lent_table W.PrevPlace links.new) (at ∷ r ++ given ∷ s) (all_put_in side at r s) (given ∷ []) }
+    ensures before { result ≡ true → (q : Place) × IsTold W.PrevPlace (lent_table W.PrevPlace links.old) q given }
+    ensures behind { result ≡ true → (q : Place) × IsTold W.PrevPlace (lent_table W.PrevPlace links.old) given q }
+    ensures linked { result ≡ true → IsLinked W.is_linked (lent_table W.PrevPlace links.old) at }
     ensures other { result ≡ true → at ≢ given }
-    ensures touched { result ≡ true → Touches is_linked_two (lent_table links.old) (lent_table links.new) []
-        (Some given ∷ around (lent_table links.old) given ++ Some at ∷ beside side (lent_table links.old) at ∷ []) }
+    ensures touched { result ≡ true → Touches W.is_linked (lent_table W.PrevPlace links.old) (lent_table W.PrevPlace links.new) []
+        (Some given ∷ around W.PrevPlace (lent_table W.PrevPlace links.old) given ++ Some at ∷ beside W.PrevPlace side (lent_table W.PrevPlace links.old) at ∷ []) }
     ensures refused { result ≡ false → links.new ≡ links.old }
-    ensures extent { (lent_table links.new).extent ≡ (lent_table links.old).extent }
+    ensures extent { (lent_table W.PrevPlace links.new).extent ≡ (lent_table W.PrevPlace links.old).extent }
 {
     let Some(from) = around(&*links, given) else {
         return false;

@@ -5,19 +5,20 @@
 //! links.covers(place) // whether there is such a place
 //! ```
 
-ghost use Rattle.std.specs.Prelude.{◌≡◌, ◌≢◌, ◌↔◌, ◌∷◌, [], Some, None, true, IsTrue};
+ghost use Rattle.std.specs.Prelude.{◌≡◌, ◌≢◌, ◌↔◌, ◌∷◌, ◌<◌, [], length, Some, None, true, IsTrue};
 ghost use Rattle.ic_unsafe_ref.specs.declared.place.Place.{Place};
+ghost use Rattle.ic_unsafe_ref.specs.Places.{index_of};
 ghost use Rattle.ic_link_ops.specs.PlainTables.{table_of};
+ghost use Rattle.ic_link_ops.specs.Widths.{nameable};
 ghost use Rattle.ic_link_ops.specs.Tables.{IsCovered, IsLinked, ChangesOnly};
 ghost use Rattle.ic_raw.specs.declared.status.TheConstants.{OK, NULL};
-ghost use Rattle.ic_raw.specs.Tables.{IsView, IsFree, raw_table, member_fault, place_fault};
+ghost use Rattle.ic_raw.specs.Tables.{IsView, IsFree, raw_entries, nameable_table, member_fault, place_fault};
 ghost use Rattle.ic_raw.specs.Gaps.{Stands};
 ghost use Rattle.ic_raw.specs.Answers.{refusal};
 ghost use Rattle.ic_raw.specs.Words.{place_of};
 
 use crate::number::place_of;
 use crate::status::{BROKEN, LINKED, NONE, NOT_LINKED, OK, OUT_OF_RANGE};
-use crate::words::AllPlaces;
 use ic_link_ops::linked_list::LinkedListOps;
 use ic_link_ops::singly_linked_list::SinglyLinkedListOps;
 use ic_link_ops::xor_linked_list::XorLinkedListOps;
@@ -26,8 +27,8 @@ use ic_unsafe_ref::Place;
 
 /// A view of the words of a table, with one element for each place.
 ///
-/// It has the link traits that its words can keep, as `LentTable` of `ic_link_ops` has over links. Links are a generic type, which does
-/// not cross to C.
+/// Words of 4 bytes have room for the first 536,870,911 places alone. Others are none of the table. It has the link traits that its words
+/// can keep, as `LentTable` of `ic_link_ops` has over links. Links are a generic type, which does not cross to C.
 pub struct RawTable<'a, W> {
     pub(crate) entries: &'a mut [W],
 }
@@ -53,16 +54,17 @@ impl<'a, W> RawTable<'a, W> {
 impl<W: Words> RawTable<'_, W> {
     /// How many places the table has. O(1).
     #[inline]
+    #[tactic(auto, using(ic_link_ops::proofs::WidthLemmas::nameable_count))]
     pub fn places(&self) -> usize
-        ensures { result ≡ (raw_table W.unlinked self.now).extent.places }
+        ensures { result ≡ (nameable_table W.width W.unlinked self.now).extent.places }
     {
-        self.entries.len()
+        W::count_nameable(self.entries.len())
     }
 
     /// Whether `place` is one of the table. O(1).
     #[inline]
     pub fn covers(&self, place: Place) -> bool
-        ensures { IsTrue result ↔ IsCovered (raw_table W.unlinked self.now) place }
+        ensures { IsTrue result ↔ IsCovered (nameable_table W.width W.unlinked self.now) place }
     {
         // An index counts from 0, a word from 1: so stated, the test takes an instruction less.
         place.index() + 1 <= self.places()
@@ -70,18 +72,40 @@ impl<W: Words> RawTable<'_, W> {
 
     // The words of `place`.
     #[inline]
+    #[tactic(auto, using(ic_link_ops::proofs::WidthLemmas::nameable_fits, ic_link_ops::proofs::WidthLemmas::nameable_read))]
     pub(crate) fn at(&self, place: Place) -> &W
-        requires covered { IsCovered (raw_table W.unlinked self.now) place }
-        ensures { result.now ≡ (raw_table W.unlinked self.now).entry place }
+        requires covered { IsCovered (nameable_table W.width W.unlinked self.now) place }
+        ensures { result.now ≡ (nameable_table W.width W.unlinked self.now).entry place }
     {
         let entries = &*self.entries;
         &entries[place.index()]
     }
 
+    // The index of the words of a place.
+    #[inline]
+    #[tactic(auto, using(ic_link_ops::proofs::WidthLemmas::nameable_fits))]
+    fn slot(&self, place: Place) -> usize
+        requires covered { IsCovered (nameable_table W.width W.unlinked self.now) place }
+        ensures value { result ≡ index_of place }
+        ensures within { result < length (raw_entries self.now) }
+    {
+        place.index()
+    }
+
+    // The index of the words of a place that is linked.
+    #[inline]
+    fn slot_of_linked(&self, place: Place) -> usize
+        requires linked { IsLinked W.is_linked (nameable_table W.width W.unlinked self.now) place }
+        ensures value { result ≡ index_of place }
+        ensures within { result < length (raw_entries self.now) }
+    {
+        place.index()
+    }
+
     /// Whether `place` is a linked place of the table. O(1).
     #[inline]
     pub fn is_linked(&self, place: Place) -> bool
-        ensures { result ≡ W.is_linked ((raw_table W.unlinked self.now).entry place) }
+        ensures { result ≡ W.is_linked ((nameable_table W.width W.unlinked self.now).entry place) }
     {
         if !self.covers(place) {
             return false;
@@ -92,7 +116,7 @@ impl<W: Words> RawTable<'_, W> {
     /// Whether `place` is none or a linked place of the table. O(1).
     #[inline]
     pub fn stands(&self, place: Option<Place>) -> bool
-        ensures { (result ≡ true) ↔ Stands W.is_linked (raw_table W.unlinked self.now) place }
+        ensures { (result ≡ true) ↔ Stands W.is_linked (nameable_table W.width W.unlinked self.now) place }
     {
         match place {
             None => true,
@@ -103,11 +127,11 @@ impl<W: Words> RawTable<'_, W> {
     /// Links `place` and gives it, if it is one of the table and not linked. O(1).
     #[inline]
     pub fn acquire(&mut self, place: Option<Place>) -> Option<Place>
-        ensures accepted { (p : Place) → place ≡ Some p → IsFree W.is_linked (raw_table W.unlinked self.old) p → result ≡ Some p }
+        ensures accepted { (p : Place) → place ≡ Some p → IsFree W.is_linked (nameable_table W.width W.unlinked self.old) p → result ≡ Some p }
         ensures same { (p : Place) → result ≡ Some p → place ≡ Some p }
-        ensures free { (p : Place) → result ≡ Some p → IsFree W.is_linked (raw_table W.unlinked self.old) p }
-        ensures linked { (p : Place) → result ≡ Some p → IsLinked W.is_linked (raw_table W.unlinked self.new) p }
-        ensures frame { (p : Place) → result ≡ Some p → ChangesOnly (raw_table W.unlinked self.old) (raw_table W.unlinked self.new) p }
+        ensures free { (p : Place) → result ≡ Some p → IsFree W.is_linked (nameable_table W.width W.unlinked self.old) p }
+        ensures linked { (p : Place) → result ≡ Some p → IsLinked W.is_linked (nameable_table W.width W.unlinked self.new) p }
+        ensures frame { (p : Place) → result ≡ Some p → ChangesOnly (nameable_table W.width W.unlinked self.old) (nameable_table W.width W.unlinked self.new) p }
         ensures refused { result ≡ None → self.new ≡ self.old }
     {
         let place = place?;
@@ -123,7 +147,7 @@ impl<W: Words> RawTable<'_, W> {
     /// [`OK`] where `member` is none or a linked place of the table, else its fault. O(1).
     #[inline]
     pub fn member_fault(&self, member: Option<Place>) -> u32
-        ensures fault { result ≡ member_fault W.is_linked (raw_table W.unlinked self.now) member }
+        ensures fault { result ≡ member_fault W.is_linked (nameable_table W.width W.unlinked self.now) member }
         ensures named { result ≢ NULL }
     {
         let Some(member) = member else {
@@ -142,7 +166,7 @@ impl<W: Words> RawTable<'_, W> {
     /// [`OK`] where `place` is one of the table and not linked, else its fault. O(1).
     #[inline]
     pub fn place_fault(&self, place: Option<Place>) -> u32
-        ensures fault { result ≡ place_fault W.is_linked (raw_table W.unlinked self.now) place }
+        ensures fault { result ≡ place_fault W.is_linked (nameable_table W.width W.unlinked self.now) place }
         ensures named { result ≢ NULL }
     {
         let Some(place) = place else {
@@ -160,7 +184,7 @@ impl<W: Words> RawTable<'_, W> {
     #[cold]
     #[inline(never)]
     pub fn refusal_of(&self, member: Place) -> u32
-        ensures refusal { result ≡ refusal (member_fault W.is_linked (raw_table W.unlinked self.now) (Some member) ∷ []) }
+        ensures refusal { result ≡ refusal (member_fault W.is_linked (nameable_table W.width W.unlinked self.now) (Some member) ∷ []) }
         ensures refused { (result ≢ OK) × (result ≢ NULL) }
     {
         let fault = self.member_fault(Some(member));
@@ -174,7 +198,7 @@ impl<W: Words> RawTable<'_, W> {
     #[cold]
     #[inline(never)]
     pub fn refusal_at(&self, at: u32) -> u32
-        ensures refusal { result ≡ refusal (member_fault W.is_linked (raw_table W.unlinked self.now) (place_of at) ∷ []) }
+        ensures refusal { result ≡ refusal (member_fault W.is_linked (nameable_table W.width W.unlinked self.now) (place_of at) ∷ []) }
         ensures refused { (result ≢ OK) × (result ≢ NULL) }
     {
         let fault = self.member_fault(place_of(at));
@@ -188,8 +212,8 @@ impl<W: Words> RawTable<'_, W> {
     #[cold]
     #[inline(never)]
     pub fn refusal_at_both(&self, one: u32, other: u32) -> u32
-        ensures refusal { result ≡ refusal (member_fault W.is_linked (raw_table W.unlinked self.now) (place_of one)
-            ∷ member_fault W.is_linked (raw_table W.unlinked self.now) (place_of other) ∷ []) }
+        ensures refusal { result ≡ refusal (member_fault W.is_linked (nameable_table W.width W.unlinked self.now) (place_of one)
+            ∷ member_fault W.is_linked (nameable_table W.width W.unlinked self.now) (place_of other) ∷ []) }
         ensures refused { (result ≢ OK) × (result ≢ NULL) }
     {
         let fault = self.member_fault(place_of(one));
@@ -207,8 +231,8 @@ impl<W: Words> RawTable<'_, W> {
     #[cold]
     #[inline(never)]
     pub fn refusal(&self, at: u32, place: u32) -> u32
-        ensures refusal { result ≡ refusal (member_fault W.is_linked (raw_table W.unlinked self.now) (place_of at)
-            ∷ place_fault W.is_linked (raw_table W.unlinked self.now) (place_of place) ∷ []) }
+        ensures refusal { result ≡ refusal (member_fault W.is_linked (nameable_table W.width W.unlinked self.now) (place_of at)
+            ∷ place_fault W.is_linked (nameable_table W.width W.unlinked self.now) (place_of place) ∷ []) }
         ensures refused { (result ≢ OK) × (result ≢ NULL) }
     {
         let fault = self.member_fault(place_of(at));
@@ -229,7 +253,7 @@ impl<W: Words> RawTable<'_, W> {
 #[cold]
 #[inline(never)]
 pub(crate) fn refusal_at_end<W: Words>(words: &mut [W], place: u32) -> u32
-    ensures refusal { result ≡ refusal (place_fault W.is_linked (table_of W.unlinked words.old) (place_of place) ∷ []) }
+    ensures refusal { result ≡ refusal (place_fault W.is_linked (table_of W.unlinked (nameable W.width words.old)) (place_of place) ∷ []) }
     ensures refused { (result ≢ OK) × (result ≢ NULL) }
     ensures kept { words.new ≡ words.old }
 {
@@ -237,29 +261,27 @@ pub(crate) fn refusal_at_end<W: Words>(words: &mut [W], place: u32) -> u32
 }
 
 impl<W: Words> LinkOps for RawTable<'_, W> {
-    ghost use Rattle.ic_unsafe_ref.specs.Places.{index_of};
     ghost use Rattle.ic_link_ops.specs.EntryLaws.{linked_in_range};
     ghost use Rattle.ic_link_ops.specs.LinkSteps.{Replays};
     ghost use Rattle.ic_link_ops.specs.StepLaws.{replays_on};
     ghost use Rattle.std.proofs.Common.{ap, refl};
-    ghost use Rattle.ic_raw.specs.Tables.{raw_entries};
-    ghost use Rattle.std.specs.Prelude.{⊤};
+    ghost use Rattle.ic_link_ops.specs.Widths.{HasRoom, nameable_has_room};
 
     type Entry = W;
 
-    ghost table = { raw_table W.unlinked };
+    ghost table = { nameable_table W.width W.unlinked };
 
     ghost linked = { W.is_linked };
 
-    ghost CanName = { λ p. ⊤ };
+    ghost CanName = { HasRoom W.width };
 
-    ghost Does = { λ old new s. Replays W.is_linked (raw_table W.unlinked old) (raw_table W.unlinked new) s };
+    ghost Does = { λ old new s. Replays W.is_linked (nameable_table W.width W.unlinked old) (nameable_table W.width W.unlinked new) s };
 
-    ghost Refused = { λ old new p. IsLinked W.is_linked (raw_table W.unlinked old) p × (new ≡ old) };
+    ghost Refused = { λ old new p. IsLinked W.is_linked (nameable_table W.width W.unlinked old) p × (new ≡ old) };
 
     #[inline]
     fn acquire_link(&mut self, place: Place) -> bool {
-        let index = place.index();
+        let index = self.slot(place);
         if self.entries[index].is_linked() {
             return false;
         }
@@ -270,24 +292,25 @@ impl<W: Words> LinkOps for RawTable<'_, W> {
 
     #[inline]
     fn release_link(&mut self, place: Place) {
-        let words = &mut self.entries[place.index()];
+        let index = self.slot_of_linked(place);
+        let words = &mut self.entries[index];
         words.unlink();
     }
 
-    ghost linked_is_covered = { λ t p h. linked_in_range W.is_linked W.unlinked W.starts_unlinked (raw_entries t) (index_of p) h };
+    ghost linked_is_covered = { λ t p h. linked_in_range W.is_linked W.unlinked W.starts_unlinked (nameable W.width (raw_entries t)) (index_of p) h };
 
-    ghost covered_has_name = { λ t p covered. tt };
+    ghost covered_has_name = { λ t p covered. nameable_has_room W.width (raw_entries t) p covered };
 
     ghost does_nothing = { λ t q. refl };
 
-    ghost does_on = { λ a b c s t h k. replays_on W.is_linked s t (raw_table W.unlinked a) (raw_table W.unlinked b) (raw_table W.unlinked c) h k };
+    ghost does_on = { λ a b c s t h k. replays_on W.is_linked s t (nameable_table W.width W.unlinked a) (nameable_table W.width W.unlinked b) (nameable_table W.width W.unlinked c) h k };
 
     ghost does_replay = { λ old new s h. h };
 
-    ghost refused_keeps = { λ old new p h. ap (raw_table W.unlinked) h.1 };
+    ghost refused_keeps = { λ old new p h. ap (nameable_table W.width W.unlinked) h.1 };
 }
 
-impl<W: PrevPlace + AllPlaces> LinkedListOps for RawTable<'_, W> {
+impl<W: PrevPlace> LinkedListOps for RawTable<'_, W> {
     ghost use Rattle.std.specs.Prelude.{refl};
     ghost use Rattle.ic_raw.specs.Tables.{neighbors_of};
 
@@ -305,20 +328,22 @@ impl<W: PrevPlace + AllPlaces> LinkedListOps for RawTable<'_, W> {
 
     #[inline]
     fn set_next(&mut self, place: Place, next: Option<Place>) {
-        let words = &mut self.entries[place.index()];
+        let index = self.slot_of_linked(place);
+        let words = &mut self.entries[index];
         words.set_next_word(Word::of(next));
     }
 
     #[inline]
     fn set_prev(&mut self, place: Place, prev: Option<Place>) {
-        let words = &mut self.entries[place.index()];
+        let index = self.slot_of_linked(place);
+        let words = &mut self.entries[index];
         words.set_prev(prev);
     }
 
     ghost linked_alike = { λ e. refl };
 }
 
-impl<W: NextWord + AllPlaces> SinglyLinkedListOps for RawTable<'_, W> {
+impl<W: NextWord> SinglyLinkedListOps for RawTable<'_, W> {
     ghost use Rattle.std.specs.Prelude.{refl};
     ghost use Rattle.ic_raw.specs.Tables.{successor_of};
 
@@ -331,14 +356,15 @@ impl<W: NextWord + AllPlaces> SinglyLinkedListOps for RawTable<'_, W> {
 
     #[inline]
     fn set_next(&mut self, place: Place, next: Option<Place>) {
-        let words = &mut self.entries[place.index()];
+        let index = self.slot_of_linked(place);
+        let words = &mut self.entries[index];
         words.set_next_word(Word::of(next));
     }
 
     ghost linked_alike = { λ e. refl };
 }
 
-impl<W: NextWord + AllPlaces> XorLinkedListOps for RawTable<'_, W> {
+impl<W: NextWord> XorLinkedListOps for RawTable<'_, W> {
     ghost use Rattle.ic_link_ops.specs.XorLaws.{joins_symmetric, joins_one_other, joins_finds_other};
     ghost use Rattle.ic_raw.specs.Tables.{joins_of, other_of};
 
@@ -358,13 +384,15 @@ impl<W: NextWord + AllPlaces> XorLinkedListOps for RawTable<'_, W> {
 
     #[inline]
     fn set(&mut self, place: Place, prev: Option<Place>, next: Option<Place>) {
-        let words = &mut self.entries[place.index()];
+        let index = self.slot_of_linked(place);
+        let words = &mut self.entries[index];
         words.set_next_word(Word::between(prev, next));
     }
 
     #[inline]
     fn replace_next_or_prev(&mut self, place: Place, old: Option<Place>, new: Option<Place>) {
-        let words = &mut self.entries[place.index()];
+        let index = self.slot_of_linked(place);
+        let words = &mut self.entries[index];
         let word = words.next_word();
         words.set_next_word(word.replaced(old, new));
     }

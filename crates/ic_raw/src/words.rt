@@ -4,6 +4,7 @@
 //! ```text
 //! struct ic_link1 { uint64_t next; };
 //! struct ic_link2 { uint64_t next, prev; };
+//! struct ic_link2_32 { uint32_t next, prev; };
 //! struct ic_link3 { uint64_t left, right, parent; };
 //! struct ic_stack { uint64_t head; };
 //! struct ic_list  { uint64_t head, tail; };  /* and struct ic_xor_list */
@@ -18,9 +19,10 @@ ghost use Rattle.ic_raw.specs.Doubly.{ends_of, words_of};
 ghost use Rattle.ic_raw.specs.Singly.{front_of, word_of_front};
 ghost use Rattle.ic_raw.specs.Tree.{root_in, word_of_root};
 
-use crate::number::place_in;
-use ic_link_ops::{NextWord, PrevPlace, Word, Words};
+use crate::number::{narrow_place_in, place_in};
+use ic_link_ops::{NarrowWord, NextWord, PrevPlace, Word, Words};
 use ic_unsafe_ref::Place;
+use std::cmp::min;
 
 /// What a table of singly linked or of XOR lists keeps at a place.
 ///
@@ -38,6 +40,15 @@ pub struct RawOne {
 pub struct RawTwo {
     next: u64,
     prev: u64,
+}
+
+/// What a table of rings keeps at a place whose words have 4 bytes each: those of [`RawTwo`], which fit for each place with an index below
+/// 536,870,911. Places beyond these are out of range.
+#[repr(C)]
+#[derive(Clone, Copy)]
+pub struct RawNarrowTwo {
+    next: u32,
+    prev: u32,
 }
 
 /// What a table of trees keeps at a place: the words for its children and for its parent.
@@ -75,18 +86,6 @@ pub struct RawEnds {
 pub struct RawRoot {
     /// The word for the root, 0 for none.
     pub root: u64,
-}
-
-/// Words that have room for the name of each place.
-pub trait AllPlaces: Words {
-    ghost use Rattle.ic_link_ops.specs.Widths.{HasRoom, CanKeep};
-    ghost use Rattle.ic_unsafe_ref.specs.declared.place.Place.{Place};
-    ghost use Rattle.std.specs.Prelude.{ℕ};
-
-    // The laws.
-    ghost keeps_all: { (n : ℕ) → CanKeep Self.width n };
-
-    ghost names_all: { (p : Place) → HasRoom Self.width p };
 }
 
 impl Words for RawOne {
@@ -131,12 +130,6 @@ impl Words for RawOne {
     }
 
     ghost starts_unlinked = { refl };
-}
-
-impl AllPlaces for RawOne {
-    ghost keeps_all = { λ n. tt };
-
-    ghost names_all = { λ p. tt };
 }
 
 impl NextWord for RawOne {
@@ -203,12 +196,6 @@ impl Words for RawTwo {
     }
 
     ghost starts_unlinked = { refl };
-}
-
-impl AllPlaces for RawTwo {
-    ghost keeps_all = { λ n. tt };
-
-    ghost names_all = { λ p. tt };
 }
 
 impl NextWord for RawTwo {
@@ -285,6 +272,90 @@ impl RawTwo {
     }
 }
 
+impl Words for RawNarrowTwo {
+    ghost use Rattle.ic_raw.specs.Words.{no_narrow_words, is_linked_narrow};
+    ghost use Rattle.std.specs.Prelude.{refl};
+    ghost use Rattle.ic_link_ops.specs.Widths.{narrow};
+
+    ghost unlinked = { no_narrow_words };
+
+    ghost is_linked = { is_linked_narrow };
+
+    ghost width = { narrow };
+
+    #[inline]
+    fn unlinked() -> Self {
+        RawNarrowTwo { next: 0, prev: 0 }
+    }
+
+    #[inline]
+    fn most_places() -> usize {
+        NarrowWord::PLACES
+    }
+
+    #[inline]
+    fn count_nameable(places: usize) -> usize {
+        min(NarrowWord::PLACES, places)
+    }
+
+    #[inline]
+    fn is_linked(&self) -> bool {
+        self.next % 2 == 1
+    }
+
+    #[inline]
+    fn link(&mut self) {
+        self.next = 1;
+    }
+
+    #[inline]
+    fn unlink(&mut self) {
+        self.next = 0;
+    }
+
+    ghost starts_unlinked = { refl };
+}
+
+impl NextWord for RawNarrowTwo {
+    ghost use Rattle.ic_raw.specs.Words.{next_of_narrow, prev_of_narrow, narrow_number_small};
+
+    ghost next_word = { next_of_narrow };
+
+    ghost KeepsOthers = { λ old new. prev_of_narrow new ≡ prev_of_narrow old };
+
+    #[inline]
+    #[tactic(auto, using(crate::proofs::Entries::narrow_number_read))]
+    fn next_word(&self) -> Word {
+        Word::of(narrow_place_in(self.next))
+    }
+
+    #[inline]
+    fn set_next_word(&mut self, word: Word) {
+        self.next = word.bits() as u32 + 1;
+    }
+
+    ghost next_word_kept = { narrow_number_small };
+}
+
+impl PrevPlace for RawNarrowTwo {
+    ghost use Rattle.ic_raw.specs.Words.{prev_of_narrow};
+
+    ghost prev = { prev_of_narrow };
+
+    #[inline]
+    fn prev(&self) -> Option<Place> {
+        narrow_place_in(self.prev)
+    }
+
+    #[inline]
+    #[tactic(auto, using(ic_link_ops::proofs::WidthLemmas::word_kept, crate::proofs::Entries::narrow_place_kept))]
+    fn set_prev(&mut self, place: Option<Place>) {
+        self.prev = Place::to_word(place) as u32;
+    }
+
+    ghost keeps_prev = { λ old new h. h };
+}
+
 impl Words for RawThree {
     ghost use Rattle.ic_raw.specs.Words.{no_tree_words, is_linked_three};
     ghost use Rattle.std.specs.Prelude.{refl};
@@ -331,12 +402,6 @@ impl Words for RawThree {
     }
 
     ghost starts_unlinked = { refl };
-}
-
-impl AllPlaces for RawThree {
-    ghost keeps_all = { λ n. tt };
-
-    ghost names_all = { λ p. tt };
 }
 
 impl RawFront {

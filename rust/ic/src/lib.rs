@@ -97,6 +97,7 @@ mod keyed;
 mod link;
 mod list;
 pub mod ring;
+pub mod ring32;
 mod stack;
 #[cfg(test)]
 mod tests;
@@ -107,7 +108,7 @@ mod xor_list;
 pub use cursor::{Cursor, CursorMut};
 pub use error::Error;
 pub use keyed::{Entry, VacantEntry};
-pub use link::{Link1, Link2, Link3};
+pub use link::{Link1, Link2, Link2x32, Link3};
 pub use list::List;
 pub use stack::Stack;
 pub use tree::{Tree, TreeEnds};

@@ -31,7 +31,13 @@ pub(crate) fn number(place: Option<u32>) -> u32 {
 /// What a read finds in the link of a place: a place of the table, or none if the place is not linked or not in the table.
 #[inline]
 pub(crate) fn read<L: Link>(table: &[L], at: u32, word: impl FnOnce(&L) -> Option<u32>) -> Option<u32> {
-    within(table, table.get(at as usize).and_then(word))
+    within(table, link_of(table, at).and_then(word))
+}
+
+/// The link of a place, if the table has the place.
+#[inline]
+fn link_of<L: Link>(table: &[L], at: u32) -> Option<&L> {
+    table.get(at as usize).filter(|_| (at as usize) < L::PLACES)
 }
 
 /// A place, if the table has it.
@@ -43,13 +49,16 @@ pub(crate) fn within<L>(table: &[L], place: Option<u32>) -> Option<u32> {
 /// A place, if it is a linked one of the table. Iterators end at others.
 #[inline]
 pub(crate) fn member<L: Link>(table: &[L], place: Option<u32>) -> Option<u32> {
-    place.filter(|&place| table.get(place as usize).is_some_and(L::is_linked))
+    place.filter(|&place| link_of(table, place).is_some_and(L::is_linked))
 }
 
 /// A link of any kind.
 pub trait Link: Sized {
     /// What the calls have for it. The link is a transparent wrapper of this.
     type Raw;
+
+    /// How many places a table of such links has at most.
+    const PLACES: usize = usize::MAX;
 
     /// Whether the place is linked.
     fn is_linked(&self) -> bool;
@@ -80,8 +89,12 @@ pub(crate) fn linked<L: Link>(table: &[L], place: u32) -> Result<(), Error> {
 /// What links of all kinds have. The first word has the mark that says whether a place is linked.
 macro_rules! link {
     ($Link:ident, $words:literal, $Raw:ident { $first:ident $(, $word:ident)* }) => {
+        link!($Link, $words, u64, usize::MAX, $Raw { $first $(, $word)* });
+    };
+    ($Link:ident, $words:literal, $Word:ty, $places:expr, $Raw:ident { $first:ident $(, $word:ident)* }) => {
         impl Link for $Link {
             type Raw = $Raw;
+            const PLACES: usize = $places;
 
             #[inline]
             fn is_linked(&self) -> bool {
@@ -97,14 +110,14 @@ macro_rules! link {
             /// whether a table holds it.
             #[inline]
             #[must_use]
-            pub const fn from_words([$first $(, $word)*]: [u64; $words]) -> $Link {
+            pub const fn from_words([$first $(, $word)*]: [$Word; $words]) -> $Link {
                 $Link($Raw { $first $(, $word)* })
             }
 
             /// Returns the words of the link, to be written to a file. They hold no addresses.
             #[inline]
             #[must_use]
-            pub const fn words(&self) -> [u64; $words] {
+            pub const fn words(&self) -> [$Word; $words] {
                 [self.0.$first $(, self.0.$word)*]
             }
 
@@ -117,8 +130,8 @@ macro_rules! link {
 
             // The place that a word of the link names, which is none if the place of the link is not linked.
             #[inline]
-            fn named(&self, word: u64) -> Option<u32> {
-                place(word).filter(|_| self.is_linked())
+            fn named(&self, word: $Word) -> Option<u32> {
+                place(word.into()).filter(|_| self.is_linked())
             }
         }
     };
@@ -127,6 +140,7 @@ macro_rules! link {
 link!(Link1, 1, ic_link1 { next });
 link!(Link2, 2, ic_link2 { next, prev });
 link!(Link3, 3, ic_link3 { left, right, parent });
+link!(Link2x32, 2, u32, 536_870_911, ic_link2_32 { next, prev });
 
 /// What a table of a [`List`](crate::List) has for each place.
 ///
@@ -154,6 +168,38 @@ impl Link2 {
     }
 
     /// Returns the member before this one, and `None` of a place that is not linked, in O(1).
+    #[inline]
+    #[must_use]
+    pub fn prev(&self) -> Option<u32> {
+        self.named(self.0.prev)
+    }
+}
+
+/// What a table of rings has for each place, in words of 4 bytes: half of what [`Link2`] takes, for the places below 536,870,911.
+///
+/// ```
+/// use ic::{ring32, Link2x32};
+///
+/// let mut links = [Link2x32::UNLINKED; 3];
+/// ring32::init(&mut links, 2)?;
+/// ring32::push_back(&mut links, 2, 0)?;
+/// assert_eq!((links[2].next(), links[2].prev()), (Some(0), Some(0)));
+/// assert!(links[0].is_linked() && !links[1].is_linked());
+/// # Ok::<(), ic::Error>(())
+/// ```
+#[repr(transparent)]
+#[derive(Clone, Copy, Debug, Default, PartialEq, Eq, Hash)]
+pub struct Link2x32(pub(crate) ic_link2_32);
+
+impl Link2x32 {
+    /// Returns the place after this one, and `None` of a place that is not linked, in O(1).
+    #[inline]
+    #[must_use]
+    pub fn next(&self) -> Option<u32> {
+        self.named(self.0.next)
+    }
+
+    /// Returns the place before this one, and `None` of a place that is not linked, in O(1).
     #[inline]
     #[must_use]
     pub fn prev(&self) -> Option<u32> {

@@ -2,7 +2,7 @@ use Rattle.std.proofs.Common.{◌≡◌, ◌≢◌, true, ◌+◌, ◌-◌, ◌+
 use Rattle.ic_unsafe_ref.specs.declared.place.Place.{Place}
 use Rattle.ic_link_ops.proofs.SequenceLemmas.{some_same}
 use Rattle.ic_raw.specs.Fills.{IsFreeRun}
-use Rattle.ic_raw.specs.Tables.{raw_table}
+use Rattle.ic_raw.specs.Tables.{nameable_table}
 use Rattle.ic_raw.proofs.Gaps.{never}
 use Rattle.ic_raw.proofs.Lists.{inserted}
 use Rattle.ic_raw.proofs.Runs.{number_small, none_left, not_refused, run_behind, Fills, fills_none, fills_more, fills_all, LinksRun, links_none, links_more, touches_run, turns_run}
@@ -38,9 +38,9 @@ overflow_add-number g c =
 pub loop-left-preserved : goal.loop-left-preserved
 loop-left-preserved g c =
     let linked = g.W.Words.is_linked in
-    let base = raw_table g.W.Words.unlinked c.args.links.now in
-    let old = raw_table g.W.Words.unlinked c.loop-left.links in
-    let new = raw_table g.W.Words.unlinked c.insert_linked.new.links in
+    let base = nameable_table g.W.Words.width g.W.Words.unlinked c.args.links.now in
+    let old = nameable_table g.W.Words.width g.W.Words.unlinked c.loop-left.links in
+    let new = nameable_table g.W.Words.width g.W.Words.unlinked c.insert_linked.new.links in
     let number = c.loop-left.number in
     let p = c.in-Some.place in
     let was = c.loop-left.invariant in
@@ -79,19 +79,19 @@ loop-left-preserved g c =
 pub returns-clause-filled : goal.returns-clause-filled
 returns-clause-filled g c law cut free shown is =
     let was = c.loop-left.invariant.fills law cut free shown is in
-    let t = raw_table g.W.Words.unlinked c.loop-left.links in
+    let t = nameable_table g.W.Words.width g.W.Words.unlinked c.loop-left.links in
     fills_all g.K.ForwardLinks.Between g.K.ListKind.kept cut was.1 (none_left g.W.Words.is_linked t c.loop-left.number c.loop-left.left was.0 (omega (arith, c.loop-left-test.false)))
 
 pub returns-clause-ends : goal.returns-clause-ends
 returns-clause-ends g c free some =
     let was = c.loop-left.invariant.links free in
-    let t = raw_table g.W.Words.unlinked c.loop-left.links in
+    let t = nameable_table g.W.Words.width g.W.Words.unlinked c.loop-left.links in
     let over = none_left g.W.Words.is_linked t c.loop-left.number c.loop-left.left was.0 (omega (arith, c.loop-left-test.false)) in
     turns_run g.W.Words.is_linked g.K.ListKind.kept g.K.ForwardLinks.NamesPrev was.1 over c.args.first c.args.count free.numbered free.counted some
 
 pub returns-clause-touched : goal.returns-clause-touched
 returns-clause-touched g c outermost free =
     let was = c.loop-left.invariant.links free in
-    let t = raw_table g.W.Words.unlinked c.loop-left.links in
+    let t = nameable_table g.W.Words.width g.W.Words.unlinked c.loop-left.links in
     let over = none_left g.W.Words.is_linked t c.loop-left.number c.loop-left.left was.0 (omega (arith, c.loop-left-test.false)) in
     touches_run g.W.Words.is_linked g.K.ListKind.kept g.K.ForwardLinks.NamesPrev was.1 over outermost

@@ -4,7 +4,7 @@ use Rattle.ic_link_ops.specs.Sequences.{Cut, join}
 use Rattle.ic_link_ops.specs.Chains.{ShowsChain}
 use Rattle.ic_raw.specs.Fills.{IsFreeRun}
 use Rattle.ic_raw.specs.Gaps.{Stands, gap_of}
-use Rattle.ic_raw.specs.Tables.{raw_table}
+use Rattle.ic_raw.specs.Tables.{nameable_table}
 use Rattle.ic_raw.proofs.Runs.{Fills, LinksRun}
 use Rattle.ic_raw.proofs.fill.link_run.Given as goal
 
@@ -12,17 +12,17 @@ use Rattle.ic_raw.proofs.fill.link_run.Given as goal
 abbrev pub invariant-loop-left : goal.invariant-loop-left
 invariant-loop-left g l = record {
   small : l.number < 4294967296;
-  extent : (raw_table g.W.Words.unlinked l.links).extent ≡ (raw_table g.W.Words.unlinked l.fn.links).extent;
-  before : Stands g.W.Words.is_linked (raw_table g.W.Words.unlinked l.links) l.before;
-  behind : Stands g.W.Words.is_linked (raw_table g.W.Words.unlinked l.links) l.fn.gap.behind;
-  links : (free : IsFreeRun g.W.Words.is_linked (raw_table g.W.Words.unlinked l.fn.links) l.fn.first l.fn.count)
-      → (rest : IsFreeRun g.W.Words.is_linked (raw_table g.W.Words.unlinked l.links) l.number l.left)
-      × LinksRun g.W.Words.is_linked g.K.ListKind.kept g.K.ForwardLinks.NamesPrev (raw_table g.W.Words.unlinked l.fn.links) (raw_table g.W.Words.unlinked l.links) l.fn.list l.list
+  extent : (nameable_table g.W.Words.width g.W.Words.unlinked l.links).extent ≡ (nameable_table g.W.Words.width g.W.Words.unlinked l.fn.links).extent;
+  before : Stands g.W.Words.is_linked (nameable_table g.W.Words.width g.W.Words.unlinked l.links) l.before;
+  behind : Stands g.W.Words.is_linked (nameable_table g.W.Words.width g.W.Words.unlinked l.links) l.fn.gap.behind;
+  links : (free : IsFreeRun g.W.Words.is_linked (nameable_table g.W.Words.width g.W.Words.unlinked l.fn.links) l.fn.first l.fn.count)
+      → (rest : IsFreeRun g.W.Words.is_linked (nameable_table g.W.Words.width g.W.Words.unlinked l.links) l.number l.left)
+      × LinksRun g.W.Words.is_linked g.K.ListKind.kept g.K.ForwardLinks.NamesPrev (nameable_table g.W.Words.width g.W.Words.unlinked l.fn.links) (nameable_table g.W.Words.width g.W.Words.unlinked l.links) l.fn.list l.list
       l.fn.gap l.before free.run rest.run;
-  fills : ((e : g.row.W.Denot) (b a : Option Place) → g.K.ForwardLinks.Between e b a → g.W.Words.is_linked e ≡ true) → (cut : Cut) (free : IsFreeRun g.W.Words.is_linked (raw_table g.W.Words.unlinked l.fn.links) l.fn.first l.fn.count)
-      → ShowsChain g.K.ForwardLinks.Between g.K.ListKind.kept (raw_table g.W.Words.unlinked l.fn.links) l.fn.list (join cut) → l.fn.gap ≡ gap_of cut
-      → (rest : IsFreeRun g.W.Words.is_linked (raw_table g.W.Words.unlinked l.links) l.number l.left)
-      × Fills g.K.ForwardLinks.Between g.K.ListKind.kept (raw_table g.W.Words.unlinked l.fn.links) (raw_table g.W.Words.unlinked l.links) l.list cut l.before free.run rest.run;
+  fills : ((e : g.row.W.Denot) (b a : Option Place) → g.K.ForwardLinks.Between e b a → g.W.Words.is_linked e ≡ true) → (cut : Cut) (free : IsFreeRun g.W.Words.is_linked (nameable_table g.W.Words.width g.W.Words.unlinked l.fn.links) l.fn.first l.fn.count)
+      → ShowsChain g.K.ForwardLinks.Between g.K.ListKind.kept (nameable_table g.W.Words.width g.W.Words.unlinked l.fn.links) l.fn.list (join cut) → l.fn.gap ≡ gap_of cut
+      → (rest : IsFreeRun g.W.Words.is_linked (nameable_table g.W.Words.width g.W.Words.unlinked l.links) l.number l.left)
+      × Fills g.K.ForwardLinks.Between g.K.ListKind.kept (nameable_table g.W.Words.width g.W.Words.unlinked l.fn.links) (nameable_table g.W.Words.width g.W.Words.unlinked l.links) l.list cut l.before free.run rest.run;
 }
 
 abbrev pub decreases-loop-left : goal.decreases-loop-left

@@ -1,20 +1,20 @@
 use Rattle.std.proofs.Common.{◌+◌, ◌-◌, ◌∷◌, sym, ap, ◌∙◌, arith}
 use Rattle.ic_raw.specs.Fills.{run_faults, first_fault}
-use Rattle.ic_raw.specs.Tables.{raw_table, place_fault}
+use Rattle.ic_raw.specs.Tables.{nameable_table, place_fault}
 use Rattle.ic_raw.specs.Words.{place_of}
 use Rattle.ic_raw.proofs.Runs.{number_small, faults_left, free_of}
 use Rattle.ic_raw.proofs.fill.run_fault.Goals as goal
 
 pub overflow_add-number : goal.overflow_add-number
 overflow_add-number g c =
-    let t = raw_table g.W.Words.unlinked c.args.links.now in
+    let t = nameable_table g.W.Words.width g.W.Words.unlinked c.args.links.now in
     let is = c.place_fault-fault.ensures.fault ∙ ap (λ p. place_fault g.W.Words.is_linked t p) c.place_of.ensures in
     let one = free_of g.W.Words.is_linked t (place_of c.loop-left.number) (sym is ∙ c.if-fault-ne-OK.false) in
     omega (arith, number_small c.loop-left.number one.0 one.1 c.loop-left.invariant.small)
 
 pub loop-left-preserved : goal.loop-left-preserved
 loop-left-preserved g c =
-    let t = raw_table g.W.Words.unlinked c.args.links.now in
+    let t = nameable_table g.W.Words.width g.W.Words.unlinked c.args.links.now in
     let fault = place_fault g.W.Words.is_linked t in
     let number = c.loop-left.number in
     let is = c.place_fault-fault.ensures.fault ∙ ap (λ p. place_fault g.W.Words.is_linked t p) c.place_of.ensures in

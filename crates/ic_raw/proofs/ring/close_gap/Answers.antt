@@ -1,34 +1,48 @@
 use Rattle.std.proofs.Common.{Some, ap, ◌∙◌}
 use Rattle.ic_link_ops.proofs.DoublyLists.{next_turns, prev_turns}
 use Rattle.ic_ring.proofs.Circles.{circle_closed}
-use Rattle.ic_raw.specs.Doubly.{neighbors}
+use Rattle.ic_raw.specs.LinkWords.{neighbors}
 use Rattle.ic_raw.proofs.Rings.{keeps_next, keeps_prev}
+use Rattle.ic_raw.proofs.LinkViews.{link_words, linked_has_room}
 use Rattle.ic_raw.proofs.ring.close_gap.Goals as goal
 
+pub set_next-requires-clause-next : goal.set_next-requires-clause-next
+set_next-requires-clause-next g c =
+    let words = link_words g.W.Words g.W.NextWord g.W.PrevPlace in
+    linked_has_room words g.met.W.Words.starts_unlinked c.args.links.now c.args.behind c.requires.behind
+
+pub set_prev-requires-clause-prev : goal.set_prev-requires-clause-prev
+set_prev-requires-clause-prev g c =
+    let words = link_words g.W.Words g.W.NextWord g.W.PrevPlace in
+    linked_has_room words g.met.W.Words.starts_unlinked c.args.links.now c.args.before c.requires.before
+
 pub returns-clause-closed : goal.returns-clause-closed
-returns-clause-closed c p r circle before behind =
+returns-clause-closed g c p r circle before behind =
+    let words = link_words g.W.Words g.W.NextWord g.W.PrevPlace in
     circle_closed p r circle
-    (rw (before, behind) at (next_turns {n = neighbors} (Some p) c.set_next.ensures.frame c.set_next.ensures.set))
-    (rw (before, behind) at (prev_turns {n = neighbors} (Some p) c.set_prev.ensures.frame c.set_prev.ensures.set))
+    (rw (before, behind) at (next_turns {n = neighbors words} (Some p) c.set_next.ensures.frame c.set_next.ensures.set))
+    (rw (before, behind) at (prev_turns {n = neighbors words} (Some p) c.set_prev.ensures.frame c.set_prev.ensures.set))
 
 pub returns-clause-others : goal.returns-clause-others
-returns-clause-others c q before behind = c.set_prev.ensures.frame.others q behind ∙ c.set_next.ensures.frame.others q before
+returns-clause-others g c q before behind = c.set_prev.ensures.frame.others q behind ∙ c.set_next.ensures.frame.others q before
 
 pub returns-clause-joined : goal.returns-clause-joined
-returns-clause-joined c =
+returns-clause-joined g c =
+    let words = link_words g.W.Words g.W.NextWord g.W.PrevPlace in
     let before = c.args.before in
     let behind = c.args.behind in
     record {
       linked = c.set_prev.ensures.no_step before ∙ c.set_next.ensures.no_step before ∙ c.requires.before;
-      next = keeps_next c.set_prev.ensures.frame c.set_prev.ensures.set before ∙ ap (λ x. x.next) c.set_next.ensures.set;
+      next = keeps_next words c.set_prev.ensures.frame c.set_prev.ensures.set before ∙ ap (λ x. x.next) c.set_next.ensures.set;
       stands = c.set_prev.ensures.no_step behind ∙ c.set_next.ensures.no_step behind ∙ c.requires.behind;
       prev = ap (λ x. x.prev) c.set_prev.ensures.set;
     }
 
 pub returns-clause-told : goal.returns-clause-told
-returns-clause-told c x y from to k = record {
+returns-clause-told g c x y from to k =
+    let words = link_words g.W.Words g.W.NextWord g.W.PrevPlace in record {
   linked = c.set_prev.ensures.no_step x ∙ c.set_next.ensures.no_step x ∙ k.linked;
-  next = keeps_next c.set_prev.ensures.frame c.set_prev.ensures.set x ∙ ap (λ e. (neighbors e).next) (c.set_next.ensures.frame.others x from) ∙ k.next;
+  next = keeps_next words c.set_prev.ensures.frame c.set_prev.ensures.set x ∙ ap (λ e. (neighbors words e).next) (c.set_next.ensures.frame.others x from) ∙ k.next;
   stands = c.set_prev.ensures.no_step y ∙ c.set_next.ensures.no_step y ∙ k.stands;
-  prev = ap (λ e. (neighbors e).prev) (c.set_prev.ensures.frame.others y to) ∙ keeps_prev c.set_next.ensures.frame c.set_next.ensures.set y ∙ k.prev;
+  prev = ap (λ e. (neighbors words e).prev) (c.set_prev.ensures.frame.others y to) ∙ keeps_prev words c.set_next.ensures.frame c.set_next.ensures.set y ∙ k.prev;
 }

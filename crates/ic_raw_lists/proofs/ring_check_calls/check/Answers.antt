@@ -1,5 +1,6 @@
 use Rattle.std.proofs.Common.{◌≡◌, sym, ◌∙◌, rules}
 use Rattle.ic_link_ops.proofs.SequenceLemmas.{none_not, some_same}
+use Rattle.ic_raw.specs.LinkWords.{wide_words}
 use Rattle.ic_raw.proofs.Rings.{circle_viewed}
 use Rattle.ic_raw_lists.proofs.RingViews.{circle_back}
 use Rattle.ic_raw_lists.proofs.ring_check_calls.check.Goals as goal
@@ -20,7 +21,7 @@ returns-in_default-count_members c = record {
   shown = search rules;
   not_shown = λ refused s shown.
       let one : shown.0 ≡ c.in-Some.place = some_same (sym shown.1 ∙ sym c.place_of.ensures ∙ c.in-Some.is) in
-      (rw c.in_default-count_members.is at c.count_members.ensures) s (record { circle = circle_viewed c.new-links.result c.new-links.ensures.1 (rw one at shown.2); out = tt });
+      (rw c.in_default-count_members.is at c.count_members.ensures) s (record { circle = circle_viewed wide_words c.new-links.result c.new-links.ensures.1 (rw one at shown.2); out = tt });
   null = search rules;
   refused = search rules;
   same = search rules;

@@ -2,6 +2,7 @@ use Rattle.std.proofs.Common.{◌≢◌, Some, ◌∷◌, ◌++◌, ◌+◌, eq-
 use Rattle.ic_unsafe_ref.specs.Places.{word_of}
 use Rattle.ic_link_ops.proofs.SequenceLemmas.{none_not}
 use Rattle.ic_ring.proofs.Circles.{rotated, tested_same, tested_other}
+use Rattle.ic_raw.specs.LinkWords.{wide_words}
 use Rattle.ic_raw.specs.declared.gap.Side.TheVariants.{After}
 use Rattle.ic_raw.specs.Doubly.{lent_table, neighbors}
 use Rattle.ic_raw.specs.Ring.{IsCircle, IsTold}
@@ -29,14 +30,14 @@ pub returns-in_default : goal.returns-in_default
 returns-in_default c s ring =
     let k = c.loop-count.invariant.0 in
     let rest = k.leads s ring.circle in
-    let turned = rotated {n = neighbors} k.passed (c.loop-count.at ∷ rest.0) (subst (IsCircle (lent_table c.args.links.now)) rest.1 ring.circle) in
-    let x = circle_tells (lent_table c.args.links.now) (rest.0 ++ k.passed) turned After in
+    let turned = rotated {n = neighbors} k.passed (c.loop-count.at ∷ rest.0) (subst (IsCircle wide_words (lent_table c.args.links.now)) rest.1 ring.circle) in
+    let x = circle_tells wide_words (lent_table c.args.links.now) (rest.0 ++ k.passed) turned After in
     none_not x.0 (sym c.in_default.is ∙ c.beside.ensures.tells x.0 x.1 x.2)
 
 pub returns-then-eq : goal.returns-then-eq
 returns-then-eq c =
     let told = c.beside.ensures.told c.in-Some.pair c.in-Some.is in
-    let here : IsTold (lent_table c.args.links.now) c.loop-count.at c.in-Some.pair.1 = rw told.1 at told.0 in
+    let here : IsTold wide_words (lent_table c.args.links.now) c.loop-count.at c.in-Some.pair.1 = rw told.1 at told.0 in
     let k = c.loop-count.invariant.0 in
     let found = passes_all neighbors k here.linked here.next here.prev (tested_same _ _ (sym c.eq.ensures ∙ c.if-eq.true)) in
     let other : c.args.apart ≢ Some c.loop-count.at = λ e. c.if-to_word.false (c.to_word.ensures.value ∙ ap word_of e ∙ sym c.to_word-in-loop-count.ensures.value) in
@@ -47,7 +48,7 @@ returns-then-eq c =
 pub loop-count-preserved : goal.loop-count-preserved
 loop-count-preserved c =
     let told = c.beside.ensures.told c.in-Some.pair c.in-Some.is in
-    let here : IsTold (lent_table c.args.links.now) c.loop-count.at c.in-Some.pair.1 = rw told.1 at told.0 in
+    let here : IsTold wide_words (lent_table c.args.links.now) c.loop-count.at c.in-Some.pair.1 = rw told.1 at told.0 in
     let k = c.loop-count.invariant.0 in
     let other : c.args.apart ≢ Some c.loop-count.at = λ e. c.if-to_word.false (c.to_word.ensures.value ∙ ap word_of e ∙ sym c.to_word-in-loop-count.ensures.value) in
     let more = passes_more neighbors k here.linked here.next here.prev (tested_other _ _ (sym c.eq.ensures ∙ c.if-eq.false)) refl in

@@ -1,15 +1,23 @@
 use Rattle.std.proofs.Common.{refl}
 use Rattle.ic_link_ops.proofs.EntryLemmas.{prev_set}
-use Rattle.ic_raw.specs.Tables.{neighbors_of}
-use Rattle.ic_raw.proofs.Entries.{says_written, changes_only}
+use Rattle.ic_link_ops.proofs.SeenEntries.{says_kept}
+use Rattle.ic_raw.specs.Tables.{raw_entries, neighbors_of}
+use Rattle.ic_raw.proofs.Entries.{changes_seen, seen_covered, seen_written}
 use Rattle.ic_raw.proofs.table.RawTableLinkedListOps.set_prev.Goals as goal
 
 pub returns-clause-set : goal.returns-clause-set
 returns-clause-set g c =
-    says_written g.W.Words.is_linked _ g.met.W.Words.starts_unlinked (neighbors_of g.W.NextWord.next_word g.W.Words.is_linked g.W.PrevPlace.prev) (λ r. record r { prev = c.args.prev }) _ _ _ _ _ _
-    c.index.ensures.value c.requires.linked refl
+    seen_written g.W.Words.width g.W.Words.unlinked g.W.Words.is_linked g.met.W.Words.starts_unlinked (neighbors_of g.W.NextWord.next_word g.W.Words.is_linked g.W.PrevPlace.prev) (λ r. record r { prev = c.args.prev })
+    (raw_entries c.args.self.now) c.args.place _ _ _ c.slot_of_linked-index.result c.slot_of_linked-index.ensures.value c.requires.linked refl
     (prev_set g.W.NextWord.next_word g.W.Words.is_linked g.W.PrevPlace.prev _ c.set_prev.new.self _
     c.set_prev.ensures.linked c.set_prev.ensures.next_word c.set_prev.ensures.set)
 
 pub returns-clause-frame : goal.returns-clause-frame
-returns-clause-frame g c = changes_only _ _ _ _ _ c.index.ensures.value
+returns-clause-frame g c =
+    changes_seen g.W.Words.width _ _ _ _ _ c.slot_of_linked-index.ensures.value
+    (seen_covered g.W.Words.width g.W.Words.unlinked g.W.Words.is_linked g.met.W.Words.starts_unlinked (raw_entries c.args.self.now) c.args.place c.requires.linked)
+
+pub returns-clause-no_step : goal.returns-clause-no_step
+returns-clause-no_step g c =
+    let covered = seen_covered g.W.Words.width g.W.Words.unlinked g.W.Words.is_linked g.met.W.Words.starts_unlinked (raw_entries c.args.self.now) c.args.place c.requires.linked in
+    says_kept g.W.Words.width g.W.Words.unlinked g.W.Words.is_linked (raw_entries c.args.self.now) c.args.place _ _ _ c.slot_of_linked-index.result c.slot_of_linked-index.ensures.value covered refl c.set_prev.ensures.linked

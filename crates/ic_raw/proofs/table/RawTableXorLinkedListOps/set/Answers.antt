@@ -1,5 +1,34 @@
-use Rattle.ic_raw.proofs.Entries.{changes_only}
+use Rattle.std.proofs.Common.{refl, ◌∙◌, ap}
+use Rattle.ic_link_ops.proofs.SeenEntries.{entry_set, says_kept}
+use Rattle.ic_link_ops.proofs.WidthLemmas.{word_kept, xor_kept}
+use Rattle.ic_raw.specs.Tables.{raw_entries}
+use Rattle.ic_raw.proofs.Entries.{changes_seen, seen_covered, seen_linked}
 use Rattle.ic_raw.proofs.table.RawTableXorLinkedListOps.set.Goals as goal
 
+pub set_next_word-requires-clause-linked : goal.set_next_word-requires-clause-linked
+set_next_word-requires-clause-linked g c =
+    seen_linked g.W.Words.width g.W.Words.unlinked g.W.Words.is_linked g.met.W.Words.starts_unlinked (raw_entries c.args.self.now) c.args.place _ _ c.slot_of_linked-index.result
+    c.slot_of_linked-index.ensures.value c.requires.linked refl
+
+pub set_next_word-requires-clause-kept : goal.set_next_word-requires-clause-kept
+set_next_word-requires-clause-kept g c =
+    rw c.between.ensures (xor_kept g.W.Words.width _ _ (word_kept g.W.Words.width c.args.prev c.requires.prev) (word_kept g.W.Words.width c.args.next c.requires.next))
+
 pub returns-clause-frame : goal.returns-clause-frame
-returns-clause-frame g c = changes_only _ _ _ _ _ c.index.ensures.value
+returns-clause-frame g c =
+    changes_seen g.W.Words.width _ _ _ _ _ c.slot_of_linked-index.ensures.value
+    (seen_covered g.W.Words.width g.W.Words.unlinked g.W.Words.is_linked g.met.W.Words.starts_unlinked (raw_entries c.args.self.now) c.args.place c.requires.linked)
+
+pub returns-clause-no_step : goal.returns-clause-no_step
+returns-clause-no_step g c =
+    let covered = seen_covered g.W.Words.width g.W.Words.unlinked g.W.Words.is_linked g.met.W.Words.starts_unlinked (raw_entries c.args.self.now) c.args.place c.requires.linked in
+    says_kept g.W.Words.width g.W.Words.unlinked g.W.Words.is_linked (raw_entries c.args.self.now) c.args.place _ _ _ c.slot_of_linked-index.result c.slot_of_linked-index.ensures.value covered refl c.set_next_word.ensures.linked
+
+pub returns-clause-set : goal.returns-clause-set
+returns-clause-set g c =
+    let covered = seen_covered g.W.Words.width g.W.Words.unlinked g.W.Words.is_linked g.met.W.Words.starts_unlinked (raw_entries c.args.self.now) c.args.place c.requires.linked in
+    ap g.W.NextWord.next_word (entry_set g.W.Words.width g.W.Words.unlinked (raw_entries c.args.self.now) c.args.place _ c.slot_of_linked-index.result c.slot_of_linked-index.ensures.value covered)
+    ∙ c.set_next_word.ensures.set ∙ c.between.ensures
+
+pub returns-clause-linked : goal.returns-clause-linked
+returns-clause-linked g c = returns-clause-no_step g c c.args.place ∙ c.requires.linked

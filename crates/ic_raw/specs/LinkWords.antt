@@ -1,0 +1,69 @@
+-- Words of doubly linked places, of 8 bytes or of 4, and tables over them.
+use Rattle.std.specs.Prelude.{◌≡◌, ℕ, Bool, List, Option}
+use Rattle.ic_unsafe_ref.specs.declared.place.Place.{Place}
+use Rattle.ic_link_ops.specs.Tables.{Table}
+use Rattle.ic_link_ops.specs.LinkedList.{Neighbors}
+use Rattle.ic_link_ops.specs.PlainTables as plain
+use Rattle.ic_link_ops.specs.Widths.{Width, wide, narrow, nameable}
+use Rattle.ic_raw.specs.declared.words.RawTwo.{RawTwo}
+use Rattle.ic_raw.specs.declared.words.RawNarrowTwo.{RawNarrowTwo}
+use Rattle.ic_raw.specs.declared.table.RawTable.{RawTable}
+use Rattle.ic_raw.specs.Tables.{nameable_table, neighbors_of, IsFree, member_fault, place_fault}
+use Rattle.ic_raw.specs.Words.{no_words, is_linked_two, next_of_two, prev_of_two, no_narrow_words, is_linked_narrow, next_of_narrow, prev_of_narrow}
+
+-- WHAT THE WORDS OF A PLACE SAY: the members of their trait `PrevPlace`
+abbrev pub LinkWords : Type 0 → Type 1
+LinkWords W = record {
+  unlinked : W;
+  is_linked : W → Bool;
+  width : Width;
+  next_word : W → ℕ;
+  KeepsOthers : W → W → Type 0;
+  prev : W → Option Place;
+}
+
+-- two words of 8 bytes
+abbrev pub wide_words : LinkWords RawTwo
+wide_words = record {
+  unlinked = no_words;
+  is_linked = is_linked_two;
+  width = wide;
+  next_word = next_of_two;
+  KeepsOthers = λ old new. prev_of_two new ≡ prev_of_two old;
+  prev = prev_of_two;
+}
+
+-- and two of 4 bytes
+abbrev pub narrow_words : LinkWords RawNarrowTwo
+narrow_words = record {
+  unlinked = no_narrow_words;
+  is_linked = is_linked_narrow;
+  width = narrow;
+  next_word = next_of_narrow;
+  KeepsOthers = λ old new. prev_of_narrow new ≡ prev_of_narrow old;
+  prev = prev_of_narrow;
+}
+
+module _ {W : Type 0} (words : LinkWords W) where
+  -- between which places an entry stands
+  abbrev pub neighbors : W → Neighbors
+  neighbors = neighbors_of words.next_word words.is_linked words.prev
+
+  -- A TABLE OF THE PLACES FOR WHICH THE WORDS HAVE ROOM: the first ones of a caller's words, as many as words of this width can name
+  abbrev pub table_of : List W → Table W
+  table_of es = plain.table_of words.unlinked (nameable words.width es)
+
+  -- and the same of those that are lent
+  abbrev pub lent_table : RawTable W → Table W
+  lent_table = nameable_table words.width words.unlinked
+
+  -- the place is free in the table of these words
+  abbrev pub FreeIn : List W → Place → Type 0
+  FreeIn es = IsFree words.is_linked (table_of es)
+
+  -- the fault of a member that is named, and of a place that is to go in
+  abbrev pub fault_at : List W → Option Place → ℕ
+  fault_at es = member_fault words.is_linked (table_of es)
+
+  abbrev pub fault_of : List W → Option Place → ℕ
+  fault_of es = place_fault words.is_linked (table_of es)
