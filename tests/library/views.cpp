@@ -573,24 +573,28 @@ void step(ended &it) {
 
 // ---- Rings ---------------------------------------------------------------------------------------------------------------------------
 
-/// Two rings, whose heads are the last places of the table, beside lists of the standard library.
+/// Two rings, whose heads are the last places of the table, beside lists of the standard library. Those of words of 4 bytes have no checks, sorts
+/// and merges.
+template <class View, class Reads, class Link>
 struct rings {
-    std::vector<ic_link2> table = std::vector<ic_link2>(places + 2);
+    static constexpr bool is_wide = std::is_same_v<View, ic::ring_view>;
+    std::vector<Link> table = std::vector<Link>(places + 2);
     std::list<std::uint32_t> plain[2];
 
     rings() {
         expect(view().init(head(0)) == ic::status::ok && view().init(head(1)) == ic::status::ok, "a ring is not opened");
     }
     static std::uint32_t head(int which) { return places + static_cast<std::uint32_t>(which); }
-    ic::ring_view view() { return {table}; }
+    View view() { return {table}; }
 
     void check() {
         for (int which : {0, 1}) {
-            const ic::const_ring_members reads = ic::const_ring_view(table).members(head(which));
+            const auto reads = Reads(table).members(head(which));
             expect(std::equal(reads.begin(), reads.end(), plain[which].begin(), plain[which].end()), "a loop over a ring has other members");
             expect(std::equal(reads.rbegin(), reads.rend(), plain[which].rbegin(), plain[which].rend()), "a loop back over a ring has other members");
             expect(reads.iterator_to(head(which)) == reads.end(), "a head is a member of its ring");
-            expect(reads.check() == plain[which].size() && view().check(head(which)) == reads.check(), "a check counts other members of a ring");
+            if constexpr (is_wide)
+                expect(reads.check() == plain[which].size() && view().check(head(which)) == reads.check(), "a check counts other members of a ring");
             auto member = plain[which].begin();
             view().for_each(head(which), [&](std::uint32_t place) { expect(place == *member++, "a ring has another member"); });
             expect(member == plain[which].end() && view().empty(head(which)) == plain[which].empty(), "a ring has other members");
@@ -600,10 +604,11 @@ struct rings {
 };
 
 /// Two members of a ring change their places, or all from one on go to the front of the other ring, or to its back.
-void swap_or_move(rings &it, int which, std::list<std::uint32_t>::iterator member) {
-    const ic::ring_view view = it.view();
+template <class Rings>
+void swap_or_move(Rings &it, int which, std::list<std::uint32_t>::iterator member) {
+    const auto view = it.view();
     auto &plain = it.plain[which], &other = it.plain[1 - which];
-    const std::uint32_t head = rings::head(1 - which);
+    const std::uint32_t head = Rings::head(1 - which);
     if (member == plain.end())
         return;
     switch (below(3)) {
@@ -622,10 +627,11 @@ void swap_or_move(rings &it, int which, std::list<std::uint32_t>::iterator membe
 }
 
 /// Sorts the members of a head, and merges those of the other one into them, as the standard library does.
-void sort(rings &it, int which) {
-    const ic::ring_view view = it.view();
+template <class Rings>
+void sort(Rings &it, int which) {
+    const auto view = it.view();
     const std::vector<std::uint64_t> keys = some_keys(places + 2);
-    const std::uint32_t head = rings::head(which), other = rings::head(1 - which);
+    const std::uint32_t head = Rings::head(which), other = Rings::head(1 - which);
     const auto is_less = [&](std::uint32_t one, std::uint32_t two) { return keys[one] < keys[two]; };
     made(view.sort({keys.data(), keys.size() - 1}, head), ic::status::out_of_range);
     made(view.members(ic::none).sort(keys), ic::status::null);
@@ -639,11 +645,13 @@ void sort(rings &it, int which) {
         it.plain[which].merge(it.plain[1 - which], is_less);
 }
 
-void step(rings &it) {
+template <class View, class Reads, class Link>
+void step(rings<View, Reads, Link> &it) {
+    using Rings = rings<View, Reads, Link>;
     const int which = static_cast<int>(below(2));
-    const ic::ring_view view = it.view();
+    const auto view = it.view();
     auto &plain = it.plain[which], &other = it.plain[1 - which];
-    const std::uint32_t place = below(places), head = rings::head(which);
+    const std::uint32_t place = below(places), head = Rings::head(which);
     const ic::status linking = to_link(view, place);
     const auto member = std::next(plain.begin(), below(static_cast<std::uint32_t>(plain.size()) + 1));
     switch (below(9)) {
@@ -654,11 +662,11 @@ void step(rings &it) {
             *member = place;
         break;
     case 3:
-        if (member != plain.end() && made(view.move_after(rings::head(1 - which), *member), ic::status::ok))
+        if (member != plain.end() && made(view.move_after(Rings::head(1 - which), *member), ic::status::ok))
             other.splice(other.begin(), plain, member);
         break;
     case 4:
-        if (below(4) == 0 && made(view.splice_before(member == plain.end() ? head : *member, rings::head(1 - which)), ic::status::ok))
+        if (below(4) == 0 && made(view.splice_before(member == plain.end() ? head : *member, Rings::head(1 - which)), ic::status::ok))
             plain.splice(member, other);
         break;
     case 5:
@@ -672,7 +680,7 @@ void step(rings &it) {
         }
         break;
     case 6: {
-        const ic::ring_members members = view.members(head);
+        const auto members = view.members(head);
         const auto at = member == plain.end() ? members.end() : members.iterator_to(*member);
         if (below(2)) {
             if (made(members.insert(at, place), linking))
@@ -681,7 +689,10 @@ void step(rings &it) {
             plain.erase(member);
         break;
     }
-    case 7: sort(it, which); break;
+    case 7:
+        if constexpr (Rings::is_wide)
+            sort(it, which);
+        break;
     default:
         if (made(below(2) ? view.insert_before(member == plain.end() ? head : *member, place)
                           : view.insert_after(member == plain.begin() ? head : *std::prev(member), place), linking))
@@ -888,10 +899,12 @@ int main(int count, char **words) {
     lists<ic::xor_view> both;
     trees sorted;
     ended kept;
-    rings circles;
+    rings<ic::ring_view, ic::const_ring_view, ic_link2> circles;
+    rings<ic::ring32_view, ic::const_ring32_view, ic_link2_32> narrow_circles;
     chains hashed;
     while (edits < wanted) {
         step(circles);
+        step(narrow_circles);
         step(hashed);
         step(doubly);
         step(singly);

@@ -38,7 +38,7 @@ mod tree_move_calls;
 mod xor_calls;
 
 pub use ic_raw::{
-    BROKEN, LINKED, NONE, NOT_LINKED, NULL, OK, OUT_OF_RANGE, RawEnds, RawFront, RawNarrowTwo, RawOne, RawRoot,
-    RawThree, RawTwo,
+    BROKEN, LINKED, NONE, NOT_LINKED, NULL, OK, OUT_OF_RANGE, RawEnds, RawFront, RawNarrowTwo,
+    RawOne, RawRoot, RawThree, RawTwo,
 };
 pub use ic_raw_keyed::RawTreeEnds;

@@ -69,7 +69,11 @@ pub extern "C" fn ic_ring32_exchange(table: &mut [RawNarrowTwo], one: u32, other
 
 /// Takes the first member of a head out, and hands its number out. O(1).
 #[unsafe(no_mangle)]
-pub extern "C" fn ic_ring32_pop_front(table: &mut [RawNarrowTwo], head: u32, popped: &mut u32) -> u32
+pub extern "C" fn ic_ring32_pop_front(
+    table: &mut [RawNarrowTwo],
+    head: u32,
+    popped: &mut u32,
+) -> u32
     ensures { PopCall narrow_words table.old table.new result popped.old popped.new After (place_of head) }
 {
     ring_calls::pop(table, Side::After, head, popped)

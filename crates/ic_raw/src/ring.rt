@@ -17,8 +17,8 @@ ghost use Rattle.ic_raw.specs.Touches.{Touches};
 
 use crate::gap::Side;
 use crate::table::RawTable;
-use ic_link_ops::{LinkOps, PrevPlace};
 use ic_link_ops::linked_list::LinkedListOps;
+use ic_link_ops::{LinkOps, PrevPlace};
 use ic_ring::{bypass, turn_to};
 use ic_unsafe_ref::Place;
 
@@ -27,7 +27,11 @@ pub type Pair = (Place, Place);
 
 // The two places, where the words tell that the second stands behind the first: both are linked, and each names the other.
 #[inline]
-fn pair<W: PrevPlace>(links: &RawTable<'_, W>, before: Option<Place>, behind: Option<Place>) -> Option<Pair>
+fn pair<W: PrevPlace>(
+    links: &RawTable<'_, W>,
+    before: Option<Place>,
+    behind: Option<Place>,
+) -> Option<Pair>
     ensures told { (x : Place × Place) → result ≡ Some x → IsTold W.PrevPlace (lent_table W.PrevPlace links.now) x.0 x.1 × (before ≡ Some x.0) × (behind ≡ Some x.1) }
     ensures tells { (x : Place × Place) → before ≡ Some x.0 → behind ≡ Some x.1 → IsTold W.PrevPlace (lent_table W.PrevPlace links.now) x.0 x.1 → result ≡ Some x }
 {
@@ -92,7 +96,10 @@ pub(crate) fn is_alone<W: PrevPlace>(links: &RawTable<'_, W>, place: Place) -> b
 
 // Makes a circle of the place alone, and gives it, if it is one of the table and not linked.
 #[inline]
-pub(crate) fn close<W: PrevPlace>(links: &mut RawTable<'_, W>, place: Option<Place>) -> Option<Place>
+pub(crate) fn close<W: PrevPlace>(
+    links: &mut RawTable<'_, W>,
+    place: Option<Place>,
+) -> Option<Place>
     ensures accepted { (p : Place) → place ≡ Some p → IsFree W.is_linked (lent_table W.PrevPlace links.old) p → result ≡ Some p }
     ensures free { (p : Place) → result ≡ Some p → (place ≡ Some p) × IsFree W.is_linked (lent_table W.PrevPlace links.old) p }
     ensures circle { (p : Place) → result ≡ Some p → IsCircle W.PrevPlace (lent_table W.PrevPlace links.new) (p ∷ []) }

@@ -19,8 +19,8 @@ ghost use Rattle.ic_raw.specs.Touches.{Touches};
 use crate::gap::Side;
 use crate::ring::{Pair, around, beside, close_gap, cross, link_between, remove};
 use crate::table::RawTable;
-use ic_link_ops::{LinkOps, PrevPlace};
 use ic_link_ops::linked_list::LinkedListOps;
+use ic_link_ops::{LinkOps, PrevPlace};
 use ic_unsafe_ref::Place;
 
 // Of two neighbors the one that stands on this side of the other.
@@ -36,7 +36,11 @@ fn neighbor_on(side: Side, pair: Pair) -> Place
 
 // Takes out the place that stands on this side of a head, and gives it: none where the head stands alone, or in no ring.
 #[inline]
-pub(crate) fn pop<W: PrevPlace>(links: &mut RawTable<'_, W>, side: Side, head: Place) -> Option<Place>
+pub(crate) fn pop<W: PrevPlace>(
+    links: &mut RawTable<'_, W>,
+    side: Side,
+    head: Place,
+) -> Option<Place>
     ensures popped { (p : Place) (r : List Place) → IsCircle W.PrevPlace (lent_table W.PrevPlace links.old) (put_in side head p r)
         → (result ≡ Some p) × Makes W.PrevPlace (lent_table W.PrevPlace links.old) (lent_table W.PrevPlace links.new) (put_in side head p r) (head ∷ r) }
     ensures empty { IsCircle W.PrevPlace (lent_table W.PrevPlace links.old) (head ∷ []) → result ≡ None }
@@ -72,7 +76,11 @@ fn next_without(at: Place, next: Place, own: Place) -> Place
 
 // Puts a place where another one stands in a ring, which leaves it, and says whether it could.
 #[inline]
-pub(crate) fn replace<W: PrevPlace>(links: &mut RawTable<'_, W>, at: Place, place: Option<Place>) -> bool
+pub(crate) fn replace<W: PrevPlace>(
+    links: &mut RawTable<'_, W>,
+    at: Place,
+    place: Option<Place>,
+) -> bool
     ensures replaced { (p : Place) (r : List Place) → place ≡ Some p → IsFree W.is_linked (lent_table W.PrevPlace links.old) p
         → IsCircle W.PrevPlace (lent_table W.PrevPlace links.old) (at ∷ r)
         → (result ≡ true) × Makes W.PrevPlace (lent_table W.PrevPlace links.old) (lent_table W.PrevPlace links.new) (p ∷ at ∷ r) (p ∷ r) }
@@ -140,7 +148,12 @@ pub(crate) fn move_beside<W: PrevPlace>(
 // Moves all members of a head to this side of a place of another ring, and says whether it could: not beside that head itself, nor behind its
 // last member.
 #[inline]
-pub(crate) fn splice<W: PrevPlace>(links: &mut RawTable<'_, W>, side: Side, at: Place, given: Place) -> bool
+pub(crate) fn splice<W: PrevPlace>(
+    links: &mut RawTable<'_, W>,
+    side: Side,
+    at: Place,
+    given: Place,
+) -> bool
     ensures spliced { (r s : List Place) → IsCircle W.PrevPlace (lent_table W.PrevPlace links.old) (at ∷ r) → IsCircle W.PrevPlace (lent_table W.PrevPlace links.old) (given ∷ s)
         → IsDisjoint (at ∷ r) (given ∷ s)
         → (result ≡ true) × MakesTwo W.PrevPlace (lent_table W.PrevPlace links.old) (lent_table W.PrevPlace links.new) (at ∷ r ++ given ∷ s) (all_put_in side at r s) (given ∷ []) }

@@ -41,8 +41,8 @@ returns-clause-joined g c =
 pub returns-clause-told : goal.returns-clause-told
 returns-clause-told g c x y from to k =
     let words = link_words g.W.Words g.W.NextWord g.W.PrevPlace in record {
-  linked = c.set_prev.ensures.no_step x ∙ c.set_next.ensures.no_step x ∙ k.linked;
-  next = keeps_next words c.set_prev.ensures.frame c.set_prev.ensures.set x ∙ ap (λ e. (neighbors words e).next) (c.set_next.ensures.frame.others x from) ∙ k.next;
-  stands = c.set_prev.ensures.no_step y ∙ c.set_next.ensures.no_step y ∙ k.stands;
-  prev = ap (λ e. (neighbors words e).prev) (c.set_prev.ensures.frame.others y to) ∙ keeps_prev words c.set_next.ensures.frame c.set_next.ensures.set y ∙ k.prev;
-}
+      linked = c.set_prev.ensures.no_step x ∙ c.set_next.ensures.no_step x ∙ k.linked;
+      next = keeps_next words c.set_prev.ensures.frame c.set_prev.ensures.set x ∙ ap (λ e. (neighbors words e).next) (c.set_next.ensures.frame.others x from) ∙ k.next;
+      stands = c.set_prev.ensures.no_step y ∙ c.set_next.ensures.no_step y ∙ k.stands;
+      prev = ap (λ e. (neighbors words e).prev) (c.set_prev.ensures.frame.others y to) ∙ keeps_prev words c.set_next.ensures.frame c.set_next.ensures.set y ∙ k.prev;
+    }

@@ -1,4 +1,4 @@
-use Rattle.std.proofs.Common.{◌≡◌, Some, [], ◌∷◌, refl, sym, ◌∙◌}
+use Rattle.std.proofs.Common.{◌≡◌, Some, [], ◌∷◌, sym, ◌∙◌}
 use Rattle.ic_link_ops.specs.Sequences.{last}
 use Rattle.ic_link_ops.proofs.DoublyLists.{next_turns, prev_turns}
 use Rattle.ic_link_ops.proofs.SequenceLemmas.{absent_left, absent_right, none_not, some_same}

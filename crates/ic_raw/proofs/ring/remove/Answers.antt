@@ -1,6 +1,6 @@
-use Rattle.std.proofs.Common.{◌≡◌, refl, sym, ◌∙◌}
+use Rattle.std.proofs.Common.{refl, ◌∙◌}
 use Rattle.ic_ring.proofs.Circles.{circle_taken, circle_beside, ring_frame}
-use Rattle.ic_raw.specs.LinkWords.{lent_table, neighbors}
+use Rattle.ic_raw.specs.LinkWords.{neighbors}
 use Rattle.ic_raw.proofs.Rings.{apart_around, some_there}
 use Rattle.ic_raw.proofs.Touches.{other_place, unlinks_last}
 use Rattle.ic_raw.proofs.LinkViews.{link_words}

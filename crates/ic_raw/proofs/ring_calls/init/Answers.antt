@@ -7,15 +7,15 @@ use Rattle.ic_raw.proofs.ring_calls.init.Goals as goal
 pub returns-in_default : goal.returns-in_default
 returns-in_default g c =
     let words = link_words g.W.Words g.W.NextWord g.W.PrevPlace in record {
-  opened = λ h is_head free.
-      let got = c.close.ensures.accepted h (c.place_of.ensures ∙ is_head) (free_viewed words c.new-links.result c.new-links.ensures.1 free) in
-      absurd (none_not h (sym c.in_default.is ∙ got));
-  free = search rules;
-  no_place = search rules;
-  refused = search rules;
-  why = search rules;
-  is_status = search rules;
-}
+      opened = λ h is_head free.
+          let got = c.close.ensures.accepted h (c.place_of.ensures ∙ is_head) (free_viewed words c.new-links.result c.new-links.ensures.1 free) in
+          absurd (none_not h (sym c.in_default.is ∙ got));
+      free = search rules;
+      no_place = search rules;
+      refused = search rules;
+      why = search rules;
+      is_status = search rules;
+    }
 
 pub returns : goal.returns
 returns g c =

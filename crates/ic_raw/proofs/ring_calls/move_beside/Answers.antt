@@ -1,11 +1,10 @@
-use Rattle.std.proofs.Common.{◌≡◌, Some, [], ◌∷◌, ◌++◌, refl, sym, ap, subst, ◌∙◌, rules}
+use Rattle.std.proofs.Common.{◌≡◌, Some, [], ◌∷◌, ◌++◌, refl, sym, subst, ◌∙◌, rules}
 use Rattle.ic_link_ops.specs.Sequences.{IsDisjoint}
-use Rattle.ic_link_ops.proofs.SequenceLemmas.{none_not, some_same}
+use Rattle.ic_link_ops.proofs.SequenceLemmas.{some_same}
 use Rattle.ic_raw.specs.LinkWords.{lent_table, table_of}
-use Rattle.ic_raw.specs.Ring.{IsCircle, Makes, MakesTwo, around, put_in, all_put_in}
-use Rattle.ic_raw.proofs.Gaps.{never}
+use Rattle.ic_raw.specs.Ring.{IsCircle, Makes, MakesTwo, around, put_in}
 use Rattle.ic_raw.proofs.Rings.{circle_viewed, makes_back, makes_two_back, linked_back, amid_back, same_back, touched_words, beside_back}
-use Rattle.ic_raw.proofs.LinkViews.{link_words, free_viewed, unlinked_back}
+use Rattle.ic_raw.proofs.LinkViews.{link_words}
 use Rattle.ic_raw.proofs.ring_calls.move_beside.Goals as goal
 
 pub returns : goal.returns

@@ -1,11 +1,9 @@
-use Rattle.std.proofs.Common.{◌≡◌, ◌≢◌, Some, [], ◌∷◌, ◌++◌, refl, sym, ap, ◌∙◌}
-use Rattle.ic_unsafe_ref.specs.declared.place.Place.{Place}
+use Rattle.std.proofs.Common.{◌∷◌, ◌++◌, refl, sym, ◌∙◌}
 use Rattle.ic_link_ops.specs.Sequences.{IsAbsent}
-use Rattle.ic_link_ops.proofs.SequenceLemmas.{absent_left, absent_right, absent_turned, disjoint_cons, disjoint_sym, none_not, some_same}
+use Rattle.ic_link_ops.proofs.SequenceLemmas.{absent_left, absent_right, absent_turned, disjoint_cons, disjoint_sym, none_not}
 use Rattle.ic_ring.proofs.Circles.{circle_taken, next_not, prev_not, rotated, tested_same, tested_other}
 use Rattle.ic_ring.proofs.OtherRings.{circle_stays}
 use Rattle.ic_raw.specs.LinkWords.{lent_table, neighbors}
-use Rattle.ic_raw.specs.Ring.{Makes, MakesTwo}
 use Rattle.ic_raw.proofs.Rings.{apart_around, apart_beside, circle_tells, neighbor_not, not_beside, own_linked, stays_told, put_already, some_there}
 use Rattle.ic_raw.proofs.Touches.{other_place}
 use Rattle.ic_raw.proofs.LinkViews.{link_words}

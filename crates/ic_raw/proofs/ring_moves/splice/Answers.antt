@@ -1,9 +1,8 @@
-use Rattle.std.proofs.Common.{◌≡◌, ◌≢◌, Some, None, [], ◌∷◌, ◌++◌, refl, sym, ap, subst, ◌∙◌}
+use Rattle.std.proofs.Common.{◌≡◌, ◌≢◌, None, [], ◌∷◌, refl, sym, ap, subst, ◌∙◌}
 use Rattle.ic_unsafe_ref.specs.declared.place.Place.{Place}
 use Rattle.ic_link_ops.proofs.SequenceLemmas.{IsOutside, absent_both, absent_left, absent_right, disjoint_right, disjoint_sym, last_outside, none_not, some_same}
 use Rattle.ic_ring.proofs.Circles.{circle_beside, circle_taken, last_some, next_not, prev_not, tested_same, tested_other}
 use Rattle.ic_ring.proofs.OtherRings.{circle_stays}
-use Rattle.ic_raw.specs.declared.gap.Side.TheVariants.{After, Before}
 use Rattle.ic_raw.specs.LinkWords.{lent_table, neighbors}
 use Rattle.ic_raw.proofs.Rings.{apart_around, apart_beside, circle_tells, not_beside, own_linked, some_there, stands_alone, splices_elsewhere, before_gap, from_gap, last_before, disjoint_gap, absent_gap, all_put, none_put, absent_all}
 use Rattle.ic_raw.proofs.Touches.{other_place}

@@ -9,8 +9,10 @@ use Rattle.ic_raw.proofs.table.RawTableXorLinkedListOps.replace_next_or_prev.Goa
 
 pub next_word-word-requires : goal.next_word-word-requires
 next_word-word-requires g c =
-    record { linked = seen_linked g.W.Words.width g.W.Words.unlinked g.W.Words.is_linked g.met.W.Words.starts_unlinked (raw_entries c.args.self.now) c.args.place _ _ c.slot_of_linked-index.result
-    c.slot_of_linked-index.ensures.value c.requires.linked refl }
+    record {
+      linked = seen_linked g.W.Words.width g.W.Words.unlinked g.W.Words.is_linked g.met.W.Words.starts_unlinked (raw_entries c.args.self.now) c.args.place _ _ c.slot_of_linked-index.result
+          c.slot_of_linked-index.ensures.value c.requires.linked refl;
+    }
 
 pub set_next_word-requires-clause-linked : goal.set_next_word-requires-clause-linked
 set_next_word-requires-clause-linked g c =
