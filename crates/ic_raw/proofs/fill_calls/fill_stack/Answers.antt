@@ -38,7 +38,7 @@ returns-then-status-ne-OK c = record {
         let view = c.new-links.ensures.1 in
         let gap = (gap_same c.new-links.result view c.stack_of-edited.ensures {at = None} refl).1 ((λ q e. absurd (none_not q e)), told.1) in
         absurd (c.if-status-ne-OK.true (c.fill-status.ensures.accepted (run_viewed is_linked_one no_word c.new-links.result view told.0)
-            (λ none. none_not _ (sym none ∙ c.gap_after-gap.ensures.found gap))))),
+        (λ none. none_not _ (sym none ∙ c.gap_after-gap.ensures.found gap))))),
   );
   own = search rules;
   touched = search rules;

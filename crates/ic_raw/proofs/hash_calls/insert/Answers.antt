@@ -25,8 +25,7 @@ returns c = record {
       (rw (chain_written c.args.buckets.now c.args.hash c.in-Some.at slot.0 c.push_front.new.list slot.1) put.shows) put.frame;
   accepted =
       let slot = c.slot.ensures.slot c.in-Some.at c.in-Some.is in
-      let chain = chain_read c.args.buckets.now c.args.hash c.in-Some.at slot.0 _ slot.1 in
-      (
+      let chain = chain_read c.args.buckets.now c.args.hash c.in-Some.at slot.0 _ slot.1 in (
         (λ ok.
             let told = c.push_front.ensures.accepted.0 ok in
             (omega (arith, slot.1), told.0, subst (λ w. StandsIn c.args.table.now (front_of w)) (sym chain) told.1.1)),

@@ -96,13 +96,13 @@ pub returns-in-AtLeast-clause-bounded : goal.returns-in-AtLeast-clause-bounded
 returns-in-AtLeast-clause-bounded c q is =
     let turned = rw c.in-Some.is at c.descend.ensures.turned in
     rw c.in-AtLeast.is (sym (ap (λ side. goes_left side (against c.args.key c.args.keys.now q)) (c.equals_of.ensures ∙ ap equals_of c.in-AtLeast.is))
-        ∙ turned.back q (sym c.get-in-AtLeast.ensures ∙ some_same is))
+    ∙ turned.back q (sym c.get-in-AtLeast.ensures ∙ some_same is))
 
 pub returns-in-AtMost-clause-bounded : goal.returns-in-AtMost-clause-bounded
 returns-in-AtMost-clause-bounded c q is =
     let turned = rw c.in-Some.is at c.descend.ensures.turned in
     rw c.in-AtMost.is (at_least _ (sym (ap (λ side. goes_left side (against c.args.key c.args.keys.now q)) (c.equals_of.ensures ∙ ap equals_of c.in-AtMost.is))
-        ∙ turned.front q (sym c.get-in-AtMost.ensures ∙ some_same is)))
+    ∙ turned.front q (sym c.get-in-AtMost.ensures ∙ some_same is)))
 
 pub returns-then-is_eq-clause-within : goal.returns-then-is_eq-clause-within
 returns-then-is_eq-clause-within c S h =

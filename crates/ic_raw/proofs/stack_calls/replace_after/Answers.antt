@@ -115,9 +115,9 @@ returns c = record {
   null = search rules;
   accepted = (
     (λ ok. (
-        (free_same no_word c.new-links.result c.new-links.ensures.1 c.place_of-2.ensures).0 (c.replace.ensures.accepted.0 c.if-not-replace.false),
-        (member_same c.new-links.result c.new-links.ensures.1 c.stack_of-edited.ensures c.place_of.ensures).0 (member_told (lent_table c.new-links.result) c.stack_of-edited.result (c.gap_after.ensures.told _ c.in-Some.is) (c.gap_after.ensures.is _ c.in-Some.is) c.in-Some-behind.is),
-      )),
+      (free_same no_word c.new-links.result c.new-links.ensures.1 c.place_of-2.ensures).0 (c.replace.ensures.accepted.0 c.if-not-replace.false),
+      (member_same c.new-links.result c.new-links.ensures.1 c.stack_of-edited.ensures c.place_of.ensures).0 (member_told (lent_table c.new-links.result) c.stack_of-edited.result (c.gap_after.ensures.told _ c.in-Some.is) (c.gap_after.ensures.is _ c.in-Some.is) c.in-Some-behind.is),
+    )),
     (λ told. refl),
   );
   own = λ made.
