@@ -27,7 +27,7 @@ struct Party<'c> {
     ghost fresh: { spent_by holder ≡ 0 },
 }
 
-// Owns all places, lends them in turn, and at the end says how many it still has.
+// Owns all places, lends them in turn, and gives each eighth back to itself. At the end it says how many it still has.
 fn give_out(stacks: &Stacks, holder: Holder) -> usize
     requires made { IsOf stacks.now holder }
     requires two { 1 < stacks_of stacks.now }
@@ -41,8 +41,10 @@ fn give_out(stacks: &Stacks, holder: Holder) -> usize
     }
     let workers = stacks.stacks() - 1;
     for turn in 0..TURNS {
-        if let Some(place) = owner.take(stacks) {
-            owner.lend(stacks, 1 + turn % workers, place);
+        match owner.take(stacks) {
+            Some(place) if turn % 8 == 7 => owner.give_back(stacks, place),
+            Some(place) => owner.lend(stacks, 1 + turn % workers, place),
+            None => {}
         }
     }
     let mut left: usize = 0;

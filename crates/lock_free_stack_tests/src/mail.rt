@@ -62,6 +62,7 @@ fn receive_some(
     let mut indexes = Vec::new(alloc);
     for _ in 0..turns {
         if let Some(place) = receiver.receive(stacks) {
+            receiver.give_up(stacks, place);
             indexes.push(place.index())?;
         }
     }

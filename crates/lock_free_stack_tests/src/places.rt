@@ -1,12 +1,17 @@
 //! Places that are claimed and pushed, and those that are taken and given up.
 
-ghost use Rattle.std.specs.Prelude.{◌≡◌, ◌<◌, ◌≤◌, ◌+◌, List};
+ghost use Rattle.std.specs.Prelude.{◌≡◌, ◌<◌, ◌≤◌, ◌+◌, All, List, OnOk, map, vec_len};
 ghost use Rattle.ic_unsafe_ref.specs.declared.place.Place.{Place};
 ghost use Rattle.ic_unsafe_ref.specs.Places.{index_of};
-ghost use Rattle.ic_lock_free_stack.specs.Holders.{places_of, stacks_of, spent_by, IsOf, HasChain};
+ghost use Rattle.ic_lock_free_stack.specs.declared.step.Entry.{Entry};
+ghost use Rattle.ic_lock_free_stack.specs.Holders.{places_of, stacks_of, holders_of, party_of, spent_by, IsOf, HasChain};
+ghost use Rattle.lock_free_stack_tests.specs.Emptied.{IsEmptied};
 
-use ic_lock_free_stack::{Chain, Holder, Stacks};
+use ic_lock_free_stack::{
+    Chain, Holder, Stacks, calls_go_in_turn, history_laws, nothing_is_lost, places_come_in_order,
+};
 use ic_unsafe_ref::Place;
+use stack_uses::mailbox::mail_comes_in_order;
 use std::alloc::AllocError;
 
 /// Claims the place with that index and pushes it, and says whether it did.
@@ -94,6 +99,28 @@ pub fn take(
 {
     let taken = stacks.take_all(holder, stack);
     give_up(stacks, holder, taken, indexes)
+}
+
+/// Takes all that a stack still has, between two audits of all holders: by the laws, what was pushed to it was taken then.
+pub fn empty_out(stacks: &Stacks, holders: &mut Vec<Holder>, stack: usize) -> Result<(), AllocError>
+    requires stack { stack < stacks_of stacks.now }
+    requires made { All (λ h. IsOf stacks.now h × (spent_by h < 1000000000)) holders.old.items }
+    requires all { vec_len holders.old ≡ holders_of stacks.now }
+    requires some { 0 < vec_len holders.old }
+    ensures emptied { OnOk result ((order : List Entry) × IsEmptied stack order (map party_of holders.new.items)) }
+    ensures made { OnOk result (All (λ h. IsOf stacks.now h) holders.new.items) }
+{
+    stacks.audit(holders);
+    let mut last = holders.pop().unwrap(); // proved: there is one
+    let _ = stacks.take_all(&mut last, stack);
+    holders.push(last)?;
+    stacks.audit(holders);
+    calls_go_in_turn(); // so no step was made beside that of the last one,
+    history_laws(); // and it left the stack empty
+    nothing_is_lost();
+    places_come_in_order();
+    mail_comes_in_order();
+    Ok(())
 }
 
 // Gives up the places of a chain, and appends their indexes in order.

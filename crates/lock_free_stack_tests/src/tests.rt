@@ -1,6 +1,6 @@
 use crate::frees::come_back;
 use crate::mail::deliver;
-use crate::places::{put, put_pair, take, take_in_order};
+use crate::places::{empty_out, put, put_pair, take, take_in_order};
 use crate::threads::share;
 use ic_lock_free_stack::Stacks;
 use ic_unsafe_ref::Place;
@@ -47,6 +47,9 @@ fn a_chain_is_pushed_at_once(rt: HostRuntime) -> Result<(), Fail> {
     assert!(rt; !put_pair(&stacks, &mut holder, 0, front, back));
     take(&stacks, &mut holder, 0, &mut got)?;
     assert!(rt; got.as_slice() == [2, 4, 1].as_slice());
+    assert!(rt; put(&stacks, &mut holder, 0, 3));
+    holders.push(holder)?;
+    empty_out(&stacks, &mut holders, 0)?;
     Ok(())
 }
 

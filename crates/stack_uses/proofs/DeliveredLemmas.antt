@@ -1,6 +1,6 @@
 -- What was sent in threads was received: no claim was refused, and what came of each sender is what it was to send.
 use Rattle.std.proofs.Common.{◌≡◌, ◌≢◌, ℕ, zero, suc, ◌+◌, ◌*◌, ◌/◌, ◌-◌, ◌<◌, ◌≤◌, eqb, Bool, true, false, true≢false, cond, ◌||◌, ◌&&◌, ◌⊎◌, inl, inr, List, [], ◌∷◌, ◌++◌, map, length, length-append, get_or, reverse, All, Contains, refl, sym, ap, ◌∙◌, subst, arith, append-nil, eq-eqb, ne_eqb, ⊎_elim, le_refl}
-use Rattle.std.specs.List.{range_with_len}
+use Rattle.std.specs.List.{range_with_len, IsDistinct}
 use Rattle.std.proofs.lemmas.Bool.{or_left, or_right}
 use Rattle.std.proofs.lemmas.List.{map-append, length-map}
 use Rattle.std.proofs.lemmas.Nat.{div-mul-add, mul-le}
@@ -393,26 +393,27 @@ at_both (z ∷ l) x y (suc i) a b e f = ⊎_elim
 abbrev label : Party → ℕ
 label x = x.name
 
+-- the last of the holders has made one step more, and no other has
+pub one_on : (xs : List Party) (x y : Party) (e : Step) → IsDistinct eqb (map (λ (u : Party). u.name) (xs ++ x ∷ [])) → y.name ≡ x.name → y.steps ≡ x.steps ++ e ∷ [] → OneStepOn (xs ++ x ∷ []) (xs ++ y ∷ []) x.name e
+one_on xs x y e apart named gained = record {
+  names = map-append label xs (y ∷ []) ∙ (ap (λ n. map label xs ++ n ∷ []) named ∙ sym (map-append label xs (x ∷ [])));
+  there = contains_at label (xs ++ x ∷ []) (length xs) x (at_last xs x);
+  steps = λ i a b ata atb. ⊎_elim
+      (λ t. subst (λ (u : Party). b.steps ≡ cond (eqb x.name u.name) (u.steps ++ e ∷ []) u.steps) t.1.0
+      (subst (λ (u : Party). u.steps ≡ cond (eqb x.name x.name) (x.steps ++ e ∷ []) x.steps) t.1.1
+      (gained ∙ sym (ap (λ c. cond c (x.steps ++ e ∷ []) x.steps) (eq-eqb x.name x.name refl)))))
+      (λ t. ap (λ (u : Party). u.steps) t.1 ∙ sym (ap (λ c. cond c (a.steps ++ e ∷ []) a.steps)
+      (ne_eqb x.name a.name (λ f. named_apart label (xs ++ x ∷ []) (length xs) i x a apart (at_last xs x) ata t.0 (sym f)))))
+      (at_both xs x y i a b ata atb);
+}
+
 module _ (xs : List Party) (x y : Party) (s : List Place) (order new last : List Entry) (was : IsHistory order (xs ++ x ∷ [])) (is : IsHistory last (xs ++ y ∷ [])) (named : y.name ≡ x.name)
     (gained : y.steps ≡ x.steps ++ TakeAll 0 s ∷ []) (goes : GoesOn x.name order (TakeAll 0 s) new) (seen : IsSeen new last) where
   abbrev step : Step
   step = TakeAll 0 s
 
-  one_on : OneStepOn (xs ++ x ∷ []) (xs ++ y ∷ []) x.name step
-  one_on = record {
-    names = map-append label xs (y ∷ []) ∙ (ap (λ n. map label xs ++ n ∷ []) named ∙ sym (map-append label xs (x ∷ [])));
-    there = contains_at label (xs ++ x ∷ []) (length xs) x (at_last xs x);
-    steps = λ i a b ata atb. ⊎_elim
-        (λ t. subst (λ (u : Party). b.steps ≡ cond (eqb x.name u.name) (u.steps ++ step ∷ []) u.steps) t.1.0
-        (subst (λ (u : Party). u.steps ≡ cond (eqb x.name x.name) (x.steps ++ step ∷ []) x.steps) t.1.1
-        (gained ∙ sym (ap (λ c. cond c (x.steps ++ step ∷ []) x.steps) (eq-eqb x.name x.name refl)))))
-        (λ t. ap (λ (u : Party). u.steps) t.1 ∙ sym (ap (λ c. cond c (a.steps ++ step ∷ []) a.steps)
-        (ne_eqb x.name a.name (λ f. named_apart label (xs ++ x ∷ []) (length xs) i x a was.named (at_last xs x) ata t.0 (sym f)))))
-        (at_both xs x y i a b ata atb);
-  }
-
   emptied : stack_after last 0 ≡ []
-  emptied = ap (λ o. stack_after o 0) (in_turn order new last (xs ++ x ∷ []) (xs ++ y ∷ []) x.name step was goes seen is one_on) ∙ take_more order x.name 0 s
+  emptied = ap (λ o. stack_after o 0) (in_turn order new last (xs ++ x ∷ []) (xs ++ y ∷ []) x.name step was goes seen is (one_on xs x y step was.named named gained)) ∙ take_more order x.name 0 s
 
   module _ (count : ℕ) (sent_by : SentBy 0 count xs) (takes : OnlyTakes y.steps) where
     abbrev takes_none : Party → Type 0
