@@ -1,5 +1,10 @@
 //! Calls of a scheduler of numbers and what they answer, as values.
 
+ghost use Rattle.std.specs.Prelude.{◌≡◌, ◌≢◌, ◌∷◌, ℕ, List};
+ghost use Rattle.ic_unsafe_ref.specs.declared.place.Place.{Place};
+ghost use Rattle.ic_link_ops.specs.Sequences.{IsAbsent};
+ghost use Rattle.scheduler.specs.Schedule.{places_at};
+
 use scheduler::{AddError, Queue, Scheduler};
 use std::alloc::Allocator;
 
@@ -25,7 +30,10 @@ pub(crate) enum Answer {
 /// Makes the call.
 pub(crate) fn make<A: Allocator>(tasks: &mut Scheduler<u64, A>, call: Call) -> Answer {
     let number = match call {
-        Call::Tick(now) => return Answer::Moved(tasks.tick(now)),
+        Call::Tick(now) => {
+            let (moved, again) = tick_twice(tasks, now);
+            return Answer::Moved(moved + again);
+        }
         Call::Add(_, number, _) | Call::Next(number) => number,
     };
     let Some(queue) = Queue::new(number) else {
@@ -33,8 +41,27 @@ pub(crate) fn make<A: Allocator>(tasks: &mut Scheduler<u64, A>, call: Call) -> A
     };
     match call {
         Call::Add(deadline, _, value) => added(tasks.add(deadline, queue, value)),
-        _ => taken(tasks.next_task(queue)),
+        _ => taken(take_next(tasks, queue)),
     }
+}
+
+// Ticks, and once more at the same time. By the law there is a list for which the scheduler stands, so the second tick moves none.
+fn tick_twice<V, A: Allocator>(tasks: &mut Scheduler<V, A>, now: u64) -> (usize, usize)
+    ensures { result.1 ≡ 0 }
+{
+    tasks.stands_for_what_waits();
+    let moved = tasks.tick(now);
+    let again = tasks.tick(now);
+    (moved, again)
+}
+
+// Takes the next task of a queue out. By the law it stood there alone: it did not wait, and was in no other queue.
+fn take_next<V, A: Allocator>(tasks: &mut Scheduler<V, A>, queue: Queue) -> Option<(u64, V)>
+    ensures { (p : Place) (s : List Place) → places_at tasks.old queue ≡ p ∷ s
+        → IsAbsent p tasks.old.waiting_at × ((other : ℕ) → queue ≢ other → IsAbsent p (places_at tasks.old other)) }
+{
+    tasks.each_task_is_once();
+    tasks.next_task(queue)
 }
 
 fn added(given: Result<(), AddError<u64>>) -> Answer {
