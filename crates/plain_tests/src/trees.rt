@@ -4,6 +4,7 @@ ghost use Rattle.std.specs.Ordering.{nat_cmp};
 ghost use Rattle.ic_link_ops.specs.PlainTables.{table};
 ghost use Rattle.ic_link_ops.specs.RedBlackTree.{ShowsSome};
 ghost use Rattle.ic_link_ops.specs.Tables.{IsCovered};
+ghost use Rattle.ic_link_ops.specs.ThreeWords.{node_of};
 ghost use Rattle.ic_rbtree.specs.PlainTrees.{node_by, plain_table, PlainShowsSome};
 ghost use Rattle.ic_rbtree.specs.Tree.{root_of};
 ghost use Rattle.ic_plain.specs.SortedTrees.{IsInOrder};
@@ -11,7 +12,7 @@ ghost use Rattle.ic_plain.specs.SortedTrees.{IsInOrder};
 use crate::fixtures::{check, covering, index, index_of, unlinked};
 use ic_link_ops::rbtree::NarrowLinkOps;
 use ic_link_ops::{NodeWords, PlainTable};
-use ic_plain::example::{ByDeadline, Timer, first_from};
+use ic_plain::example::{ByDeadline, Timer, first_from, reschedule, schedule};
 use ic_plain::rbtree;
 use ic_rbtree::{KeyAdapter, LinkOps, RBTree};
 use ic_unsafe_ref::{Objects, Place, UnsafeRef};
@@ -51,6 +52,43 @@ fn add<W: NodeWords>(
     rbtree::insert(tree, links, objects, timer);
 }
 
+// Puts the timer at the place of this index into the tree, as a caller of timers does.
+fn schedule_at(
+    rt: &impl Abort,
+    tree: &mut RBTree<ByDeadline>,
+    links: &mut LinkOps,
+    objects: &Objects<Timer>,
+    index: usize,
+)
+    requires sorted { IsInOrder nat_cmp ⟦<ByDeadline as KeyAdapter>⟧.key_of node_of (plain_table links.old) tree.old objects.now }
+    ensures sorted { IsInOrder nat_cmp ⟦<ByDeadline as KeyAdapter>⟧.key_of node_of (plain_table links.new) tree.new objects.now }
+    ensures shown { PlainShowsSome links.new (root_of tree.new) }
+{
+    let timer = unlinked(rt, &*links, index);
+    assert!(rt; objects.is_placed(timer.place()));
+    schedule(tree, links, objects, timer);
+}
+
+// Puts the member at the place of this index behind those with its deadline, as a caller of timers does.
+fn reschedule_at(
+    rt: &impl Abort,
+    tree: &mut RBTree<ByDeadline>,
+    links: &mut LinkOps,
+    objects: &Objects<Timer>,
+    index: usize,
+)
+    requires shown { PlainShowsSome links.old (root_of tree.old) }
+    requires sorted { IsInOrder nat_cmp ⟦<ByDeadline as KeyAdapter>⟧.key_of node_of (plain_table links.old) tree.old objects.now }
+    ensures sorted { IsInOrder nat_cmp ⟦<ByDeadline as KeyAdapter>⟧.key_of node_of (plain_table links.new) tree.new objects.now }
+    ensures shown { PlainShowsSome links.new (root_of tree.new) }
+{
+    let place = Place::new(index).expect(rt, "the index of a place");
+    assert!(rt; place.index() < links.covers());
+    assert!(rt; tree.contains(&*links, place));
+    assert!(rt; objects.is_placed(place));
+    reschedule(tree, links, objects, &UnsafeRef::new(place));
+}
+
 // The indices of the places in front of a member's and behind it.
 fn beside(rt: &impl Abort, tree: &RBTree<ByDeadline>, links: &LinkOps, place: Place) -> [usize; 2]
     requires covered { IsCovered (plain_table links.now) place }
@@ -69,11 +107,12 @@ fn tree_in_order(rt: HostRuntime) {
     let mut links: LinkOps = covering(&rt, rt.alloc());
     let mut tree = rbtree::new(ByDeadline);
     check(&rt, rbtree::is_empty(&tree, &links));
-    // they stand as 1, 3, 2, 0
     add(&rt, &mut tree, &mut links, &objects, 0);
-    add(&rt, &mut tree, &mut links, &objects, 1);
-    add(&rt, &mut tree, &mut links, &objects, 2);
     add(&rt, &mut tree, &mut links, &objects, 3);
+    add(&rt, &mut tree, &mut links, &objects, 2);
+    schedule_at(&rt, &mut tree, &mut links, &objects, 1);
+    // they stand as 3, 1, 2, 0, and then as 1, 3, 2, 0
+    reschedule_at(&rt, &mut tree, &mut links, &objects, 3);
     let ends = [
         index(rbtree::first(&tree, &links)),
         index(rbtree::last(&tree, &links)),
