@@ -51,11 +51,12 @@ function keyed(ic) {
   const tree = new Tree(ic.links3(4), ic.keys(4)), table = new HashTable(ic.links1(4), 2, ic.keys(4));
   tree.insert(1);
   methods(tree, [["insert", "place"], ["insertUnique", "place"], ["insertBy", "place"], ["insertLeft", "at", "place"], ["insertRight", "at", "place"], ["remove", "at"], ["replace", "at", "place"],
-    ["next", "at"], ["prev", "at"], ["left", "at"], ["right", "at"], ["parent", "at"], ["isBlack", "at"]]);
+    ["split", "at"], ["next", "at"], ["prev", "at"], ["left", "at"], ["right", "at"], ["parent", "at"], ["isBlack", "at"]]);
   for (const search of ["find", "lowerBound", "upperBound"]) refuses("key", WRONG_WORDS, (key) => tree[search](key));
   refuses("hash", WRONG_WORDS, (hash) => table.insert(hash, 0));
   refuses("hash", WRONG_WORDS, (hash) => table.find(hash, 0));
   refuses("key", WRONG_WORDS, (key) => table.find(0, key));
+  refuses("place", WRONG, (place) => tree.join(place, new Tree(tree.links, tree.keys)));
   refuses("place", WRONG, (place) => table.insert(0, place));
   refuses("hash", WRONG_WORDS, (hash) => table.chain(hash));
   assert.equal(table.find(2 ** 64 - 2 ** 11, 2n ** 64n - 1n), null);

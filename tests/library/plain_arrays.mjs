@@ -99,6 +99,23 @@ function transferSome(list, plain) {
   assert.deepEqual([...list], plain);
 }
 
+/** A tree is cut at each place that may be a member, and is one tree again, with the member between both parts or with it in the second one. */
+function partAndJoin(made, plain, at) {
+  const name = made.constructor.name, index = plain.indexOf(at);
+  let rest = null;
+  compare(`${name}.split`, () => { rest = made.split(at); }, index < 0 ? REFUSED : null);
+  if (rest === null) return;
+  assert.deepEqual([[...made], [...rest], rest.keys], [plain.slice(0, index), plain.slice(index), made.keys]);
+  if (rest instanceof TreeWithEnds) assert.deepEqual([made.last, rest.first, rest.last], [orNull(plain[index - 1]), at, plain.at(-1)]);
+  const isJoined = random(2) === 0;
+  if (isJoined) rest.remove(at);
+  compare(`${name}.join`, () => made.join(at, rest), isJoined ? null : REFUSED);
+  compare(`${name}.append`, () => made.append(rest), null);
+  assert(rest.isEmpty);
+  assert.deepEqual([...made], plain);
+  rest.free();
+}
+
 function doubly(ic, turns) {
   const list = new List(ic.links2(PLACES)), plain = [], keys = ic.keys(PLACES), few = ic.keys(PLACES - 1), key = (place) => Number(keys.word(place));
   for (let place = 0; place < PLACES; place++) keys.words[place] = BigInt(random(8));
@@ -347,6 +364,7 @@ function sorted(ic, turns, Kind, more) {
   play(made, plain, turns, (turn) => {
     const place = random(PLACES), sought = random(12);
     if (!plain.includes(place)) keys.words[place] = BigInt(random(12));
+    if (turn % 20 === 0) partAndJoin(made, plain, place);
     const behind = plain.findIndex((it) => key(it) > key(place));
     assert.equal(made.prev(null), orNull(plain.at(-1)));
     return [
@@ -423,6 +441,11 @@ for (const module of modules) {
     assert.throws(() => list.spliceAfter(null, given), TypeError);
     assert.throws(() => list.merge(ic.keys(PLACES), given), TypeError);
     assert.throws(() => list.transferAfter(null, given, 0), TypeError);
+  }
+  const sorted = new Tree(ic.links3(PLACES));
+  for (const given of [sorted, new Tree(ic.links3(PLACES))]) {
+    assert.throws(() => sorted.append(given), TypeError);
+    assert.throws(() => sorted.join(0, given), TypeError);
   }
   for (const given of [ring, new Ring(ic.links2(PLACES), 0)]) assert.throws(() => ring.spliceBefore(0, given), TypeError);
   assert.throws(() => list.sort(links), TypeError);

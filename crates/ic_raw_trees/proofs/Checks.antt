@@ -1,11 +1,11 @@
 -- What the checks of the words say.
-use Rattle.std.proofs.Common.{◌≡◌, ℕ, Bool, true, false, not, is_some, IsTrue, MatchOption, Option, Some, None, List, ◌∷◌, ◌++◌, refl, sym, ◌∙◌, subst, true≢false}
+use Rattle.std.proofs.Common.{◌≡◌, ℕ, Bool, true, false, not, is_some, IsTrue, MatchOption, Option, Some, None, List, refl, sym, ◌∙◌, subst, true≢false}
 use Rattle.ic_unsafe_ref.specs.declared.place.Place.{Place}
 use Rattle.ic_link_ops.specs.Positions.{HasMember}
 use Rattle.ic_link_ops.specs.Sequences.{IsMember}
 use Rattle.ic_link_ops.specs.Tables.{Table}
 use Rattle.ic_link_ops.specs.Walk.{is_end}
-use Rattle.ic_link_ops.proofs.SequenceLemmas.{member_split, none_not}
+use Rattle.ic_link_ops.proofs.SequenceLemmas.{member_split}
 use Rattle.ic_link_ops.proofs.Walks.{is_end_no, is_end_yes}
 use Rattle.ic_check.specs.Checked.{IsShown, ShowsNone}
 use Rattle.ic_check.specs.Subtrees.{AreApart}
