@@ -1,8 +1,12 @@
 use Rattle.std.proofs.Common.{◌≡◌, ◌≢◌, true, ◌+◌, ◌-◌, ◌++◌, ◌∷◌, refl, sym, ap, ◌∙◌, subst, arith}
 use Rattle.ic_unsafe_ref.specs.declared.place.Place.{Place}
+use Rattle.ic_unsafe_ref.specs.Places.{index_of}
+use Rattle.ic_link_ops.specs.EntryLaws.{linked_in_range}
+use Rattle.ic_link_ops.specs.Widths.{HasRoom, nameable, nameable_has_room}
+use Rattle.ic_link_ops.proofs.Naming.{end_named}
 use Rattle.ic_link_ops.proofs.SequenceLemmas.{some_same}
 use Rattle.ic_raw.specs.Fills.{IsFreeRun}
-use Rattle.ic_raw.specs.Tables.{nameable_table}
+use Rattle.ic_raw.specs.Tables.{nameable_table, raw_entries}
 use Rattle.ic_raw.proofs.Gaps.{never}
 use Rattle.ic_raw.proofs.Lists.{inserted}
 use Rattle.ic_raw.proofs.Runs.{number_small, none_left, not_refused, run_behind, Fills, fills_none, fills_more, fills_all, LinksRun, links_none, links_more, touches_run, turns_run}
@@ -30,6 +34,14 @@ returns-in_default-clause-ends g c free some =
 pub returns-in_default-clause-touched : goal.returns-in_default-clause-touched
 returns-in_default-clause-touched g c outermost free =
     absurd (not_refused (c.loop-left.invariant.links free).0 (omega (arith, c.loop-left-test.true)) c.place_of.ensures c.acquire.ensures.accepted c.in_default.is)
+
+-- the place behind the gap is linked, so words have room for its name
+pub insert_linked-requires-clause-next : goal.insert_linked-requires-clause-next
+insert_linked-requires-clause-next g c =
+    let width = g.W.Words.width in
+    let words = raw_entries c.loop-left.links in
+    end_named (HasRoom width) c.args.gap.behind
+    (λ q e. nameable_has_room width words q (linked_in_range g.W.Words.is_linked g.W.Words.unlinked g.met.W.Words.starts_unlinked (nameable width words) (index_of q) (c.loop-left.invariant.behind q e)))
 
 pub overflow_add-number : goal.overflow_add-number
 overflow_add-number g c =
