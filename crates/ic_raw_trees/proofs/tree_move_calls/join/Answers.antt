@@ -3,8 +3,25 @@ use Rattle.ic_link_ops.specs.LinkSteps.{acquires}
 use Rattle.ic_link_ops.proofs.Calling.{accepted}
 use Rattle.ic_link_ops.proofs.SequenceLemmas.{some_same}
 use Rattle.ic_raw.specs.Tree.{word_of_root}
+use Rattle.ic_raw.proofs.Gaps.{never}
 use Rattle.ic_raw_trees.proofs.MarkedViews.{free_in, inserts_back, parts_back, parts_viewed, steps_back, unlinked_viewed}
 use Rattle.ic_raw_trees.proofs.tree_move_calls.join.Goals as goal
+
+pub returns-then-not-shows_both : goal.returns-then-not-shows_both
+returns-then-not-shows_both c = record {
+  joined = λ gap p at both free.
+      let parts = parts_viewed c.new-links.result (c.new-links.ensures.words ∙ c.place_fault-fault.ensures.kept) both in
+      absurd (never c.if-not-shows_both.true (c.shows_both.ensures.1 (gap, rw (c.tree_of-edited.ensures, c.tree_of-later.ensures) parts)));
+  shown = search rules;
+  free = search rules;
+  no_place = search rules;
+  emptied = search rules;
+  linked = search rules;
+  words = search rules;
+  refused = search rules;
+  why = search rules;
+  is_status = search rules;
+}
 
 pub returns : goal.returns
 returns c =

@@ -1,8 +1,9 @@
-use Rattle.std.proofs.Common.{◌≡◌, [], refl, sym, ap, ◌∙◌, rules}
+use Rattle.std.proofs.Common.{◌≡◌, [], is_some, refl, sym, ap, ◌∙◌, rules}
 use Rattle.ic_link_ops.proofs.SequenceLemmas.{some_same}
 use Rattle.ic_raw.proofs.Faults.{by_first}
+use Rattle.ic_raw.proofs.Gaps.{never}
 use Rattle.ic_raw.specs.Tree.{fault_at}
-use Rattle.ic_raw_trees.proofs.MarkedViews.{member_back, member_faultless, none_of, splits_back, steps_back, viewed}
+use Rattle.ic_raw_trees.proofs.MarkedViews.{member_back, member_faultless, member_viewed, none_of, splits_back, steps_back, viewed}
 use Rattle.ic_raw_trees.proofs.tree_move_calls.split.Goals as goal
 
 pub returns-then-fault-ne-OK : goal.returns-then-fault-ne-OK
@@ -20,6 +21,38 @@ returns-then-fault-ne-OK c = record {
   why = λ bad named.
       let at = sym c.place_of.ensures ∙ c.in-Some.is in
       by_first [] (c.member_fault-fault.ensures.fault ∙ ap (fault_at c.args.table.now) (sym at)) bad;
+  is_status = search rules;
+}
+
+pub returns-then-is_some : goal.returns-then-is_some
+returns-then-is_some c = record {
+  split = λ front back p at shown empty.
+      absurd (never (c.is_some.ensures ∙ ap is_some (c.root.ensures ∙ (c.tree_of.ensures ∙ empty))) c.if-is_some.true);
+  member = search rules;
+  null = search rules;
+  empty = search rules;
+  linked = search rules;
+  words = search rules;
+  rest_words = search rules;
+  refused = search rules;
+  why = search rules;
+  is_status = search rules;
+}
+
+pub returns-then-not-has_member : goal.returns-then-not-has_member
+returns-then-not-has_member c = record {
+  split = λ front back p at shown empty.
+      let one : p ≡ c.in-Some.member = some_same (sym at ∙ (sym c.place_of.ensures ∙ c.in-Some.is)) in
+      let has = member_viewed c.new-links.result (c.new-links.ensures.words ∙ c.member_fault-fault.ensures.kept) (record { front = front; back = back; shown = shown }) in
+      absurd (never c.if-not-has_member.true (c.has_member.ensures.1 (rw (c.tree_of-edited.ensures, ← one) has)));
+  member = search rules;
+  null = search rules;
+  empty = search rules;
+  linked = search rules;
+  words = search rules;
+  rest_words = search rules;
+  refused = search rules;
+  why = search rules;
   is_status = search rules;
 }
 
