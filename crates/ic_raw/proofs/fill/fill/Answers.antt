@@ -12,7 +12,7 @@ returns-then-fault-ne-OK-clause-filled g c law cut free shown is =
 
 pub returns-then-fault-ne-OK-clause-accepted : goal.returns-then-fault-ne-OK-clause-accepted
 returns-then-fault-ne-OK-clause-accepted g c free some =
-    let t = raw_table g.W.Words.unlinked c.args.links.now in
+    let t = nameable_table g.W.Words.width g.W.Words.unlinked c.args.links.now in
     absurd (c.if-fault-ne-OK.true (c.run_fault-fault.ensures.fault ∙ run_faultless g.W.Words.is_linked t c.args.first c.args.count free))
 
 pub returns-then-fault-ne-OK-clause-why : goal.returns-then-fault-ne-OK-clause-why
