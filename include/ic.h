@@ -164,6 +164,11 @@ struct ic_tree_ends {
     uint64_t first, last;
 };
 
+/* Each place of a tree with sums has such a pair beside its link. You write the value, and calls write the sum. */
+struct ic_sum {
+    uint64_t value, sum;
+};
+
 /* ---- Words -------------------------------------------------------------------------------------------------------------------- */
 
 /* Returns the word for a place, which is 8 * (place + 1), or 0 for IC_NONE. The first word of a link is 1 more if the place is linked, and
@@ -2012,6 +2017,71 @@ uint32_t ic_tree_ends_replace(struct ic_link3 *table, ic_length places, struct i
  * from it to a place that is not linked, or to it itself. */
 IC_NODISCARD
 uint32_t ic_tree_ends_pop_first(struct ic_link3 *table, ic_length places, struct ic_tree *tree, struct ic_tree_ends *ends, uint32_t *popped);
+
+/* to here */
+
+/* ---- Trees with sums ----
+ *
+ * An array of your own has a value and a sum for each place. You write the values. A sum is what the value of its place and those of all members
+ * below it make together: their sum, which is at most UINT64_MAX, or the greatest of them. If each value is 1, it is how many members these are.
+ *
+ *     struct ic_sum counts[100];                                             // with the value 1 at each place
+ *     status = ic_tree_sums_renew(links, 100, counts, 100, IC_SUM, IC_NONE); // after edits of the tree
+ *     status = ic_tree_sums_find(links, 100, counts, 100, IC_SUM, &tree, IC_NONE, 3, &found); // the member at position 3, from 0 on
+ *     status = ic_tree_sums_before(links, 100, counts, 100, IC_SUM, found, &position);        // which is 3
+ *
+ * An edit of the tree leaves the sums as they are. After edits call ic_tree_sums_renew with IC_NONE, which makes all of them right, and after you
+ * have changed the value of one member, with that member.
+ *
+ * If the values are the lengths of lines, ic_tree_sums_find finds the line at an offset, and ic_tree_sums_before tells where a line begins. With
+ * IC_GREATEST, ic_tree_sums_find finds the first member whose value is greater than a bound, say the first region that is long enough. If the keys are
+ * the starts of intervals, and the values their ends, ic_tree_sums_overlap finds each interval that overlaps another one, from the last one found on.
+ */
+
+/* What values make together. Any other number is as IC_GREATEST. */
+enum { IC_SUM = 0, IC_GREATEST = 1 };
+
+/* Returns what the values of all members of a tree make together, in O(1), if its sums are right. Returns 0 if the tree is empty. */
+static inline uint64_t ic_tree_sums_total(const struct ic_sum *sums, ic_length sum_count, const struct ic_tree *tree) {
+    uint32_t root = ic_tree_root(tree);
+    return root < ic_bound(sum_count) ? sums[root].sum : 0;
+}
+
+/* tools/c-calls --write writes from here: tree-sums */
+
+/* Makes the sums right again after the value of `at` has changed: its own sum, and those above it as far as they change, in O(log n). If
+ * `at` is IC_NONE, it makes all sums of the table right, of whichever trees it has, in O(p log p) for p places. It writes nothing else.
+ * IC_OUT_OF_RANGE: there are fewer sums than places, or the place `at` is not below `places`. IC_NOT_LINKED: the place `at` is not linked. */
+IC_NODISCARD
+uint32_t ic_tree_sums_renew(const struct ic_link3 *table, ic_length places, struct ic_sum *sums, ic_length sum_count, uint32_t kind,
+                            uint32_t at);
+
+/* Finds the first member after the member `at`, or the first of all if `at` is IC_NONE, at which what the values of the members after `at`
+ * up to it make together is greater than `bound`, and sets *found to it, in O(log n). It writes nothing else.
+ * IC_NULL: what the values of all members after `at` make together is not greater than `bound`. IC_OUT_OF_RANGE: there are fewer sums than
+ * places, or the place `at` is not below `places`. IC_NOT_LINKED: the place `at` is not linked. IC_BROKEN: the sums of the tree are not
+ * right, or the root does not belong to this table. */
+IC_NODISCARD
+uint32_t ic_tree_sums_find(const struct ic_link3 *table, ic_length places, const struct ic_sum *sums, ic_length sum_count, uint32_t kind,
+                           const struct ic_tree *tree, uint32_t at, uint64_t bound, uint32_t *found);
+
+/* Sets *sum to what the values of the members before the member `at` make together, in O(log n). It writes nothing else.
+ * IC_NULL: the place `at` is IC_NONE. IC_OUT_OF_RANGE: there are fewer sums than places, or the place `at` is not below `places`.
+ * IC_NOT_LINKED: the place `at` is not linked. IC_BROKEN: the links lead from `at` to no root. */
+IC_NODISCARD
+uint32_t ic_tree_sums_before(const struct ic_link3 *table, ic_length places, const struct ic_sum *sums, ic_length sum_count, uint32_t kind,
+                             uint32_t at, uint64_t *sum);
+
+/* Finds the first member after the member `at`, or the first of all if `at` is IC_NONE, whose interval overlaps the one from `from` on
+ * before `to`, and sets *found to it, in O(log n). The interval of a member is from its key on before its value. The sums are those of
+ * IC_GREATEST, and from one member to the next the keys must not fall. It writes nothing else.
+ * IC_NULL: no such interval overlaps it. IC_OUT_OF_RANGE: there are fewer keys than places, or there are fewer sums than places, or the
+ * place `at` is not below `places`. IC_NOT_LINKED: the place `at` is not linked. IC_BROKEN: the sums of the tree are not right, or the root
+ * does not belong to this table. */
+IC_NODISCARD
+uint32_t ic_tree_sums_overlap(const struct ic_link3 *table, ic_length places, const uint64_t *keys, ic_length key_count,
+                              const struct ic_sum *sums, ic_length sum_count, const struct ic_tree *tree, uint32_t at, uint64_t from,
+                              uint64_t to, uint32_t *found);
 
 /* to here */
 

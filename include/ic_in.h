@@ -1073,6 +1073,33 @@ static inline uint32_t ic_tree_in_ends_pop_first(struct ic_tree_in in, struct ic
     return ic_tree_ends_pop_first(in.table, in.places, in.tree, ends, popped);
 }
 
+static inline uint64_t ic_tree_in_sums_total(struct ic_tree_in in, const struct ic_sum *sums, ic_length sum_count) {
+    return ic_tree_sums_total(sums, sum_count, in.tree);
+}
+
+IC_NODISCARD
+static inline uint32_t ic_tree_in_sums_renew(struct ic_tree_in in, struct ic_sum *sums, ic_length sum_count, uint32_t kind, uint32_t at) {
+    return ic_tree_sums_renew(in.table, in.places, sums, sum_count, kind, at);
+}
+
+IC_NODISCARD
+static inline uint32_t ic_tree_in_sums_find(struct ic_tree_in in, const struct ic_sum *sums, ic_length sum_count, uint32_t kind, uint32_t
+                                            at, uint64_t bound, uint32_t *found) {
+    return ic_tree_sums_find(in.table, in.places, sums, sum_count, kind, in.tree, at, bound, found);
+}
+
+IC_NODISCARD
+static inline uint32_t ic_tree_in_sums_before(struct ic_tree_in in, const struct ic_sum *sums, ic_length sum_count, uint32_t kind, uint32_t
+                                              at, uint64_t *sum) {
+    return ic_tree_sums_before(in.table, in.places, sums, sum_count, kind, at, sum);
+}
+
+IC_NODISCARD
+static inline uint32_t ic_tree_in_sums_overlap(struct ic_tree_in in, const struct ic_sum *sums, ic_length sum_count, uint32_t at, uint64_t
+                                               from, uint64_t to, uint32_t *found) {
+    return ic_tree_sums_overlap(in.table, in.places, in.keys.keys, in.keys.count, sums, sum_count, in.tree, at, from, to, found);
+}
+
 #define IC_TREE_IN_FIND_BY(at, in, comparison) IC_TREE_FIND_BY(at, (in).table, (in).places, (in).tree, comparison)
 #define IC_TREE_IN_LOWER_BOUND_BY(at, in, comparison) IC_TREE_LOWER_BOUND_BY(at, (in).table, (in).places, (in).tree, comparison)
 #define IC_TREE_IN_UPPER_BOUND_BY(at, in, comparison) IC_TREE_UPPER_BOUND_BY(at, (in).table, (in).places, (in).tree, comparison)

@@ -8,7 +8,7 @@ from checks import ROOT
 
 CRATE = ROOT / "crates/ic_ffi"
 # The crates whose specs have the records that are contracts.
-HOMES = ("ic_raw", "ic_raw_lists", "ic_raw_keyed", "ic_raw_trees")
+HOMES = ("ic_raw", "ic_raw_lists", "ic_raw_keyed", "ic_raw_trees", "ic_raw_augmented")
 TABLE = CRATE / "calls.txt"
 HEADER = ROOT / "include/ic.h"
 CASES = ROOT / "tests/library/reads.txt"
@@ -41,7 +41,7 @@ STATUSES = ("NULL", "OUT_OF_RANGE", "LINKED", "NOT_LINKED", "BROKEN")
 RENAMED = {"behind": "after"}
 # What a fault of a contract's clause `why` may make of the status.
 FAULTS = {"fault_at": {"OUT_OF_RANGE", "NOT_LINKED"}, "fault_of": {"OUT_OF_RANGE", "LINKED"}, "run_faults": {"OUT_OF_RANGE", "LINKED"},
-          "keys_fault": {"OUT_OF_RANGE"}, "buckets_fault": {"OUT_OF_RANGE"}}
+          "keys_fault": {"OUT_OF_RANGE"}, "buckets_fault": {"OUT_OF_RANGE"}, "sums_fault": {"OUT_OF_RANGE"}}
 
 
 def argument(words):
@@ -192,7 +192,7 @@ def refusals(call, none, length):
     if names(call, "member", "ring"):
         when["NULL"].append(f"{some('member', 'ring')} is {none}")
     when["NULL"] += [call.null] * bool(call.null)
-    when["OUT_OF_RANGE"] += [f"there are fewer {name} than places" for name in ("keys", "hashes") if has(call, name)]
+    when["OUT_OF_RANGE"] += [f"there are fewer {name} than places" for name in ("keys", "hashes", "sums") if has(call, name)]
     when["OUT_OF_RANGE"] += ["there is no bucket"] * has(call, "buckets")
     if names(call, "new", "member", "ring", "gap"):
         most = f", or is {MOST:,} or more" * (call.family in WIDE)

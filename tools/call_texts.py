@@ -9,8 +9,8 @@ from call_table import OUT, has, refusals
 NUMBERS = {"u32": ("uint32_t", "u32"), "u64": ("uint64_t", "u64")}
 LENGTH = ("ic_length", "usize")
 STRUCTS = {"RawOne": "ic_link1", "RawTwo": "ic_link2", "RawNarrowTwo": "ic_link2_32", "RawThree": "ic_link3", "RawFront": "ic_stack", "RawEnds": "ic_list", "RawRoot": "ic_tree",
-           "RawTreeEnds": "ic_tree_ends"}
-COUNTS = {"table": "places", "keys": "key_count", "hashes": "hash_count", "buckets": "bucket_count"}
+           "RawTreeEnds": "ic_tree_ends", "RawSum": "ic_sum"}
+COUNTS = {"table": "places", "keys": "key_count", "hashes": "hash_count", "buckets": "bucket_count", "sums": "sum_count"}
 # The classes and types of the bindings, and how many words a link of each kind has.
 CLASSES = {"list": "List", "stack": "Stack", "xor": "XorList", "tree": "Tree", "ring": "Ring", "ring32": "Ring32", "hash": "HashTable"}
 LINKS = {"list": 2, "ring": 2, "ring32": "2x32", "stack": 1, "hash": 1, "xor": 1, "tree": 3}

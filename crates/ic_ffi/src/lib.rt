@@ -32,6 +32,7 @@ mod search_calls;
 mod sort_calls;
 mod stack_calls;
 mod stack_sort_calls;
+mod sum_calls;
 mod transfer_calls;
 mod tree_calls;
 mod tree_move_calls;
@@ -41,4 +42,5 @@ pub use ic_raw::{
     BROKEN, LINKED, NONE, NOT_LINKED, NULL, OK, OUT_OF_RANGE, RawEnds, RawFront, RawNarrowTwo,
     RawOne, RawRoot, RawThree, RawTwo,
 };
+pub use ic_raw_augmented::RawSum;
 pub use ic_raw_keyed::RawTreeEnds;

@@ -1,0 +1,113 @@
+-- A subtree of a shown tree: found by the sequence, read at its root, and left upward.
+use Rattle.std.proofs.Common.{◌≡◌, ◌≤◌, ◌<◌, ◌+◌, ℕ, suc, zero, true, Option, Some, None, List, [], ◌∷◌, ◌++◌, length, refl, sym, ap, ◌∙◌, subst, arith, append-nil}
+use Rattle.std.proofs.Math.Nat.{le-max_left, le-max_right}
+use Rattle.ic_unsafe_ref.specs.declared.place.Place.{Place}
+use Rattle.ic_link_ops.specs.declared.color.Color.{Color}
+use Rattle.ic_link_ops.specs.declared.side.Side.TheVariants.{Left, Right}
+use Rattle.ic_link_ops.specs.Frames.{Frame, frame, plug, above, before, after, IsAround}
+use Rattle.ic_link_ops.specs.RedBlackTree.{Node, IsTree, Shows}
+use Rattle.ic_link_ops.specs.Sequences.{IsMember}
+use Rattle.ic_link_ops.specs.Tables.{Table}
+use Rattle.ic_link_ops.specs.Times.{times, times_in}
+use Rattle.ic_link_ops.specs.Trees.{Tree, leaf, fork, top, in_order}
+use Rattle.ic_link_ops.proofs.Frames.{focus}
+use Rattle.ic_link_ops.proofs.SequenceLemmas.{none_not, some_same, member_split}
+use Rattle.ic_link_ops.proofs.ShownTrees.{holds_once}
+use Rattle.ic_link_ops.proofs.Times.{times_order}
+use Rattle.ic_link_ops.proofs.Walks.{few_places}
+use Rattle.ic_rbtree.specs.Closed.{IsNode}
+use Rattle.ic_rbtree.specs.Height.{height}
+use Rattle.ic_rbtree.proofs.Climbed.{path_few}
+use Rattle.ic_raw_augmented.specs.Subtrees.{IsSubtree}
+
+-- a way down is no longer than the tree is high
+pub no_longer : (fs : List Frame) (t : Tree) → length fs + height t ≤ height (plug fs t)
+no_longer [] t = omega arith
+no_longer (frame Left c p b ∷ fs) t = omega (arith, no_longer fs (fork c t p b), le-max_left (height t) (height b))
+no_longer (frame Right c p b ∷ fs) t = omega (arith, no_longer fs (fork c b p t), le-max_right (height b) (height t))
+
+-- nor is a subtree higher
+pub lower : (fs : List Frame) (t : Tree) → height t ≤ height (plug fs t)
+lower [] t = omega arith
+lower (frame Left c p b ∷ fs) t = omega (arith, lower fs (fork c t p b), le-max_left (height t) (height b))
+lower (frame Right c p b ∷ fs) t = omega (arith, lower fs (fork c b p t), le-max_right (height b) (height t))
+
+module _ {E : Type 0} (n : E → Node) where
+  -- the entries of a tree are those around a subtree and those of it
+  entries_below : (e : Place → E) (fs : List Frame) (t : Tree) → IsTree n e None (plug fs t) → IsAround n e fs (top t) × IsTree n e (above fs) t
+  entries_below e [] t h = (tt, h)
+  entries_below e (frame Left c p b ∷ fs) t h = let r = entries_below e fs (fork c t p b) h in ((r.1.0, r.1.2, r.0), r.1.1)
+  entries_below e (frame Right c p b ∷ fs) t h = let r = entries_below e fs (fork c b p t) h in ((r.1.0, r.1.1, r.0), r.1.2)
+
+  -- FROM THE SEQUENCE to the subtree at a member
+  pub record MemberSubtree (v : Table E) (tree : Tree) (front : List Place) (p : Place) (back : List Place) : Type 0 where
+    pub fs : List Frame
+    pub c : Color
+    pub a : Tree
+    pub b : Tree
+    pub same : plug fs (fork c a p b) ≡ tree
+    pub subtree : IsSubtree n v fs (fork c a p b)
+    pub front_is : before fs ++ in_order a ≡ front
+    pub back_is : in_order b ++ after fs ≡ back
+    pub low : length fs ≤ 66
+
+  pub record MemberAt (v : Table E) (s : List Place) (p : Place) : Type 0 where
+    pub fs : List Frame
+    pub c : Color
+    pub a : Tree
+    pub b : Tree
+    pub subtree : IsSubtree n v fs (fork c a p b)
+    pub entries : IsTree n v.entry None (plug fs (fork c a p b))
+    pub whole : (q : Place) → times q (plug fs (fork c a p b)) ≡ times_in q s
+
+  module _ (v : Table E) where
+    pub member_subtree : (root : Option Place) (front : List Place) (p : Place) (back : List Place) (h : Shows n v root (front ++ p ∷ back)) → MemberSubtree v h.tree front p back
+    member_subtree root front p back h =
+        let f = focus h.tree [] front p back h.held.order in
+        let t : Tree = fork f.1 f.2 p f.3 in
+        let entries = entries_below v.entry f.0 t (subst (λ (y : Tree). IsTree n v.entry None y) (sym f.4) h.held.entries) in
+        record {
+          fs = f.0;
+          c = f.1;
+          a = f.2;
+          b = f.3;
+          same = f.4;
+          subtree = record {
+            around = entries.0;
+            tree = entries.1;
+            once = λ q. subst (λ (y : Tree). times q y ≤ 1) (sym f.4) (holds_once h.held q);
+            low = path_few n h [] (plug f.0 t) (height (plug f.0 t)) f.4 (omega arith);
+            few = subst (λ (y : Tree). length (in_order y) ≤ 8589934591) (sym f.4) (subst (λ (y : List Place). length y ≤ 8589934591) (sym h.held.order) (few_places (front ++ p ∷ back) h.held.distinct));
+          };
+          front_is = f.5;
+          back_is = f.6 ∙ append-nil back;
+          low = path_few n h f.0 t (length f.0) f.4 (omega arith);
+        }
+
+    -- the subtree at a member, of the tree that stands around it
+    pub member_at : (root : Option Place) (s : List Place) (p : Place) → Shows n v root s → IsMember p s → MemberAt v s p
+    member_at root s p h m =
+        let cut = member_split p s m in
+        let k : Shows n v root (cut.0 ++ p ∷ cut.1) = subst (Shows n v root) cut.2 h in
+        let x = member_subtree root cut.0 p cut.1 k in
+        record {
+          fs = x.fs;
+          c = x.c;
+          a = x.a;
+          b = x.b;
+          subtree = x.subtree;
+          entries = subst (λ (t : Tree). IsTree n v.entry None t) (sym x.same) k.held.entries;
+          whole = λ q. ap (times q) x.same ∙ (sym (times_order q k.tree) ∙ (ap (times_in q) k.held.order ∙ ap (times_in q) (sym cut.2)));
+        }
+
+    -- its root has this parent
+    pub subtree_parent : (fs : List Frame) (t : Tree) (p : Place) → IsSubtree n v fs t → top t ≡ Some p → (n (v.entry p)).parent ≡ above fs
+    subtree_parent fs leaf p h e = absurd (none_not p e)
+    subtree_parent fs (fork c a q b) p h e = subst (λ (y : Place). (n (v.entry y)).parent ≡ above fs) (some_same e) h.tree.0.parent
+
+    -- UPWARD
+    pub subtree_left : (c : Color) (p : Place) (b : Tree) (fs : List Frame) (t : Tree) → IsSubtree n v (frame Left c p b ∷ fs) t → IsSubtree n v fs (fork c t p b)
+    subtree_left c p b fs t h = record { around = h.around.2; tree = (h.around.0, h.tree, h.around.1); once = h.once; low = h.low; few = h.few }
+
+    pub subtree_right : (c : Color) (p : Place) (b : Tree) (fs : List Frame) (t : Tree) → IsSubtree n v (frame Right c p b ∷ fs) t → IsSubtree n v fs (fork c b p t)
+    subtree_right c p b fs t h = record { around = h.around.2; tree = (h.around.0, h.around.1, h.tree); once = h.once; low = h.low; few = h.few }

@@ -1,0 +1,51 @@
+use Rattle.std.proofs.Common.{◌≡◌, ◌<◌, ◌≤◌, Option, Some, None, [], refl, sym, ap, ◌∙◌, subst, arith}
+use Rattle.std.proofs.lemmas.Bool.{ltb-true}
+use Rattle.ic_unsafe_ref.specs.declared.place.Place.{Place}
+use Rattle.ic_unsafe_ref.specs.Places.{index_of}
+use Rattle.ic_link_ops.proofs.SequenceLemmas.{none_not, some_same}
+use Rattle.ic_rbtree.proofs.Closed.{in_there}
+use Rattle.ic_raw.specs.Keys.{key_of}
+use Rattle.ic_raw.specs.Seen.{has_place}
+use Rattle.ic_raw.specs.Tree.{lent_table}
+use Rattle.ic_raw.proofs.Trees.{closed}
+use Rattle.ic_raw_augmented.specs.declared.sums.Kind.TheVariants.{Greatest}
+use Rattle.ic_raw_augmented.specs.Find.{IsFirstBeyond}
+use Rattle.ic_raw_augmented.specs.Sums.{value_at}
+use Rattle.ic_raw_augmented.proofs.Overlaps.{it_does_not, it_overlaps, none_overlaps}
+use Rattle.ic_raw_augmented.proofs.find.overlap.Goals as goal
+
+pub returns-in_default-clause-found : goal.returns-in_default-clause-found
+returns-in_default-clause-found c cut h at r sorted =
+    let f = c.find.ensures.found cut h at r in
+    let one : f.0 ≡ None = some_same (sym f.1 ∙ c.in_ok-position.was) ∙ c.in_default.is in
+    ap Some (none_overlaps (key_of c.args.starts.now) (value_at c.args.sums.now) c.args.from c.args.to cut.back
+    (subst (λ (o : Option Place). IsFirstBeyond Greatest (value_at c.args.sums.now) [] c.args.from cut.back o) one f.2))
+
+pub bounds-starts-index : goal.bounds-starts-index
+bounds-starts-index c =
+    let t = lent_table c.args.links.now in
+    let within = rw c.in_ok-position.was at (c.find.ensures.within (has_place t) (closed t c.args.root c.requires.root) c.requires.at) in
+    let inside = ltb-true (index_of c.in-Some.member) t.extent.places (in_there (has_place t) within c.in-Some.is) in
+    let enough = c.requires.starts in
+    let index = c.index.ensures.value in
+    omega (arith, inside, enough, index)
+
+pub returns-then-starts-index-clause-found : goal.returns-then-starts-index-clause-found
+returns-then-starts-index-clause-found c cut h at r sorted =
+    let f = c.find.ensures.found cut h at r in
+    let one : f.0 ≡ Some c.in-Some.member = some_same (sym f.1 ∙ c.in_ok-position.was) ∙ c.in-Some.is in
+    let less : key_of c.args.starts.now c.in-Some.member < c.args.to = rw (← c.index.ensures.value) c.if-starts-index.true in
+    ap Some (it_overlaps (key_of c.args.starts.now) (value_at c.args.sums.now) c.args.from c.args.to cut.back c.in-Some.member
+    (subst (λ (o : Option Place). IsFirstBeyond Greatest (value_at c.args.sums.now) [] c.args.from cut.back o) one f.2) less)
+
+pub returns-then-starts-index-clause-within : goal.returns-then-starts-index-clause-within
+returns-then-starts-index-clause-within c S closed i =
+    let within = rw c.in_ok-position.was at (c.find.ensures.within S closed i) in in_there S within c.in-Some.is
+
+pub returns-clause-found : goal.returns-clause-found
+returns-clause-found c cut h at r sorted =
+    let f = c.find.ensures.found cut h at r in
+    let one : f.0 ≡ Some c.in-Some.member = some_same (sym f.1 ∙ c.in_ok-position.was) ∙ c.in-Some.is in
+    let late : c.args.to ≤ key_of c.args.starts.now c.in-Some.member = rw (← c.index.ensures.value) c.if-starts-index.false in
+    ap Some (it_does_not (key_of c.args.starts.now) (value_at c.args.sums.now) c.args.from c.args.to cut.back c.in-Some.member
+    (subst (λ (o : Option Place). IsFirstBeyond Greatest (value_at c.args.sums.now) [] c.args.from cut.back o) one f.2) late sorted)

@@ -1,0 +1,20 @@
+use Rattle.std.proofs.Common.{◌≤◌, length, sym, subst, rules}
+use Rattle.ic_raw.specs.Words.{no_tree_words}
+use Rattle.ic_raw.proofs.Views.{viewed}
+use Rattle.ic_raw.proofs.Trees.{kept}
+use Rattle.ic_raw_augmented.proofs.Viewed.{summed_viewed}
+use Rattle.ic_raw_augmented.proofs.sum_calls.before.Goals as goal
+
+pub returns : goal.returns
+returns c = record {
+  told = λ root front back p at enough shown right.
+      let view = c.new-links.ensures.1 in
+      c.look_before.ensures.told root front back p at (subst (λ es. length es ≤ length c.args.sums.now) (sym view) enough) (viewed no_tree_words kept c.new-links.result view shown)
+      (summed_viewed c.args.kind c.new-links.result view right);
+  null = (c.look_before.ensures.null, c.look_before.ensures.none);
+  refused = search rules;
+  same = search rules;
+  looked = search rules;
+  why = search rules;
+  is_status = search rules;
+}

@@ -1,0 +1,22 @@
+use Rattle.std.proofs.Common.{[], ◌∷◌, ◌≤◌, length, sym, subst, rules}
+use Rattle.ic_raw.specs.Words.{no_tree_words, place_of}
+use Rattle.ic_raw.proofs.Views.{viewed}
+use Rattle.ic_raw.proofs.Trees.{kept}
+use Rattle.ic_raw.proofs.TreeSets.{reached_back}
+use Rattle.ic_raw_augmented.proofs.Viewed.{summed_viewed}
+use Rattle.ic_raw_augmented.proofs.sum_calls.find.Goals as goal
+
+pub returns : goal.returns
+returns c = record {
+  found = λ cut enough at shown right.
+      let view = c.new-links.ensures.1 in
+      c.look.ensures.found cut (subst (λ es. length es ≤ length c.args.sums.now) (sym view) enough) at (viewed no_tree_words kept c.new-links.result view shown)
+      (summed_viewed c.args.kind c.new-links.result view right);
+  reached = λ ok. reached_back c.new-links.result (place_of c.args.at ∷ []) _ c.new-links.ensures.1 (c.look.ensures.reached ok);
+  ended = c.look.ensures.ended;
+  refused = search rules;
+  same = search rules;
+  looked = search rules;
+  why = search rules;
+  is_status = search rules;
+}

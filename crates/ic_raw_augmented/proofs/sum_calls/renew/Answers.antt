@@ -1,0 +1,78 @@
+use Rattle.std.proofs.Common.{◌≡◌, ◌≤◌, true, false, cond, length, Option, Some, None, List, refl, sym, ap, ◌∙◌, subst, rules}
+use Rattle.ic_unsafe_ref.specs.declared.place.Place.{Place}
+use Rattle.ic_link_ops.proofs.SequenceLemmas.{none_not, some_same}
+use Rattle.ic_raw.specs.Gaps.{Stands}
+use Rattle.ic_raw.specs.Tree.{lent_table}
+use Rattle.ic_raw.specs.declared.words.RawThree.{RawThree}
+use Rattle.ic_raw.specs.Words.{is_linked_three, no_tree_words, place_of}
+use Rattle.ic_raw.proofs.Gaps.{never}
+use Rattle.ic_raw.proofs.Trees.{end_in, in_range, kept, seen_shows}
+use Rattle.ic_raw.proofs.Views.{viewed}
+use Rattle.ic_raw_augmented.proofs.Renewing.{also_off, near_all}
+use Rattle.ic_raw_augmented.specs.Sums.{is_there}
+use Rattle.ic_raw_augmented.proofs.Viewed.{beside_back, but_viewed, stands_viewed, summed_back}
+use Rattle.ic_raw_augmented.proofs.sum_calls.renew.Goals as goal
+
+pub returns-in_default : goal.returns-in_default
+returns-in_default c = record {
+  renewed = λ root s enough stands shown right.
+      let links = c.new-links.result in
+      let view = c.new-links.ensures.1 in
+      record {
+        accepted = refl;
+        done = summed_back c.args.kind links view (c.renew_all.ensures.right root s (seen_shows (lent_table links) (in_range links) (viewed no_tree_words kept links view shown)));
+      };
+  opened = λ enough stands. refl;
+  values = c.renew_all.ensures.kept;
+  beside = λ p at. absurd (none_not p (sym c.in_default.is ∙ (c.place_of-from.ensures ∙ at)));
+  refused = search rules;
+  same = search rules;
+  looked = search rules;
+  why = search rules;
+  is_status = search rules;
+}
+
+pub returns : goal.returns
+returns c = record {
+  renewed = λ root s enough stands shown right.
+      let links = c.new-links.result in
+      let view = c.new-links.ensures.1 in
+      let t = lent_table links in
+      let there = but_viewed c.args.kind links view (is_there (place_of c.args.at)) right in
+      let named : place_of c.args.at ≡ Some c.in-Some.member = sym c.place_of-from.ensures ∙ c.in-Some.is in
+      record {
+        accepted = refl;
+        done = summed_back c.args.kind links view (λ q m.
+            c.renew_up.ensures.right root s (λ z. false) (seen_shows t (in_range links) (viewed no_tree_words kept links view shown)) (near_all t c.in-Some.member)
+            (λ z n off. there z n (rw named (also_off (Some c.in-Some.member) (λ y. false) z off).0)) q m refl);
+      };
+  opened = λ enough stands. refl;
+  values = c.renew_up.ensures.kept;
+  beside = λ p at.
+      let one : p ≡ c.in-Some.member = some_same (sym at ∙ (sym c.place_of-from.ensures ∙ c.in-Some.is)) in
+      rw one (beside_back c.new-links.result c.new-links.ensures.1 c.renew_up.ensures.beside);
+  refused = search rules;
+  same = search rules;
+  looked = search rules;
+  why = search rules;
+  is_status = search rules;
+}
+
+pub returns-then-not-is_searchable : goal.returns-then-not-is_searchable
+returns-then-not-is_searchable c = record {
+  renewed = λ root s enough stands shown right.
+      absurd (never c.if-not-is_searchable.true (c.is_searchable.ensures.shown
+      (subst (λ (es : List RawThree). length es ≤ length c.args.sums.now) (sym c.new-links.ensures.1) enough)
+      (subst (λ (o : Option Place). Stands is_linked_three (lent_table c.new-links.result) o) (sym c.place_of-from.ensures) (stands_viewed c.new-links.result c.new-links.ensures.1 stands)) (λ q e. absurd (none_not q e))));
+  opened = λ enough stands.
+      absurd (never c.if-not-is_searchable.true (c.is_searchable.ensures.shown
+      (subst (λ (es : List RawThree). length es ≤ length c.args.sums.now) (sym c.new-links.ensures.1) enough)
+      (subst (λ (o : Option Place). Stands is_linked_three (lent_table c.new-links.result) o) (sym c.place_of-from.ensures) (stands_viewed c.new-links.result c.new-links.ensures.1 stands)) (λ q e. absurd (none_not q e))));
+  values = record { count = refl; values = λ q. refl };
+  beside = λ p at S closed here q off. refl;
+  refused = search rules;
+  same = search rules;
+  looked = search rules;
+  why = search rules;
+  is_status = search rules;
+}

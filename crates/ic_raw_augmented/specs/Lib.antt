@@ -1,0 +1,4 @@
+pub mod Find
+pub mod Subtrees
+pub mod SumCalls
+pub mod Sums

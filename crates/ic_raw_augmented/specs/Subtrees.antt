@@ -1,0 +1,18 @@
+-- A subtree of a shown tree, and what stands around it.
+use Rattle.std.specs.Prelude.{◌≤◌, List, length}
+use Rattle.ic_unsafe_ref.specs.declared.place.Place.{Place}
+use Rattle.ic_link_ops.specs.Frames.{Frame, plug, above, IsAround}
+use Rattle.ic_link_ops.specs.RedBlackTree.{Node, IsTree}
+use Rattle.ic_link_ops.specs.Tables.{Table}
+use Rattle.ic_link_ops.specs.Times.{times}
+use Rattle.ic_link_ops.specs.Trees.{Tree, top, in_order}
+use Rattle.ic_rbtree.specs.Height.{height}
+
+module _ {E : Type 0} (n : E → Node) where
+  -- THE SUBTREE t stands below these frames in a tree which has no place twice, is not high, and has no more members than there are places
+  pub record IsSubtree (v : Table E) (fs : List Frame) (t : Tree) : Type 0 where
+    pub around : IsAround n v.entry fs (top t)
+    pub tree : IsTree n v.entry (above fs) t
+    pub once : (q : Place) → times q (plug fs t) ≤ 1
+    pub low : height (plug fs t) ≤ 66
+    pub few : length (in_order (plug fs t)) ≤ 8589934591

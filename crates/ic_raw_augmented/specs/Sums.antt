@@ -1,0 +1,104 @@
+-- What the values of a tree's members make together, and the sums that a caller keeps beside the table.
+use Rattle.std.specs.Prelude.{◌≡◌, ◌+◌, ◌-◌, ◌^◌, ◌<◌, ◌||◌, ℕ, suc, Bool, true, false, cond, nat_eq, nat_lt, min, max, Option, Some, None, List, [], ◌∷◌, length, slice_index_or}
+use Rattle.ic_unsafe_ref.specs.declared.place.Place.{Place}
+use Rattle.ic_unsafe_ref.specs.Places.{index_of}
+use Rattle.ic_link_ops.specs.Sequences.{IsMember}
+use Rattle.ic_link_ops.specs.Tables.{Table}
+use Rattle.ic_link_ops.specs.Walk.{is_end}
+use Rattle.ic_link_ops.specs.Frames.{Frame}
+use Rattle.ic_link_ops.specs.Trees.{Tree, leaf, fork, top}
+use Rattle.ic_rbtree.specs.Closed.{IsClosed}
+use Rattle.ic_raw_augmented.specs.Subtrees.{IsSubtree}
+use Rattle.ic_raw.specs.declared.status.TheConstants.{OK, OUT_OF_RANGE}
+use Rattle.ic_raw.specs.declared.words.RawThree.{RawThree}
+use Rattle.ic_raw.specs.Seen.{seen, seen_node}
+use Rattle.ic_raw_augmented.specs.declared.sums.Kind.{Kind}
+use Rattle.ic_raw_augmented.specs.declared.sums.Kind.TheVariants.{Sum, Greatest}
+use Rattle.ic_raw_augmented.specs.declared.sums.RawSum.{RawSum}
+
+-- the kind with that number
+abbrev pub kind_of : ℕ → Kind
+kind_of number = cond (nat_eq number 0) Sum Greatest
+
+-- what two numbers make together: their sum, which stays at the greatest number that a word keeps, or the greater of them
+abbrev pub combined : Kind → ℕ → ℕ → ℕ
+combined Sum a b = min (a + b) (2 ^ 64 - 1)
+combined Greatest a b = max a b
+
+-- WHAT THE VALUES of s MAKE TOGETHER: 0 if there are none
+abbrev pub total : Kind → (value : Place → ℕ) → List Place → ℕ
+total kind value [] = 0
+total kind value (p ∷ s) = combined kind (value p) (total kind value s)
+
+-- what the caller keeps at a place, 0 beyond the last
+abbrev pub kept_at : List RawSum → Place → RawSum
+kept_at sums p = slice_index_or sums (index_of p) (record { value = 0; sum = 0 })
+
+abbrev pub value_at : List RawSum → Place → ℕ
+value_at sums p = (kept_at sums p).value
+
+abbrev pub sum_at : List RawSum → Place → ℕ
+sum_at sums p = (kept_at sums p).sum
+
+-- the sum at an end, 0 at none
+abbrev pub sum_below : List RawSum → Option Place → ℕ
+sum_below sums None = 0
+sum_below sums (Some p) = sum_at sums p
+
+-- what the value of p and the sums of its two children make together, as the words are read
+abbrev pub joined_at : Kind → Table RawThree → List RawSum → Place → ℕ
+joined_at kind t sums p =
+    combined kind (sum_below sums (seen_node ((seen t).entry p)).left)
+    (combined kind (value_at sums p) (sum_below sums (seen_node ((seen t).entry p)).right))
+
+-- THE SUM AT p IS RIGHT
+abbrev pub IsRightAt : Kind → Table RawThree → List RawSum → Place → Type 0
+IsRightAt kind t sums p = sum_at sums p ≡ joined_at kind t sums p
+
+-- THE SUMS ARE RIGHT at each member of s, so that at each stands what the values of its subtree make together
+abbrev pub IsSummed : Kind → Table RawThree → List RawSum → List Place → Type 0
+IsSummed kind t sums s = (q : Place) → IsMember q s → IsRightAt kind t sums q
+
+-- they are, but maybe where `but` is so
+abbrev pub IsSummedBut : Kind → Table RawThree → List RawSum → List Place → (but : Place → Bool) → Type 0
+IsSummedBut kind t sums s but = (q : Place) → IsMember q s → but q ≡ false → IsRightAt kind t sums q
+
+-- at this place, at none everywhere
+abbrev pub is_there : Option Place → Place → Bool
+is_there None q = true
+is_there (Some p) q = is_end (Some p) q
+
+-- ONLY SUMS ARE WRITTEN: there are as many, and each value stays
+pub record KeepsValues (old new : List RawSum) : Type 0 where
+  pub count : length new ≡ length old
+  pub values : (q : Place) → value_at new q ≡ value_at old q
+
+-- each sum beside these places stays: they are in each set out of which no link leads as the words are read, if this end is
+abbrev pub StaysBeside : Table RawThree → List RawSum → List RawSum → Place → Type 0
+StaysBeside t old new p = (S : Place → Bool) → IsClosed seen_node (seen t) None S → S p ≡ true → (q : Place) → S q ≡ false → sum_at new q ≡ sum_at old q
+
+-- THE FAULT OF SUMS: there are fewer of them than places
+abbrev pub sums_fault : (sums : List RawSum) → (places : ℕ) → ℕ
+sums_fault sums places = cond (nat_lt (length sums) places) OUT_OF_RANGE OK
+
+-- the sums are right at each member of a tree
+abbrev pub IsSummedTree : Kind → Table RawThree → List RawSum → Tree → Type 0
+IsSummedTree kind t sums leaf = Unit {0}
+IsSummedTree kind t sums (fork c a p b) = IsRightAt kind t sums p × IsSummedTree kind t sums a × IsSummedTree kind t sums b
+
+-- fewer members stand above the place than there are turns left, in whatever tree it stands
+abbrev pub IsNear : Table RawThree → (turns : ℕ) → Place → Type 0
+IsNear t turns p = (fs : List Frame) (u : Tree) → IsSubtree seen_node (seen t) fs u → top u ≡ Some p → length fs < turns
+
+-- whether `above` names p for a child, as the words are read
+abbrev pub is_child_of : Table RawThree → (above p : Place) → Bool
+is_child_of t above p = is_end (seen_node ((seen t).entry above)).left p || is_end (seen_node ((seen t).entry above)).right p
+
+-- whether the index of a place is at least that
+abbrev pub is_from : ℕ → Place → Bool
+is_from i q = nat_lt i (suc (index_of q))
+
+-- the root of the subtree that begins after a place: its right child, as the words are read, and from none the root of all
+abbrev pub next_end : Table RawThree → (root at : Option Place) → Option Place
+next_end t root None = root
+next_end t root (Some p) = (seen_node ((seen t).entry p)).right

@@ -1,0 +1,225 @@
+//! Searches of a tree by its sums, over a view of the table.
+//!
+//! ```text
+//! find(&links, sums, kind, root, None, bound) // the first member at which the values up to it make more than the bound
+//! sum_before(&links, sums, kind, member)      // what the values of the members before it make together
+//! ```
+
+ghost use Rattle.std.specs.Prelude.{◌≡◌, ◌≢◌, ◌≤◌, ◌<◌, ◌∷◌, ◌++◌, [], true, Bool, Option, Some, None, IfSome, List, length, map, filter};
+ghost use Rattle.std.specs.Ordering.{nat_cmp};
+ghost use Rattle.ic_unsafe_ref.specs.declared.place.Place.{Place};
+ghost use Rattle.ic_link_ops.specs.Frames.{Frame, plug, before, after};
+ghost use Rattle.ic_link_ops.specs.RedBlackTree.{IsTree};
+ghost use Rattle.ic_link_ops.specs.Sequences.{Cut, join, first, IsAfter};
+ghost use Rattle.ic_link_ops.specs.Tables.{Table};
+ghost use Rattle.ic_link_ops.specs.Trees.{Tree, top, in_order};
+ghost use Rattle.ic_rbtree.specs.Borders.{IsSorted};
+ghost use Rattle.ic_rbtree.specs.Closed.{IsClosed, IsIn};
+ghost use Rattle.ic_rbtree.specs.Height.{height};
+ghost use Rattle.ic_raw_augmented.specs.Subtrees.{IsSubtree};
+ghost use Rattle.ic_raw.specs.Keys.{key_of};
+ghost use Rattle.ic_raw.specs.Seen.{has_place, seen, seen_node};
+ghost use Rattle.ic_raw.specs.Tree.{lent_table};
+ghost use Rattle.ic_raw.specs.WholeTree.{IsSeen};
+ghost use Rattle.ic_raw_augmented.specs.declared.sums.Kind.TheVariants.{Greatest};
+ghost use Rattle.ic_raw_augmented.specs.Find.{IsFirstBeyond, overlaps};
+ghost use Rattle.ic_raw_augmented.specs.Sums.{IsSummed, IsSummedTree, next_end, sum_below, total, value_at};
+
+use crate::renew::TURNS;
+use crate::sums::{Kind, RawSum, sum_below, value_at};
+use ic_link_ops::Side;
+use ic_raw::{RawTable, RawThree};
+use ic_rbtree::Nodes;
+use ic_unsafe_ref::Place;
+
+// The first member of the subtree at a place at which the values up to it make more than the bound, where those before the subtree make `done`
+// together. It is `None` if the sums are wrong, or the way down is longer than that of any tree.
+fn first_below(
+    links: &RawTable<'_, RawThree>,
+    sums: &[RawSum],
+    kind: Kind,
+    place: Place,
+    done: u64,
+    bound: u64,
+    turns: u32,
+) -> Option<Place>
+    requires { has_place (lent_table links.now) place ≡ true }
+    ensures found { (up : Option Place) (t : Tree) (s : List Place) → IsTree seen_node (Table.entry (seen (lent_table links.now))) up t → top t ≡ Some place
+        → IsSummedTree kind (lent_table links.now) sums.now t → height t ≤ turns → done ≡ total kind (value_at sums.now) s
+        → done ≤ bound → bound < total kind (value_at sums.now) (s ++ in_order t)
+        → (m : Place) × (result ≡ Some m) × IsFirstBeyond kind (value_at sums.now) s bound (in_order t) (Some m) }
+    ensures within { (S : Place → Bool) → IsClosed seen_node (seen (lent_table links.now)) None S → S place ≡ true → IsIn S result }
+{
+    if turns == 0 {
+        return None;
+    }
+    let left = links.left(place);
+    let before_it = kind.combine(done, sum_below(sums, left));
+    if bound < before_it {
+        let next = left?;
+        return first_below(links, sums, kind, next, done, bound, turns - 1);
+    }
+    let with_it = kind.combine(before_it, value_at(sums, place));
+    if bound < with_it {
+        return Some(place);
+    }
+    let right = links.right(place)?;
+    first_below(links, sums, kind, right, with_it, bound, turns - 1)
+}
+
+// The same among the members after the subtree at a place, where the values between make `done` together, `Some(None)` if all make no more.
+fn first_above(
+    links: &RawTable<'_, RawThree>,
+    sums: &[RawSum],
+    kind: Kind,
+    place: Place,
+    done: u64,
+    bound: u64,
+    turns: u32,
+) -> Option<Option<Place>>
+    requires { has_place (lent_table links.now) place ≡ true }
+    ensures found { (fs : List Frame) (t : Tree) (s : List Place) → IsSubtree seen_node (seen (lent_table links.now)) fs t → top t ≡ Some place
+        → IsSummedTree kind (lent_table links.now) sums.now (plug fs t) → length fs < turns → done ≡ total kind (value_at sums.now) s → done ≤ bound
+        → (position : Option Place) × (result ≡ Some position) × IsFirstBeyond kind (value_at sums.now) s bound (after fs) position }
+    ensures within { (S : Place → Bool) → IsClosed seen_node (seen (lent_table links.now)) None S → S place ≡ true → IfSome result (λ position. IsIn S position) }
+{
+    if turns == 0 {
+        return None;
+    }
+    let Some(above) = links.parent(place) else {
+        return Some(None);
+    };
+    if links.is_child(place, above, Side::Right) {
+        return first_above(links, sums, kind, above, done, bound, turns - 1);
+    }
+    let with_it = kind.combine(done, value_at(sums, above));
+    if bound < with_it {
+        return Some(Some(above));
+    }
+    let right = links.right(above);
+    let with_right = kind.combine(with_it, sum_below(sums, right));
+    if bound < with_right {
+        let next = right?;
+        let member = first_below(links, sums, kind, next, with_it, bound, TURNS)?;
+        return Some(Some(member));
+    }
+    first_above(links, sums, kind, above, with_right, bound, turns - 1)
+}
+
+// The root of the subtree that begins after `at`: its right child, and from none the root of all.
+#[inline]
+fn next_end(
+    links: &RawTable<'_, RawThree>,
+    root: Option<Place>,
+    at: Option<Place>,
+) -> Option<Place>
+    requires { IsIn (has_place (lent_table links.now)) at }
+    ensures { result ≡ next_end (lent_table links.now) root at }
+{
+    match at {
+        None => root,
+        Some(place) => links.right(place),
+    }
+}
+
+// The first member after `at`, from none the first of all, at which the values of the members after `at` up to it make more than the bound,
+// `Some(None)` if all make no more. It is `None` if the words lead to no end.
+pub(crate) fn find(
+    links: &RawTable<'_, RawThree>,
+    sums: &[RawSum],
+    kind: Kind,
+    root: Option<Place>,
+    at: Option<Place>,
+    bound: u64,
+) -> Option<Option<Place>>
+    requires root { IsIn (has_place (lent_table links.now)) root }
+    requires at { IsIn (has_place (lent_table links.now)) at }
+    ensures found { (cut : Cut) → IsSeen (lent_table links.now) root (join cut) → IsAfter cut at → IsSummed kind (lent_table links.now) sums.now (join cut)
+        → (position : Option Place) × (result ≡ Some position) × IsFirstBeyond kind (value_at sums.now) [] bound cut.back position }
+    ensures ended { at ≡ None → result ≡ Some None → sum_below sums.now root ≤ bound }
+    ensures within { (S : Place → Bool) → IsClosed seen_node (seen (lent_table links.now)) root S → IsIn S at → IfSome result (λ position. IsIn S position) }
+{
+    let below = next_end(links, root, at);
+    let done = sum_below(sums, below);
+    if bound < done {
+        let next = below?;
+        let member = first_below(links, sums, kind, next, 0, bound, TURNS)?;
+        return Some(Some(member));
+    }
+    let Some(place) = at else {
+        return Some(None);
+    };
+    first_above(links, sums, kind, place, done, bound, TURNS)
+}
+
+// The first member after `at` whose interval overlaps `[from, to)`. The end of each interval is the value at its place.
+pub(crate) fn overlap(
+    links: &RawTable<'_, RawThree>,
+    sums: &[RawSum],
+    starts: &[u64],
+    root: Option<Place>,
+    at: Option<Place>,
+    from: u64,
+    to: u64,
+) -> Option<Option<Place>>
+    requires root { IsIn (has_place (lent_table links.now)) root }
+    requires at { IsIn (has_place (lent_table links.now)) at }
+    requires starts { (lent_table links.now).extent.places ≤ length starts.now }
+    ensures found { (cut : Cut) → IsSeen (lent_table links.now) root (join cut) → IsAfter cut at → IsSummed Greatest (lent_table links.now) sums.now (join cut)
+        → IsSorted nat_cmp (map (key_of starts.now) cut.back)
+        → result ≡ Some (first (filter (overlaps (key_of starts.now) (value_at sums.now) from to) cut.back)) }
+    ensures within { (S : Place → Bool) → IsClosed seen_node (seen (lent_table links.now)) root S → IsIn S at → IfSome result (λ position. IsIn S position) }
+{
+    let position = find(links, sums, Kind::Greatest, root, at, from)?;
+    let Some(member) = position else {
+        return Some(None);
+    };
+    if starts[member.index()] < to {
+        return Some(Some(member));
+    }
+    Some(None)
+}
+
+// What the values of the members before the subtree at a place make together, and after them `done`. It is `None` if the way up is longer than that
+// of any tree.
+fn sum_above(
+    links: &RawTable<'_, RawThree>,
+    sums: &[RawSum],
+    kind: Kind,
+    place: Place,
+    done: u64,
+    turns: u32,
+) -> Option<u64>
+    requires { has_place (lent_table links.now) place ≡ true }
+    ensures { (fs : List Frame) (t : Tree) (s : List Place) → IsSubtree seen_node (seen (lent_table links.now)) fs t → top t ≡ Some place
+        → IsSummedTree kind (lent_table links.now) sums.now (plug fs t) → length fs < turns → done ≡ total kind (value_at sums.now) s
+        → result ≡ Some (total kind (value_at sums.now) (before fs ++ s)) }
+{
+    if turns == 0 {
+        return None;
+    }
+    let Some(above) = links.parent(place) else {
+        return Some(done);
+    };
+    if !links.is_child(place, above, Side::Right) {
+        return sum_above(links, sums, kind, above, done, turns - 1);
+    }
+    let with_it = kind.combine(value_at(sums, above), done);
+    let with_left = kind.combine(sum_below(sums, links.left(above)), with_it);
+    sum_above(links, sums, kind, above, with_left, turns - 1)
+}
+
+// What the values of the members before this one make together. It is `None` if the words lead to no end.
+pub(crate) fn sum_before(
+    links: &RawTable<'_, RawThree>,
+    sums: &[RawSum],
+    kind: Kind,
+    member: Place,
+) -> Option<u64>
+    requires { has_place (lent_table links.now) member ≡ true }
+    ensures { (root : Option Place) (front back : List Place) → IsSeen (lent_table links.now) root (front ++ member ∷ back)
+        → IsSummed kind (lent_table links.now) sums.now (front ++ member ∷ back) → result ≡ Some (total kind (value_at sums.now) front) }
+{
+    let done = sum_below(sums, links.left(member));
+    sum_above(links, sums, kind, member, done, TURNS)
+}

@@ -1,0 +1,20 @@
+//! Calls for C of trees with sums: the member at a position and the position of a member, sums before a member, and intervals that overlap.
+//!
+//! ```text
+//! struct ic_sum counts[100] = {0};                                    // each value is 1
+//! find(table, sums, Kind::Sum, tree, NONE, 3, &mut found)             // OK: the member at position 3
+//! before(table, sums, Kind::Sum, 7, &mut position)                    // OK: how many members are before 7
+//! overlap(table, starts, sums, tree, NONE, 5, 8, &mut found)          // OK: the first interval that overlaps [5, 8)
+//! renew(table, sums, Kind::Sum, 7)                                    // OK: after the value of 7 was changed
+//! ```
+//!
+//! Nothing requires anything of its arguments. Each call returns a status as those of `ic_raw` do, and leaves all as it was if that is not
+//! `OK`.
+#![tactic(auto)]
+
+mod find;
+mod renew;
+pub mod sum_calls;
+mod sums;
+
+pub use sums::{Kind, RawSum};

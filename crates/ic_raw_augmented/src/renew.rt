@@ -1,0 +1,102 @@
+//! Sums that are joined anew, over a view of the table.
+//!
+//! ```text
+//! renew_up(&links, sums, kind, place, TURNS); // from a place up, as long as a sum changes
+//! renew_all(&links, sums, kind);              // from each place of the table
+//! ```
+
+ghost use Rattle.std.specs.Prelude.{◌≡◌, ◌≤◌, ◌+◌, Bool, true, Option, Some, List, length};
+ghost use Rattle.ic_unsafe_ref.specs.declared.place.Place.{Place};
+ghost use Rattle.ic_unsafe_ref.specs.Places.{index_of};
+ghost use Rattle.ic_raw.specs.Seen.{also, has_place};
+ghost use Rattle.ic_raw.specs.Tree.{lent_table};
+ghost use Rattle.ic_raw.specs.WholeTree.{IsSeen};
+ghost use Rattle.ic_raw_augmented.specs.Sums.{IsNear, IsSummed, IsSummedBut, KeepsValues, StaysBeside, is_child_of, is_from};
+
+use crate::sums::{Kind, RawSum, joined, set_sum, sum_below};
+use ic_link_ops::Side;
+use ic_raw::{RawTable, RawThree, place_in};
+use ic_rbtree::Nodes;
+use ic_unsafe_ref::Place;
+
+/// So many turns are enough for every climb and descent in a tree of the right shape.
+pub(crate) const TURNS: u32 = 67;
+
+// Whether `above` names the place for a child.
+#[inline]
+fn is_below(links: &RawTable<'_, RawThree>, place: Place, above: Place) -> bool
+    requires place { has_place (lent_table links.now) place ≡ true }
+    requires above { has_place (lent_table links.now) above ≡ true }
+    ensures { result ≡ is_child_of (lent_table links.now) above place }
+{
+    links.is_child(place, above, Side::Left) || links.is_child(place, above, Side::Right)
+}
+
+// Joins the sum at a place anew, and those above it as long as one changes. Of words that are no tree it may leave some that are wrong.
+pub(crate) fn renew_up(
+    links: &RawTable<'_, RawThree>,
+    sums: &mut [RawSum],
+    kind: Kind,
+    place: Place,
+    turns: u32,
+)
+    requires inside { has_place (lent_table links.now) place ≡ true }
+    requires enough { (lent_table links.now).extent.places ≤ length sums.old }
+    ensures right { (root : Option Place) (s : List Place) (but : Place → Bool) → IsSeen (lent_table links.now) root s → IsNear (lent_table links.now) turns place
+        → IsSummedBut kind (lent_table links.now) sums.old s (also (Some place) but) → IsSummedBut kind (lent_table links.now) sums.new s but }
+    ensures kept { KeepsValues sums.old sums.new }
+    ensures beside { StaysBeside (lent_table links.now) sums.old sums.new place }
+{
+    if turns == 0 {
+        return;
+    }
+    let sum = joined(links, &*sums, kind, place);
+    if sum_below(&*sums, Some(place)) == sum {
+        return;
+    }
+    set_sum(sums, place, sum);
+    let Some(above) = links.parent(place) else {
+        return;
+    };
+    if !is_below(links, place, above) {
+        return;
+    }
+    renew_up(links, sums, kind, above, turns - 1);
+}
+
+// Joins all sums of the table anew.
+pub(crate) fn renew_all(links: &RawTable<'_, RawThree>, sums: &mut [RawSum], kind: Kind)
+    requires enough { (lent_table links.now).extent.places ≤ length sums.old }
+    ensures right { (root : Option Place) (s : List Place) → IsSeen (lent_table links.now) root s → IsSummed kind (lent_table links.now) sums.new s }
+    ensures kept { KeepsValues sums.old sums.new }
+{
+    let mut index = 0;
+    while index < links.places() {
+        renew_index(links, sums, kind, index);
+        index += 1;
+    }
+}
+
+// The place with that index.
+#[inline]
+fn place_at(index: usize) -> Option<Place>
+    ensures { (q : Place) → index_of q ≡ index → result ≡ Some q }
+{
+    place_in((index as u64).wrapping_add(1).wrapping_mul(8))
+}
+
+// Joins the sums anew from the place with that index up.
+fn renew_index(links: &RawTable<'_, RawThree>, sums: &mut [RawSum], kind: Kind, index: usize)
+    requires enough { (lent_table links.now).extent.places ≤ length sums.old }
+    ensures right { (root : Option Place) (s : List Place) → IsSeen (lent_table links.now) root s
+        → IsSummedBut kind (lent_table links.now) sums.old s (is_from index) → IsSummedBut kind (lent_table links.now) sums.new s (is_from (index + 1)) }
+    ensures kept { KeepsValues sums.old sums.new }
+{
+    let Some(place) = place_at(index) else {
+        return;
+    };
+    if !links.covers(place) {
+        return;
+    }
+    renew_up(links, sums, kind, place, TURNS);
+}

@@ -1,0 +1,294 @@
+//! What the calls of trees with sums do, that read a tree, and that join its sums anew.
+//!
+//! ```text
+//! find(table, sums, Kind::Sum, tree, NONE, 3, &mut found)      // OK: the member at position 3, if each value is 1
+//! before(table, sums, Kind::Sum, 7, &mut position)             // OK: how many members are before 7
+//! overlap(table, starts, sums, tree, NONE, 5, 8, &mut found)   // OK: the first interval that overlaps [5, 8)
+//! ```
+
+ghost use Rattle.std.specs.Prelude.{◌≡◌, ◌≢◌, ◌⊎◌, ◌≤◌, ◌∷◌, ◌++◌, [], List, Option, Some, None, true, length, map, filter};
+ghost use Rattle.std.specs.Ordering.{nat_cmp};
+ghost use Rattle.ic_unsafe_ref.specs.declared.place.Place.{Place};
+ghost use Rattle.ic_link_ops.specs.Sequences.{Cut, join, first, IsAfter};
+ghost use Rattle.ic_rbtree.specs.Borders.{IsSorted};
+ghost use Rattle.ic_raw.specs.declared.status.TheConstants.{OK, NULL};
+ghost use Rattle.ic_raw.specs.Answers.{HandsOut, IsFound, IsAccepted, refusal};
+ghost use Rattle.ic_raw.specs.Gaps.{Stands};
+ghost use Rattle.ic_raw.specs.Keys.{key_of, keys_fault};
+ghost use Rattle.ic_raw.specs.Seen.{HandsOutReached};
+ghost use Rattle.ic_raw.specs.Tables.{member_fault};
+ghost use Rattle.ic_raw.specs.Tree.{Shows, lent_table, root_in};
+ghost use Rattle.ic_raw.specs.Words.{is_linked_three, place_of};
+ghost use Rattle.ic_raw_augmented.specs.declared.sums.Kind.TheVariants.{Greatest};
+ghost use Rattle.ic_raw_augmented.specs.Find.{IsFirstBeyond, overlaps};
+ghost use Rattle.ic_raw_augmented.specs.SumCalls.{BeforeCall, FindCall, OverlapCall, RenewCall};
+ghost use Rattle.ic_raw_augmented.specs.Sums.{IsSummed, sum_below, sums_fault, total, value_at};
+
+use crate::find as searches;
+use crate::renew::{TURNS, renew_all, renew_up};
+use crate::sums::{Kind, RawSum};
+use ic_raw::{NULL, OK, OUT_OF_RANGE, BROKEN, RawRoot, RawTable, RawThree, number_of, place_in, place_of};
+use ic_unsafe_ref::Place;
+
+// Whether there is a sum for each place, and both ends are none or linked.
+#[inline]
+fn is_searchable(
+    links: &RawTable<'_, RawThree>,
+    sums: &[RawSum],
+    root: Option<Place>,
+    at: Option<Place>,
+) -> bool
+    ensures enough { result ≡ true → (lent_table links.now).extent.places ≤ length sums.now }
+    ensures at { result ≡ true → Stands is_linked_three (lent_table links.now) at }
+    ensures root { result ≡ true → Stands is_linked_three (lent_table links.now) root }
+    ensures shown { (lent_table links.now).extent.places ≤ length sums.now → Stands is_linked_three (lent_table links.now) at
+        → Stands is_linked_three (lent_table links.now) root → result ≡ true }
+{
+    if sums.len() < links.places() {
+        return false;
+    }
+    links.stands(at) && links.stands(root)
+}
+
+// Why a tree is not searched: by the fault of the member or of the sums, or as [`BROKEN`].
+#[cold]
+#[inline(never)]
+fn refusal(links: &RawTable<'_, RawThree>, sums: &[RawSum], at: u32) -> u32
+    ensures refusal { result ≡ refusal (member_fault is_linked_three (lent_table links.now) (place_of at)
+        ∷ sums_fault sums.now (lent_table links.now).extent.places ∷ []) }
+    ensures refused { (result ≢ OK) × (result ≢ NULL) }
+{
+    let fault = links.member_fault(place_of(at));
+    if fault != OK {
+        return fault;
+    }
+    if sums.len() < links.places() {
+        return OUT_OF_RANGE;
+    }
+    BROKEN
+}
+
+// The same, if a start is missing for a place, by that fault.
+#[cold]
+#[inline(never)]
+fn refusal_of_starts(
+    links: &RawTable<'_, RawThree>,
+    starts: &[u64],
+    sums: &[RawSum],
+    at: u32,
+) -> u32
+    ensures refusal { result ≡ refusal (member_fault is_linked_three (lent_table links.now) (place_of at)
+        ∷ keys_fault starts.now (lent_table links.now).extent.places ∷ sums_fault sums.now (lent_table links.now).extent.places ∷ []) }
+    ensures refused { (result ≢ OK) × (result ≢ NULL) }
+{
+    let fault = links.member_fault(place_of(at));
+    if fault != OK {
+        return fault;
+    }
+    if starts.len() < links.places() {
+        return OUT_OF_RANGE;
+    }
+    if sums.len() < links.places() {
+        return OUT_OF_RANGE;
+    }
+    BROKEN
+}
+
+// Hands out the first member beyond a bound, of those after `at`.
+#[inline]
+fn look(
+    links: &RawTable<'_, RawThree>,
+    sums: &[RawSum],
+    kind: Kind,
+    tree: &RawRoot,
+    at: u32,
+    bound: u64,
+    found: &mut u32,
+) -> u32
+    ensures found { (cut : Cut) → (lent_table links.now).extent.places ≤ length sums.now → IsAfter cut (place_of at)
+        → Shows (lent_table links.now) (root_in tree.now) (join cut) → IsSummed kind (lent_table links.now) sums.now (join cut)
+        → HandsOut (IsFirstBeyond kind (value_at sums.now) [] bound cut.back) result found.new }
+    ensures reached { result ≡ OK → HandsOutReached (lent_table links.now) (root_in tree.now) (place_of at ∷ []) found.new }
+    ensures ended { place_of at ≡ None → result ≡ NULL → sum_below sums.now (root_in tree.now) ≤ bound }
+    ensures refused { result ≢ OK → found.new ≡ found.old }
+    ensures looked { (result ≡ OK) ⊎ (result ≡ NULL) → ((lent_table links.now).extent.places ≤ length sums.now)
+        × Stands is_linked_three (lent_table links.now) (place_of at) × Stands is_linked_three (lent_table links.now) (root_in tree.now) }
+    ensures why { result ≢ OK → result ≢ NULL → result ≡ refusal (member_fault is_linked_three (lent_table links.now) (place_of at)
+        ∷ sums_fault sums.now (lent_table links.now).extent.places ∷ []) }
+{
+    let root = place_in(tree.root);
+    let from = place_of(at);
+    if !is_searchable(links, sums, root, from) {
+        return refusal(links, sums, at);
+    }
+    let Some(position) = searches::find(links, sums, kind, root, from, bound) else {
+        return refusal(links, sums, at);
+    };
+    let Some(member) = position else {
+        return NULL;
+    };
+    if !links.is_linked(member) {
+        return refusal(links, sums, at);
+    }
+    *found = number_of(member);
+    OK
+}
+
+// Hands out the first interval that overlaps `[from, to)`, of those after `at`.
+#[inline]
+fn look_overlap(
+    links: &RawTable<'_, RawThree>,
+    starts: &[u64],
+    sums: &[RawSum],
+    tree: &RawRoot,
+    at: u32,
+    from: u64,
+    to: u64,
+    found: &mut u32,
+) -> u32
+    ensures found { (cut : Cut) → (lent_table links.now).extent.places ≤ length starts.now → (lent_table links.now).extent.places ≤ length sums.now
+        → IsAfter cut (place_of at) → Shows (lent_table links.now) (root_in tree.now) (join cut)
+        → IsSummed Greatest (lent_table links.now) sums.now (join cut) → IsSorted nat_cmp (map (key_of starts.now) cut.back)
+        → IsFound (first (filter (overlaps (key_of starts.now) (value_at sums.now) from to) cut.back)) result found.new }
+    ensures reached { result ≡ OK → HandsOutReached (lent_table links.now) (root_in tree.now) (place_of at ∷ []) found.new }
+    ensures refused { result ≢ OK → found.new ≡ found.old }
+    ensures looked { (result ≡ OK) ⊎ (result ≡ NULL) → ((lent_table links.now).extent.places ≤ length starts.now)
+        × ((lent_table links.now).extent.places ≤ length sums.now)
+        × Stands is_linked_three (lent_table links.now) (place_of at) × Stands is_linked_three (lent_table links.now) (root_in tree.now) }
+    ensures why { result ≢ OK → result ≢ NULL → result ≡ refusal (member_fault is_linked_three (lent_table links.now) (place_of at)
+        ∷ keys_fault starts.now (lent_table links.now).extent.places ∷ sums_fault sums.now (lent_table links.now).extent.places ∷ []) }
+{
+    let root = place_in(tree.root);
+    let after = place_of(at);
+    if starts.len() < links.places() {
+        return refusal_of_starts(links, starts, sums, at);
+    }
+    if !is_searchable(links, sums, root, after) {
+        return refusal_of_starts(links, starts, sums, at);
+    }
+    let Some(position) = searches::overlap(links, sums, starts, root, after, from, to) else {
+        return refusal_of_starts(links, starts, sums, at);
+    };
+    let Some(member) = position else {
+        return NULL;
+    };
+    if !links.is_linked(member) {
+        return refusal_of_starts(links, starts, sums, at);
+    }
+    *found = number_of(member);
+    OK
+}
+
+// Hands out what the values of the members before a place make together.
+#[inline]
+fn look_before(
+    links: &RawTable<'_, RawThree>,
+    sums: &[RawSum],
+    kind: Kind,
+    at: u32,
+    sum: &mut u64,
+) -> u32
+    ensures told { (root : Option Place) (front back : List Place) (p : Place) → place_of at ≡ Some p → (lent_table links.now).extent.places ≤ length sums.now
+        → Shows (lent_table links.now) root (front ++ p ∷ back) → IsSummed kind (lent_table links.now) sums.now (front ++ p ∷ back)
+        → IsAccepted result (sum.new ≡ total kind (value_at sums.now) front) }
+    ensures null { result ≡ NULL → place_of at ≡ None }
+    ensures none { place_of at ≡ None → result ≡ NULL }
+    ensures refused { result ≢ OK → sum.new ≡ sum.old }
+    ensures looked { result ≡ OK → ((lent_table links.now).extent.places ≤ length sums.now)
+        × Stands is_linked_three (lent_table links.now) (place_of at) }
+    ensures why { result ≢ OK → result ≢ NULL → result ≡ refusal (member_fault is_linked_three (lent_table links.now) (place_of at)
+        ∷ sums_fault sums.now (lent_table links.now).extent.places ∷ []) }
+{
+    let Some(member) = place_of(at) else {
+        return NULL;
+    };
+    if !is_searchable(links, sums, None, Some(member)) {
+        return refusal(links, sums, at);
+    }
+    let Some(all) = searches::sum_before(links, sums, kind, member) else {
+        return refusal(links, sums, at);
+    };
+    *sum = all;
+    OK
+}
+
+/// Hands out the first member after the member `at`, from [`NONE`](ic_raw::NONE) the first of all, at which what the values of the members after
+/// `at` up to it make together is greater than `bound`, or returns [`NULL`] if that of all is not. It writes nothing else. O(log n).
+///
+/// There has to be a sum for each place of the table. If the sums of the tree are not right, it may hand out another member, or return [`BROKEN`].
+#[inline]
+pub fn find(
+    table: &mut [RawThree],
+    sums: &[RawSum],
+    kind: Kind,
+    tree: &RawRoot,
+    at: u32,
+    bound: u64,
+    found: &mut u32,
+) -> u32
+    ensures { FindCall kind sums.now table.old table.new result tree.now (place_of at) bound found.old found.new }
+{
+    let links = RawTable::new(table);
+    look(&links, sums, kind, tree, at, bound, found)
+}
+
+/// Hands out what the values of the members before the member `at` make together, or returns [`NULL`] at [`NONE`](ic_raw::NONE). It writes nothing
+/// else. O(log n).
+///
+/// There has to be a sum for each place of the table. If the words lead from the member to no root, it returns [`BROKEN`].
+#[inline]
+pub fn before(
+    table: &mut [RawThree],
+    sums: &[RawSum],
+    kind: Kind,
+    at: u32,
+    sum: &mut u64,
+) -> u32
+    ensures { BeforeCall kind sums.now table.old table.new result (place_of at) sum.old sum.new }
+{
+    let links = RawTable::new(table);
+    look_before(&links, sums, kind, at, sum)
+}
+
+/// Hands out the first member after the member `at`, from [`NONE`](ic_raw::NONE) the first of all, whose interval overlaps `[from, to)`, or returns
+/// [`NULL`] if there is none. The interval starts at the start of its place and ends at its value, which it does not contain. It writes nothing else.
+/// O(log n).
+///
+/// There has to be a start and a sum for each place of the table. The sums are those of [`Kind::Greatest`], and from one member to the next the starts
+/// must not fall.
+#[inline]
+pub fn overlap(
+    table: &mut [RawThree],
+    starts: &[u64],
+    sums: &[RawSum],
+    tree: &RawRoot,
+    at: u32,
+    from: u64,
+    to: u64,
+    found: &mut u32,
+) -> u32
+    ensures { OverlapCall starts.now sums.now table.old table.new result tree.now (place_of at) from to found.old found.new }
+{
+    let links = RawTable::new(table);
+    look_overlap(&links, starts, sums, tree, at, from, to, found)
+}
+
+/// Joins the sum at the member `at` anew, and those above it as far as they change, at [`NONE`](ic_raw::NONE) all sums of the table. O(log n), at none
+/// O(p log p) for p places.
+///
+/// There has to be a sum for each place of the table.
+pub fn renew(table: &mut [RawThree], sums: &mut [RawSum], kind: Kind, at: u32) -> u32
+    ensures { RenewCall kind sums.old sums.new table.old table.new result (place_of at) }
+{
+    let links = RawTable::new(table);
+    let from = place_of(at);
+    if !is_searchable(&links, &*sums, None, from) {
+        return refusal(&links, &*sums, at);
+    }
+    let Some(member) = from else {
+        renew_all(&links, sums, kind);
+        return OK;
+    };
+    renew_up(&links, sums, kind, member, TURNS);
+    OK
+}
