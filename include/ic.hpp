@@ -1190,6 +1190,43 @@ public:
         return search(ic_tree_upper_bound, keys, key);
     }
 
+    /// The values and the sums of the places, and the same if the sums may be written.
+    using sums_view = array_view<const ic_sum>;
+    using writable_sums_view = array_view<ic_sum>;
+
+    /// Returns what the values of all members make together, in O(1), if the sums are right, and 0 if there is no member.
+    [[nodiscard]] std::uint64_t sums_total(sums_view sums) const noexcept { return ic_tree_sums_total(sums.data(), sums.size(), in_.head); }
+
+    /// Makes the sums right after the value of `at` has changed, in O(log n), or after any edits if no member is named, in O(p log p) for p places.
+    status sums_renew(writable_sums_view sums, std::uint32_t kind, std::uint32_t at = none) const noexcept {
+        return static_cast<status>(ic_tree_sums_renew(in_.table, in_.places, sums.data(), sums.size(), kind, at));
+    }
+
+    /// Returns the first member after `at`, or the first of all if no member is named, at which what the values of the members after `at` up to it
+    /// make together is greater than `bound`. It returns std::nullopt if there is none, or if the call is refused.
+    [[nodiscard]] std::optional<std::uint32_t> sums_find(sums_view sums, std::uint32_t kind, std::uint64_t bound, std::uint32_t at = none) const noexcept {
+        std::uint32_t member = none;
+        const std::uint32_t done = ic_tree_sums_find(in_.table, in_.places, sums.data(), sums.size(), kind, in_.head, at, bound, &member);
+        return done == IC_OK ? found(member) : std::nullopt;
+    }
+
+    /// Returns what the values of the members before the member `at` make together. It returns std::nullopt if the call is refused.
+    [[nodiscard]] std::optional<std::uint64_t> sums_before(sums_view sums, std::uint32_t kind, std::uint32_t at) const noexcept {
+        std::uint64_t sum = 0;
+        const std::uint32_t done = ic_tree_sums_before(in_.table, in_.places, sums.data(), sums.size(), kind, at, &sum);
+        return done == IC_OK ? std::optional<std::uint64_t>(sum) : std::nullopt;
+    }
+
+    /// Returns the first member after `at`, or the first of all if no member is named, whose interval overlaps the one from `from` on before `to`.
+    /// The intervals are from the keys on before the values. It returns std::nullopt if there is none, or if the call is refused.
+    [[nodiscard]] std::optional<std::uint32_t> sums_overlap(keys_view keys, sums_view sums, std::uint64_t from, std::uint64_t to,
+                                                            std::uint32_t at = none) const noexcept {
+        std::uint32_t member = none;
+        const std::uint32_t done =
+            ic_tree_sums_overlap(in_.table, in_.places, keys.data(), keys.size(), sums.data(), sums.size(), in_.head, at, from, to, &member);
+        return done == IC_OK ? found(member) : std::nullopt;
+    }
+
     /// Returns the members with this key, from the first to the one after the last.
     [[nodiscard]] std::pair<iterator, iterator> equal_range(keys_view keys, std::uint64_t key) const noexcept {
         return {iterator_to(lower_bound(keys, key).value_or(none)), iterator_to(upper_bound(keys, key).value_or(none))};

@@ -10,7 +10,7 @@ returns c = record {
   told = λ root front back p at enough shown right.
       let view = c.new-links.ensures.1 in
       c.look_before.ensures.told root front back p at (subst (λ es. length es ≤ length c.args.sums.now) (sym view) enough) (viewed no_tree_words kept c.new-links.result view shown)
-      (summed_viewed c.args.kind c.new-links.result view right);
+      (summed_viewed c.args.kind c.new-links.result c.args.sums.now _ view right);
   null = (c.look_before.ensures.null, c.look_before.ensures.none);
   refused = search rules;
   same = search rules;

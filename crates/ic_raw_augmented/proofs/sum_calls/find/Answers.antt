@@ -11,7 +11,7 @@ returns c = record {
   found = λ cut enough at shown right.
       let view = c.new-links.ensures.1 in
       c.look.ensures.found cut (subst (λ es. length es ≤ length c.args.sums.now) (sym view) enough) at (viewed no_tree_words kept c.new-links.result view shown)
-      (summed_viewed c.args.kind c.new-links.result view right);
+      (summed_viewed c.args.kind c.new-links.result c.args.sums.now _ view right);
   reached = λ ok. reached_back c.new-links.result (place_of c.args.at ∷ []) _ c.new-links.ensures.1 (c.look.ensures.reached ok);
   ended = c.look.ensures.ended;
   refused = search rules;

@@ -13,7 +13,7 @@ use Rattle.ic_raw.proofs.Gaps.{never}
 use Rattle.ic_raw.proofs.Trees.{beside_stands, end_in, in_range, root_stands, seen_shows}
 use Rattle.ic_raw_augmented.specs.Find.{IsFirstBeyond}
 use Rattle.ic_raw_augmented.specs.Sums.{sum_below, value_at}
-use Rattle.ic_raw_augmented.proofs.Viewed.{beyond_stands}
+use Rattle.ic_raw_augmented.proofs.Viewed.{beyond_linked}
 use Rattle.ic_raw_augmented.proofs.sum_calls.look.Goals as goal
 
 pub returns-then-not-is_searchable-clause-found : goal.returns-then-not-is_searchable-clause-found
@@ -42,7 +42,7 @@ returns-then-not-is_linked-clause-found c cut enough at shown right =
     let f = c.find.ensures.found cut (subst (λ (o : Option Place). IsSeen v o (join cut)) (sym c.place_in-root.ensures) (seen_shows v (in_range c.args.links.now) shown)) (c.place_of-from.ensures ∙ at) right in
     let one = some_same (sym f.1 ∙ c.in-Some.is) ∙ c.in-Some-position.is in
     let is = subst (λ (o : Option Place). IsFirstBeyond c.args.kind (value_at c.args.sums.now) [] c.args.bound cut.back o) one f.2 in
-    absurd (never (sym c.is_linked.ensures ∙ c.if-not-is_linked.true) (beyond_stands cut shown c.args.kind (value_at c.args.sums.now) [] c.args.bound (Some c.in-Some-position.member) is c.in-Some-position.member refl))
+    absurd (never (sym c.is_linked.ensures ∙ c.if-not-is_linked.true) (beyond_linked c.args.links.now _ cut shown c.args.kind (value_at c.args.sums.now) [] c.args.bound c.in-Some-position.member is))
 
 pub returns-clause-found : goal.returns-clause-found
 returns-clause-found c cut enough at shown right =

@@ -5,6 +5,7 @@ use Rattle.ic_link_ops.specs.Sequences.{join, first}
 use Rattle.ic_link_ops.specs.declared.side.Side.TheVariants.{Right}
 use Rattle.ic_link_ops.proofs.SequenceLemmas.{some_same}
 use Rattle.ic_rbtree.proofs.Closed.{in_there, read_in}
+use Rattle.ic_raw.specs.declared.status.TheConstants.{NULL, OK}
 use Rattle.ic_raw.specs.Answers.{IsFound}
 use Rattle.ic_raw.specs.Gaps.{Stands}
 use Rattle.ic_raw.specs.Keys.{key_of}
@@ -15,7 +16,7 @@ use Rattle.ic_raw.proofs.Gaps.{never}
 use Rattle.ic_raw.proofs.Trees.{beside_stands, end_in, in_range, root_stands, seen_shows}
 use Rattle.ic_raw_augmented.specs.Find.{overlaps}
 use Rattle.ic_raw_augmented.specs.Sums.{value_at}
-use Rattle.ic_raw_augmented.proofs.Viewed.{first_stands}
+use Rattle.ic_raw_augmented.proofs.Viewed.{first_linked}
 use Rattle.ic_raw_augmented.proofs.sum_calls.look_overlap.Goals as goal
 
 pub returns-then-not-is_searchable-clause-found : goal.returns-then-not-is_searchable-clause-found
@@ -35,7 +36,7 @@ pub returns-in_default-position-clause-found : goal.returns-in_default-position-
 returns-in_default-position-clause-found c cut starts enough at shown right sorted =
     let v = lent_table c.args.links.now in
     let f = c.overlap.ensures.found cut (subst (λ (o : Option Place). IsSeen v o (join cut)) (sym c.place_in-root.ensures) (seen_shows v (in_range c.args.links.now) shown)) (c.place_of-after.ensures ∙ at) right sorted in
-    subst (λ (o : Option Place). IsFound o _ _) (sym c.in_default-position.is ∙ some_same (sym c.in-Some.is ∙ f)) refl
+    subst (λ (o : Option Place). IsFound o NULL c.args.found.now) (sym c.in_default-position.is ∙ some_same (sym c.in-Some.is ∙ f)) refl
 
 pub returns-then-not-is_linked-clause-found : goal.returns-then-not-is_linked-clause-found
 returns-then-not-is_linked-clause-found c cut starts enough at shown right sorted =
@@ -43,14 +44,14 @@ returns-then-not-is_linked-clause-found c cut starts enough at shown right sorte
     let f = c.overlap.ensures.found cut (subst (λ (o : Option Place). IsSeen v o (join cut)) (sym c.place_in-root.ensures) (seen_shows v (in_range c.args.links.now) shown)) (c.place_of-after.ensures ∙ at) right sorted in
     let one = sym c.in-Some-position.is ∙ some_same (sym c.in-Some.is ∙ f) in
     absurd (never (sym c.is_linked.ensures ∙ c.if-not-is_linked.true)
-    (first_stands cut shown (overlaps (key_of c.args.starts.now) (value_at c.args.sums.now) c.args.from c.args.to) c.in-Some-position.member one c.in-Some-position.member refl))
+    (first_linked c.args.links.now _ cut shown (overlaps (key_of c.args.starts.now) (value_at c.args.sums.now) c.args.from c.args.to) c.in-Some-position.member one))
 
 pub returns-clause-found : goal.returns-clause-found
 returns-clause-found c cut starts enough at shown right sorted =
     let v = lent_table c.args.links.now in
     let f = c.overlap.ensures.found cut (subst (λ (o : Option Place). IsSeen v o (join cut)) (sym c.place_in-root.ensures) (seen_shows v (in_range c.args.links.now) shown)) (c.place_of-after.ensures ∙ at) right sorted in
     let one = sym c.in-Some-position.is ∙ some_same (sym c.in-Some.is ∙ f) in
-    subst (λ (o : Option Place). IsFound o _ _) one (record { accepted = refl; done = c.number_of.ensures })
+    subst (λ (o : Option Place). IsFound o OK c.number_of.result) one (record { accepted = refl; done = c.number_of.ensures })
 
 pub returns-clause-reached : goal.returns-clause-reached
 returns-clause-reached c ok = (

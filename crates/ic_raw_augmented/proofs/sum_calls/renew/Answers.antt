@@ -20,7 +20,7 @@ returns-in_default c = record {
       let view = c.new-links.ensures.1 in
       record {
         accepted = refl;
-        done = summed_back c.args.kind links view (c.renew_all.ensures.right root s (seen_shows (lent_table links) (in_range links) (viewed no_tree_words kept links view shown)));
+        done = summed_back c.args.kind links c.renew_all.new.sums s view (c.renew_all.ensures.right root s (seen_shows (lent_table links) (in_range links) (viewed no_tree_words kept links view shown)));
       };
   opened = λ enough stands. refl;
   values = c.renew_all.ensures.kept;
@@ -38,11 +38,11 @@ returns c = record {
       let links = c.new-links.result in
       let view = c.new-links.ensures.1 in
       let t = lent_table links in
-      let there = but_viewed c.args.kind links view (is_there (place_of c.args.at)) right in
+      let there = but_viewed c.args.kind links c.args.sums.now s (is_there (place_of c.args.at)) view right in
       let named : place_of c.args.at ≡ Some c.in-Some.member = sym c.place_of-from.ensures ∙ c.in-Some.is in
       record {
         accepted = refl;
-        done = summed_back c.args.kind links view (λ q m.
+        done = summed_back c.args.kind links c.renew_up.new.sums s view (λ q m.
             c.renew_up.ensures.right root s (λ z. false) (seen_shows t (in_range links) (viewed no_tree_words kept links view shown)) (near_all t c.in-Some.member)
             (λ z n off. there z n (rw named (also_off (Some c.in-Some.member) (λ y. false) z off).0)) q m refl);
       };
@@ -50,7 +50,7 @@ returns c = record {
   values = c.renew_up.ensures.kept;
   beside = λ p at.
       let one : p ≡ c.in-Some.member = some_same (sym at ∙ (sym c.place_of-from.ensures ∙ c.in-Some.is)) in
-      rw one (beside_back c.new-links.result c.new-links.ensures.1 c.renew_up.ensures.beside);
+      rw one (beside_back c.new-links.result c.args.sums.now c.renew_up.new.sums c.in-Some.member c.new-links.ensures.1 c.renew_up.ensures.beside);
   refused = search rules;
   same = search rules;
   looked = search rules;
@@ -63,11 +63,11 @@ returns-then-not-is_searchable c = record {
   renewed = λ root s enough stands shown right.
       absurd (never c.if-not-is_searchable.true (c.is_searchable.ensures.shown
       (subst (λ (es : List RawThree). length es ≤ length c.args.sums.now) (sym c.new-links.ensures.1) enough)
-      (subst (λ (o : Option Place). Stands is_linked_three (lent_table c.new-links.result) o) (sym c.place_of-from.ensures) (stands_viewed c.new-links.result c.new-links.ensures.1 stands)) (λ q e. absurd (none_not q e))));
+      (subst (λ (o : Option Place). Stands is_linked_three (lent_table c.new-links.result) o) (sym c.place_of-from.ensures) (stands_viewed c.new-links.result (place_of c.args.at) c.new-links.ensures.1 stands)) (λ q e. absurd (none_not q e))));
   opened = λ enough stands.
       absurd (never c.if-not-is_searchable.true (c.is_searchable.ensures.shown
       (subst (λ (es : List RawThree). length es ≤ length c.args.sums.now) (sym c.new-links.ensures.1) enough)
-      (subst (λ (o : Option Place). Stands is_linked_three (lent_table c.new-links.result) o) (sym c.place_of-from.ensures) (stands_viewed c.new-links.result c.new-links.ensures.1 stands)) (λ q e. absurd (none_not q e))));
+      (subst (λ (o : Option Place). Stands is_linked_three (lent_table c.new-links.result) o) (sym c.place_of-from.ensures) (stands_viewed c.new-links.result (place_of c.args.at) c.new-links.ensures.1 stands)) (λ q e. absurd (none_not q e))));
   values = record { count = refl; values = λ q. refl };
   beside = λ p at S closed here q off. refl;
   refused = search rules;
