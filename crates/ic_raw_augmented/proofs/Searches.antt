@@ -95,9 +95,9 @@ module _ (kind : Kind) (t : Table RawThree) (sums : List RawSum) where
         let none : in_order a ≡ [] = empty a (sym h.0.left ∙ (sym el ∙ is)) in
         let same : total kind value (s ++ in_order a) ≡ total kind value s = ap (total kind value) (ap (λ (y : List Place). s ++ y) none ∙ append-nil s) in
         absurd (omega (arith, split, same, ed, lo, more))) u e s h r low where
-      empty : (a : Tree) → top a ≡ None → in_order a ≡ []
-      empty leaf e = refl
-      empty (fork c x q y) e = absurd (none_not q (sym e))
+          empty : (a : Tree) → top a ≡ None → in_order a ≡ []
+          empty leaf e = refl
+          empty (fork c x q y) e = absurd (none_not q (sym e))
 
     pub below_here : before_it ≤ bound → bound < with_it → FindsBelow (Some p) done bound turns (Some p)
     below_here less more up u s h e r low = at_place up (Some p) (λ c a b s h r low ed lo hi.
@@ -197,7 +197,7 @@ module _ (kind : Kind) (t : Table RawThree) (sums : List RawSum) where
       above_right result side found fs u s k e =
           let x = on_right fs u k e side in
           subst (λ (gs : List Frame). FindsAt gs result) (sym x.is) (λ u s k e r less ed lo.
-              found x.gs (fork x.c x.b up u) s (subtree_right seen_node (seen t) x.c up x.b x.gs u k) refl r (omega (arith, less)) ed lo) u s k e
+          found x.gs (fork x.c x.b up u) s (subtree_right seen_node (seen t) x.c up x.b x.gs u k) refl r (omega (arith, less)) ed lo) u s k e
 
       from_left : (result : Option (Option Place)) → is_end (seen_node ((seen t).entry up)).right p ≡ false
           → ((c : Color) (b : Tree) (gs : List Frame) → FindsAt (frame Left c up b ∷ gs) result) → FindsAbove p done bound turns result
@@ -267,21 +267,21 @@ module _ (kind : Kind) (t : Table RawThree) (sums : List RawSum) where
       sums_left result side found fs u s k e =
           let x = on_left fs u k e side in
           subst (λ (gs : List Frame). SumsAt gs result) (sym x.is) (λ u s k e r less ed.
-              found x.gs (fork x.c u up x.b) s (subtree_left seen_node (seen t) x.c up x.b x.gs u k) refl r (omega (arith, less)) ed) u s k e
+          found x.gs (fork x.c u up x.b) s (subtree_left seen_node (seen t) x.c up x.b x.gs u k) refl r (omega (arith, less)) ed) u s k e
 
       pub sums_right : (left : Option Place) (result : Option ℕ) (with_it with_left : ℕ) → left ≡ (seen_node ((seen t).entry up)).left → with_it ≡ combined kind (value up) done
           → with_left ≡ combined kind (sum_below sums left) with_it → is_end (seen_node ((seen t).entry up)).right p ≡ true → SumsAbove up with_left (turns - 1) result → SumsAbove p done turns result
       sums_right left result with_it with_left el ei ej side found fs u s k e =
           let x = on_right fs u k e side in
           subst (λ (gs : List Frame). SumsAt gs result) (sym x.is) (λ u s k e r less ed.
-              let part = summed_part kind t sums x.gs (fork x.c x.b up u) r in
-              let below : sum_below sums left ≡ total kind value (in_order x.b) = ap (sum_below sums) (el ∙ k.around.0.left) ∙ sum_is kind t sums (Some up) x.b k.around.1 part.1 in
-              let all : with_left ≡ total kind value (in_order x.b ++ up ∷ s) =
-              ej ∙ (ap (combined kind (sum_below sums left)) ei ∙ ((λ i. combined kind (below i) (combined kind (value up) (ed i))) ∙ sym (total_append kind value (in_order x.b) (up ∷ s)))) in
-              let parts : (before x.gs ++ (in_order x.b ++ up ∷ [])) ++ s ≡ before x.gs ++ (in_order x.b ++ up ∷ s) =
-              append_assoc (before x.gs) (in_order x.b ++ up ∷ []) s ∙ ap (λ (y : List Place). before x.gs ++ y) (append_assoc (in_order x.b) (up ∷ []) s) in
-              found x.gs (fork x.c x.b up u) (in_order x.b ++ up ∷ s) (subtree_right seen_node (seen t) x.c up x.b x.gs u k) refl r (omega (arith, less)) all
-              ∙ ap (λ (y : List Place). Some (total kind value y)) (sym parts)) u s k e
+          let part = summed_part kind t sums x.gs (fork x.c x.b up u) r in
+          let below : sum_below sums left ≡ total kind value (in_order x.b) = ap (sum_below sums) (el ∙ k.around.0.left) ∙ sum_is kind t sums (Some up) x.b k.around.1 part.1 in
+          let all : with_left ≡ total kind value (in_order x.b ++ up ∷ s) =
+          ej ∙ (ap (combined kind (sum_below sums left)) ei ∙ ((λ i. combined kind (below i) (combined kind (value up) (ed i))) ∙ sym (total_append kind value (in_order x.b) (up ∷ s)))) in
+          let parts : (before x.gs ++ (in_order x.b ++ up ∷ [])) ++ s ≡ before x.gs ++ (in_order x.b ++ up ∷ s) =
+          append_assoc (before x.gs) (in_order x.b ++ up ∷ []) s ∙ ap (λ (y : List Place). before x.gs ++ y) (append_assoc (in_order x.b) (up ∷ []) s) in
+          found x.gs (fork x.c x.b up u) (in_order x.b ++ up ∷ s) (subtree_right seen_node (seen t) x.c up x.b x.gs u k) refl r (omega (arith, less)) all
+          ∙ ap (λ (y : List Place). Some (total kind value y)) (sym parts)) u s k e
 
   -- IN A WHOLE TREE
   module _ {root : Option Place} where

@@ -35,7 +35,7 @@ pub beside_back : (t : RawTable RawThree) {es : List RawThree} (old new : List R
     → StaysBeside (table_of es) old new p
 beside_back t old new p view h =
     let back : StaysBeside (table_of (raw_entries t)) old new p = λ S closed here q off.
-        h S (record { linked = closed.linked; left = closed.left; right = closed.right; parent = closed.parent; starts = tt }) here q off in
+    h S (record { linked = closed.linked; left = closed.left; right = closed.right; parent = closed.parent; starts = tt }) here q off in
     subst (λ (ws : List RawThree). StaysBeside (table_of ws) old new p) view back
 
 -- the first of those of which something is true is one of them

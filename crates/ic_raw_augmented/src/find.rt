@@ -108,11 +108,7 @@ fn first_above(
 
 // The root of the subtree that begins after `at`: its right child, and from none the root of all.
 #[inline]
-fn next_end(
-    links: &RawTable<'_, RawThree>,
-    root: Option<Place>,
-    at: Option<Place>,
-) -> Option<Place>
+fn next_end(links: &RawTable<'_, RawThree>, root: Option<Place>, at: Option<Place>) -> Option<Place>
     requires { IsIn (has_place (lent_table links.now)) at }
     ensures { result ≡ next_end (lent_table links.now) root at }
 {

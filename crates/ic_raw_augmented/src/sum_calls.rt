@@ -27,7 +27,9 @@ ghost use Rattle.ic_raw_augmented.specs.Sums.{IsSummed, sum_below, sums_fault, t
 use crate::find as searches;
 use crate::renew::{TURNS, renew_all, renew_up};
 use crate::sums::{Kind, RawSum};
-use ic_raw::{NULL, OK, OUT_OF_RANGE, BROKEN, RawRoot, RawTable, RawThree, number_of, place_in, place_of};
+use ic_raw::{
+    BROKEN, NULL, OK, OUT_OF_RANGE, RawRoot, RawTable, RawThree, number_of, place_in, place_of,
+};
 use ic_unsafe_ref::Place;
 
 // Whether there is a sum for each place, and both ends are none or linked.
@@ -237,13 +239,7 @@ pub fn find(
 ///
 /// There has to be a sum for each place of the table. If the words lead from the member to no root, it returns [`BROKEN`].
 #[inline]
-pub fn before(
-    table: &mut [RawThree],
-    sums: &[RawSum],
-    kind: Kind,
-    at: u32,
-    sum: &mut u64,
-) -> u32
+pub fn before(table: &mut [RawThree], sums: &[RawSum], kind: Kind, at: u32, sum: &mut u64) -> u32
     ensures { BeforeCall kind sums.now table.old table.new result (place_of at) sum.old sum.new }
 {
     let links = RawTable::new(table);

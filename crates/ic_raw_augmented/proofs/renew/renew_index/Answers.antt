@@ -18,13 +18,13 @@ returns-in_default-clause-right c root s shown right q m off =
 pub returns-then-not-covers-clause-right : goal.returns-then-not-covers-clause-right
 returns-then-not-covers-clause-right c root s shown right q m off =
     right q m (from_next c.args.index q off (λ e.
-        let one = some_same (sym (c.place_at.ensures q e) ∙ c.in-Some.is) in
-        let t = lent_table c.args.links.now in
-        let inside : index_of q < t.extent.places = ltb-true (index_of q) t.extent.places (holds_linked shown.held m) in
-        never c.if-not-covers.true (c.covers.ensures.1 (rw (← one) inside))))
+    let one = some_same (sym (c.place_at.ensures q e) ∙ c.in-Some.is) in
+    let t = lent_table c.args.links.now in
+    let inside : index_of q < t.extent.places = ltb-true (index_of q) t.extent.places (holds_linked shown.held m) in
+    never c.if-not-covers.true (c.covers.ensures.1 (rw (← one) inside))))
 
 pub returns-clause-right : goal.returns-clause-right
 returns-clause-right c root s shown right =
     c.renew_up.ensures.right root s (is_from (c.args.index + 1)) shown (near_all (lent_table c.args.links.now) c.in-Some.place) (λ q m off.
-        let beside = also_off (Some c.in-Some.place) (is_from (c.args.index + 1)) q off in
-        right q m (from_next c.args.index q beside.1 (λ e. is_end_no (Some c.in-Some.place) q beside.0 (sym c.in-Some.is ∙ c.place_at.ensures q e))))
+    let beside = also_off (Some c.in-Some.place) (is_from (c.args.index + 1)) q off in
+    right q m (from_next c.args.index q beside.1 (λ e. is_end_no (Some c.in-Some.place) q beside.0 (sym c.in-Some.is ∙ c.place_at.ensures q e))))

@@ -53,10 +53,10 @@ returns-clause-found c cut enough at shown right =
 
 pub returns-clause-reached : goal.returns-clause-reached
 returns-clause-reached c ok = (
-    c.in-Some-position.member,
-    sym c.is_linked.ensures ∙ c.if-not-is_linked.false,
-    c.number_of.ensures,
-    (λ S h ends.
-        let within = rw c.in-Some.is at (c.find.ensures.within S (rw c.place_in-root.ensures h) (read_in S ends.0 c.place_of-from.ensures)) in
-        in_there S within c.in-Some-position.is),
-  )
+  c.in-Some-position.member,
+  sym c.is_linked.ensures ∙ c.if-not-is_linked.false,
+  c.number_of.ensures,
+  (λ S h ends.
+      let within = rw c.in-Some.is at (c.find.ensures.within S (rw c.place_in-root.ensures h) (read_in S ends.0 c.place_of-from.ensures)) in
+      in_there S within c.in-Some-position.is),
+)

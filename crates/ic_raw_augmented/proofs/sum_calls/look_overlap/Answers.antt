@@ -55,10 +55,10 @@ returns-clause-found c cut starts enough at shown right sorted =
 
 pub returns-clause-reached : goal.returns-clause-reached
 returns-clause-reached c ok = (
-    c.in-Some-position.member,
-    sym c.is_linked.ensures ∙ c.if-not-is_linked.false,
-    c.number_of.ensures,
-    (λ S h ends.
-        let within = rw c.in-Some.is at (c.overlap.ensures.within S (rw c.place_in-root.ensures h) (read_in S ends.0 c.place_of-after.ensures)) in
-        in_there S within c.in-Some-position.is),
-  )
+  c.in-Some-position.member,
+  sym c.is_linked.ensures ∙ c.if-not-is_linked.false,
+  c.number_of.ensures,
+  (λ S h ends.
+      let within = rw c.in-Some.is at (c.overlap.ensures.within S (rw c.place_in-root.ensures h) (read_in S ends.0 c.place_of-after.ensures)) in
+      in_there S within c.in-Some-position.is),
+)
