@@ -1198,22 +1198,22 @@ public:
     [[nodiscard]] std::uint64_t sums_total(sums_view sums) const noexcept { return ic_tree_sums_total(sums.data(), sums.size(), in_.head); }
 
     /// Makes the sums right after the value of `at` has changed, in O(log n), or after any edits if no member is named, in O(p log p) for p places.
-    status sums_renew(writable_sums_view sums, std::uint32_t kind, std::uint32_t at = none) const noexcept {
-        return static_cast<status>(ic_tree_sums_renew(in_.table, in_.places, sums.data(), sums.size(), kind, at));
+    status sums_renew(writable_sums_view sums, std::uint32_t sum_kind, std::uint32_t at = none) const noexcept {
+        return static_cast<status>(ic_tree_sums_renew(in_.table, in_.places, sums.data(), sums.size(), sum_kind, at));
     }
 
     /// Returns the first member after `at`, or the first of all if no member is named, at which what the values of the members after `at` up to it
     /// make together is greater than `bound`. It returns std::nullopt if there is none, or if the call is refused.
-    [[nodiscard]] std::optional<std::uint32_t> sums_find(sums_view sums, std::uint32_t kind, std::uint64_t bound, std::uint32_t at = none) const noexcept {
+    [[nodiscard]] std::optional<std::uint32_t> sums_find(sums_view sums, std::uint32_t sum_kind, std::uint64_t bound, std::uint32_t at = none) const noexcept {
         std::uint32_t member = none;
-        const std::uint32_t done = ic_tree_sums_find(in_.table, in_.places, sums.data(), sums.size(), kind, in_.head, at, bound, &member);
+        const std::uint32_t done = ic_tree_sums_find(in_.table, in_.places, sums.data(), sums.size(), sum_kind, in_.head, at, bound, &member);
         return done == IC_OK ? found(member) : std::nullopt;
     }
 
     /// Returns what the values of the members before the member `at` make together. It returns std::nullopt if the call is refused.
-    [[nodiscard]] std::optional<std::uint64_t> sums_before(sums_view sums, std::uint32_t kind, std::uint32_t at) const noexcept {
+    [[nodiscard]] std::optional<std::uint64_t> sums_before(sums_view sums, std::uint32_t sum_kind, std::uint32_t at) const noexcept {
         std::uint64_t sum = 0;
-        const std::uint32_t done = ic_tree_sums_before(in_.table, in_.places, sums.data(), sums.size(), kind, at, &sum);
+        const std::uint32_t done = ic_tree_sums_before(in_.table, in_.places, sums.data(), sums.size(), sum_kind, at, &sum);
         return done == IC_OK ? std::optional<std::uint64_t>(sum) : std::nullopt;
     }
 
