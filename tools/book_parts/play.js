@@ -129,7 +129,7 @@ function drawTree(tree) {
 }
 
 // The rings of a table, and the places that were made heads. What ic.h makes of one call of the module is made so here.
-class Rings {
+class DrawnRings {
   constructor(links) {
     [this.links, this.heads] = [links, new Set()];
   }
@@ -238,7 +238,7 @@ function panel(name, title, links, calls, hints, draw, note = "") {
 const links = ic.links2(PLACES), list = new List(links);
 const ones = ic.links1(PLACES), xor = new XorList(ones);
 const nexts = ic.links1(PLACES), stack = new Stack(nexts);
-const pairs = ic.links2(PLACES), rings = new Rings(pairs);
+const pairs = ic.links2(PLACES), rings = new DrawnRings(pairs);
 const chains = ic.links1(PLACES), hash = new HashTable(chains, BUCKETS, ic.keys(PLACES));
 const nodes = ic.links3(PLACES), keys = ic.keys(PLACES), tree = new Tree(nodes, keys);
 const numbered = ["place", (it) => it];
