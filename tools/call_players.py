@@ -25,6 +25,11 @@ PRINTS = {None: "done", "popped": "member", "removed": "member", "found": "membe
 READ = re.compile(r"^static inline (?:int|uint32_t) (ic_\w+)\(const struct ic_link\d \*table, ic_length places((?:, uint32_t \w+)+)\)", re.M)
 
 
+def played():
+    """The calls that every language makes, over words of 8 bytes. Rings of 4-byte words are those of 8 over other links, and C and C++ alone have sums."""
+    return [call for call in call_table.rows()[0] if call.family in TABLES and not call.name.startswith("ic_tree_sums_")]
+
+
 def has_number(call):
     """Whether a line has the number of a list, a tree, a hash table or keys."""
     return call.family != "ring" or has(call, "keys")

@@ -28,8 +28,8 @@ static inline uint64_t calls_wanted(int count, char **words) {
     return count > 1 ? strtoull(words[1], NULL, 10) : 1000000;
 }
 
-/* Prints the name of a call, and how often it returned each status. */
-static inline void report(const char *name, const uint64_t *returned) {
+/* Prints the name of a call, and how often it returned each status, in counts that take half on a small board. */
+static inline void report(const char *name, const size_t *returned) {
     printf("%s", name);
     for (int status = 0; status < STATUSES; status++)
         printf(" %llu", (unsigned long long)returned[status]);

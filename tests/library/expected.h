@@ -9,7 +9,8 @@
 
 enum call { CALLS(NUMBER) COUNT };
 static const char *const names[] = {CALLS(NAME)};
-static uint64_t returned[COUNT][STATUSES], done;
+static size_t returned[COUNT][STATUSES];
+static uint64_t done;
 
 static enum call now;
 static uint32_t faults; /* a bit for each status that the call may return; none: it has to succeed */
