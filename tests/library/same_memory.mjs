@@ -10,7 +10,7 @@ const declared = [...file("include/ic.h").toString().matchAll(/^uint32_t (ic_\w+
   name,
   parameters: parameters.split(",").map((it) => it.trim()),
   statuses: [0, 0, 0, 0, 0, 0],
-}));
+})).filter(({ name }) => !/^ic_(ring32|tree_sums)_/.test(name)); // Rings of 4-byte words and sums have tables of their own.
 
 let state = 1n;
 function random(below) {
@@ -49,9 +49,7 @@ function prepare(turn) {
   }
 }
 
-// Rings of 4-byte words and sums have tables of their own, which no call of another kind takes.
-const isOfOneTable = ({ name }) => !/^ic_(ring32|tree_sums)_/.test(name);
-const KINDS = ["ic_list", "ic_ring", "ic_stack", "ic_hash", "ic_xor", "ic_tree"].map((kind) => declared.filter((it) => it.name.startsWith(kind) && isOfOneTable(it)));
+const KINDS = ["ic_list", "ic_ring", "ic_stack", "ic_hash", "ic_xor", "ic_tree"].map((kind) => declared.filter(({ name }) => name.startsWith(kind)));
 for (let turn = 0; turn < calls; turn++) {
   prepare(turn % 400);
   // A table is of one kind, so the calls of a round are of one kind.
